@@ -1,0 +1,50 @@
+// Runs of bytes between a slice and the places in memory that the paper names, and a run of zeros.
+ghost use mathlib.Core.Path.{_≡_};
+ghost use Prim.Native.Nat.{_+_, _*_, _<_, _≤_, _%_};
+ghost use lib.ListN.{length, replicate};
+ghost use lib.Seq.{sets};
+ghost use Rattle.lists.specs.Places.{gathered, place, placed};
+
+// Where the data byte of address a lies: with SWB the lowest bit is flipped.
+pub fn place_of(swb: bool, a: usize) -> usize
+    requires { ⌜ a < 18446744073709551615 ⌝ }
+    ensures { λ r. ⌜ r ≡ place swb a ⌝ }
+{
+    if swb { a + 1 - 2 * (a % 2) } else { a }
+}
+
+// All of d goes to the places from address a on. An even memory holds the flipped place of each address it holds.
+pub fn scatter(d: &[u8], mem: &mut [u8], a: usize, swb: bool)
+    requires { ⌜ (a + length (now d) ≤ length (now mem)) × (length (now mem) % 2 ≡ 0) ⌝ }
+    ensures { λ _. ⌜ now (mem .exit) ≡ placed swb (now (mem .entry)) a (now (d .entry)) ⌝ }
+{
+    let mut i: usize = 0;
+    while i < d.len() {
+        let at = place_of(swb, a + i);
+        mem[at] = d[i];
+        i += 1;
+    }
+}
+
+// The bytes at the places from address a on fill b.
+pub fn gather(b: &mut [u8], mem: &[u8], a: usize, swb: bool)
+    requires { ⌜ (a + length (now b) ≤ length (now mem)) × (length (now mem) % 2 ≡ 0) ⌝ }
+    ensures { λ _. ⌜ now (b .exit) ≡ gathered swb (now (mem .entry)) a (length (now (b .entry))) ⌝ }
+{
+    let mut i: usize = 0;
+    while i < b.len() {
+        let at = place_of(swb, a + i);
+        b[i] = mem[at];
+        i += 1;
+    }
+}
+
+pub fn zero_fill(b: &mut [u8])
+    ensures { λ _. ⌜ now (b .exit) ≡ replicate (length (now (b .entry))) 0 ⌝ }
+{
+    let mut i: usize = 0;
+    while i < b.len() {
+        b[i] = 0;
+        i += 1;
+    }
+}
