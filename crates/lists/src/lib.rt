@@ -6,6 +6,7 @@ pub use places::gather;
 pub use places::place_of;
 pub use places::scatter;
 pub use places::zero_fill;
+pub use words::least;
 pub use words::put_word;
 pub use words::wide;
 pub use words::word;

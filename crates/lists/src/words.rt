@@ -1,6 +1,6 @@
 // Little-endian words in a slice of bytes.
 ghost use mathlib.Core.Path.{_≡_};
-ghost use Prim.Native.Nat.{_+_, _*_, _<_, _≤_};
+ghost use Prim.Native.Nat.{_+_, _*_, _<_, _≤_, min};
 ghost use lib.ListN.{length, take};
 ghost use lib.Seq.{sets};
 ghost use Rattle.lists.specs.Words.{wordAt, wordBytes, wordSum};
@@ -11,6 +11,12 @@ pub fn wide(x: u8) -> usize
     ensures low { λ r. ⌜ r < 256 ⌝ }
 {
     x as usize
+}
+
+pub fn least(a: usize, b: usize) -> usize
+    ensures { λ r. ⌜ r ≡ min a b ⌝ }
+{
+    if a < b { a } else { b }
 }
 
 pub fn word(b: &[u8], at: usize) -> usize

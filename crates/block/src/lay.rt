@@ -1,0 +1,34 @@
+// Laying one block: its data bytes go from memory straight into their place.
+use lists::gather;
+use lists::put_word;
+use lists::word_sum;
+use lists::zero_fill;
+ghost use mathlib.Core.Path.{_≡_};
+ghost use Prim.Native.Nat.{_+_, _%_, _<_, _≤_};
+ghost use lib.ListN.{length};
+ghost use Rattle.lists.specs.Places.{gathered};
+ghost use Rattle.tape.specs.Layout.{blockOf, bodyOf};
+
+// The block of kind k, with n and i, whose data are the `used` bytes at the places from address a on.
+pub fn lay_block(
+    b: &mut [u8],
+    k: usize,
+    n: usize,
+    i: usize,
+    mem: &[u8],
+    a: usize,
+    used: usize,
+    swb: bool,
+)
+    requires { ⌜ (length (now b) ≡ 512) × (k < 65536) × (n < 65536) × (i < 65536) × (used ≤ 504) × (a + used ≤ length (now mem)) × (length (now mem) % 2 ≡ 0) ⌝ }
+    ensures { λ _. ⌜ now (b .exit) ≡ blockOf k n i (gathered swb (now (mem .entry)) a used) ⌝ }
+{
+    put_word(b, 0, k);
+    put_word(b, 2, n);
+    put_word(b, 4, i);
+    let pad = 6 + used;
+    gather(&mut b[6..pad], mem, a, swb);
+    zero_fill(&mut b[pad..510]);
+    let check = word_sum(b, 255) % 65535;
+    put_word(b, 510, check);
+}

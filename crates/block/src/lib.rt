@@ -1,0 +1,6 @@
+// One block of the reel: read as what it is, and laid.
+mod lay;
+mod read;
+
+pub use lay::lay_block;
+pub use read::read_block;

@@ -1,0 +1,110 @@
+// The block reader. Kind, length, index, padding and check are looked at in this order.
+use lists::wide;
+use lists::word;
+use lists::word_sum;
+use tape::Block;
+use tape::Geometry;
+ghost use mathlib.Core.Bool.{true};
+ghost use mathlib.Core.Path.{_≡_};
+ghost use Prim.Native.Nat.{_≤_};
+ghost use lib.ListN.{length};
+ghost use Rattle.tape.specs.Reading.{bodyRight, classAt, classOf, headRight, indexRight, kindOf, kindRight, lengthRight, usedOf};
+
+fn kind_right(k: usize) -> bool
+    ensures { λ r. ⌜ r ≡ kindRight k ⌝ }
+{
+    (1 <= k) & (k <= 3)
+}
+
+fn length_right(k: usize, n: usize) -> bool
+    ensures { λ r. ⌜ r ≡ lengthRight k n ⌝ }
+{
+    if k == 1 {
+        (1 <= n) & (n <= Geometry::RECORD_LIMIT)
+    } else {
+        n == 0
+    }
+}
+
+fn index_right(k: usize, n: usize, i: usize) -> bool
+    ensures { λ r. ⌜ r ≡ indexRight k n i ⌝ }
+{
+    if k == 1 { i < tape::pieces(n) } else { i == 0 }
+}
+
+fn head_right(k: usize, n: usize, i: usize) -> bool
+    ensures { λ r. ⌜ r ≡ headRight k n i ⌝ }
+{
+    kind_right(k) & (length_right(k, n) & index_right(k, n, i))
+}
+
+// How many data bytes the block uses.
+fn used_of(k: usize, n: usize, i: usize) -> usize
+    requires { ⌜ headRight k n i ≡ true ⌝ }
+    ensures is { λ r. ⌜ r ≡ usedOf k n i ⌝ }
+    ensures low { λ r. ⌜ r ≤ 504 ⌝ }
+{
+    if k == 1 {
+        let left = n - Geometry::DATA * i;
+        if left < Geometry::DATA {
+            left
+        } else {
+            Geometry::DATA
+        }
+    } else {
+        0
+    }
+}
+
+// Padding and check in one pass: the words in use are summed, then those that must be 0. An odd last data byte shares its word.
+fn body_right(b: &[u8], used: usize) -> bool
+    requires { ⌜ (length (now b) ≡ 512) × (used ≤ 504) ⌝ }
+    ensures { λ r. ⌜ r ≡ bodyRight (now (b .entry)) used ⌝ }
+{
+    let words = 3 + (used + 1) / 2;
+    let cut = 2 * words;
+    let head = word_sum(b, words);
+    let rest = word_sum(&b[cut..510], 255 - words);
+    let shared = (used % 2 == 0) | (wide(b[6 + used]) == 0);
+    (shared & (rest == 0)) & (word(b, 510) == (head + rest) % 65535)
+}
+
+fn kind_of(k: usize, n: usize, i: usize) -> Block
+    ensures { λ r. ⌜ r ≡ kindOf k n i ⌝ }
+{
+    if k == 1 {
+        return Block::Piece(n, i);
+    }
+    if k == 2 {
+        return Block::Mark;
+    }
+    Block::Gap
+}
+
+fn class_of(b: &[u8]) -> Block
+    requires { ⌜ length (now b) ≡ 512 ⌝ }
+    ensures { λ r. ⌜ r ≡ classOf (now (b .entry)) ⌝ }
+{
+    let k = word(b, 0);
+    let n = word(b, 2);
+    let i = word(b, 4);
+    if !head_right(k, n, i) {
+        return Block::Damaged;
+    }
+    if !body_right(b, used_of(k, n, i)) {
+        return Block::Damaged;
+    }
+    kind_of(k, n, i)
+}
+
+// Block k of a reel; one that the slice does not hold whole is damaged, so that every number is some answer.
+pub fn read_block(reel: &[u8], k: usize) -> Block
+    ensures { λ r. ⌜ r ≡ classAt (now (reel .entry)) k ⌝ }
+{
+    if reel.len() / Geometry::BLOCK <= k {
+        return Block::Damaged;
+    }
+    let at = Geometry::BLOCK * k;
+    let end = at + Geometry::BLOCK;
+    class_of(&reel[at..end])
+}

@@ -1,0 +1,1 @@
+-- Laws about what a reel is.

@@ -1,0 +1,9 @@
+-- What a reel is, apart from any code. Each file renders a sentence or two of document 01.
+pub mod Numbers
+pub mod Layout
+pub mod Objects
+pub mod Reading
+pub mod Pass
+pub mod Sweep
+pub mod Bytes
+pub mod Listing

@@ -1,0 +1,73 @@
+-- "A command reads each block of every object it passes, in the order met; the first at fault is named. A block that isn't the piece due,
+-- by kind, length or index, is out of place; a record is met at index 0, in reverse at its last. A record cut off by either end is out
+-- of place at the first of its blocks met." (01, under the refusals). `reverse` says which way.
+use mathlib.Core.Bool.{Bool, true, false, _&&_}
+use mathlib.Core.List.{List}
+use Prim.Native.Nat.{ℕ, suc, _+_, _-_}
+use lib.Dec.{eqb, leb}
+use Rattle.lists.specs.Pick.{pick}
+use Rattle.tape.specs.Numbers.{piecesOf}
+use Rattle.tape.specs.Reading.{classAt}
+use Rattle.tape.specs.declared.Block.{Block}
+use Rattle.tape.specs.declared.Block.the-variants as block
+use Rattle.tape.specs.declared.Met.{Met}
+use Rattle.tape.specs.declared.Met.the-variants as met
+
+-- how many blocks lie ahead of position p: up to the recorded end e, or down to block 0
+abbrev pub ahead : Bool → ℕ → ℕ → ℕ
+ahead reverse p e = pick reverse p (e - p)
+
+-- the first block met
+abbrev pub firstMet : Bool → ℕ → ℕ
+firstMet reverse p = pick reverse (p - 1) p
+
+-- the position beyond m blocks
+abbrev pub beyond : Bool → ℕ → ℕ → ℕ
+beyond reverse p m = pick reverse (p - m) (p + m)
+
+-- the lower bound of the m blocks met
+abbrev pub lowest : Bool → ℕ → ℕ → ℕ
+lowest reverse p m = pick reverse (p - m) p
+
+-- the piece met as number j of m, counted from 0
+abbrev pub orderMet : Bool → ℕ → ℕ → ℕ
+orderMet reverse m j = pick reverse (m - 1 - j) j
+
+-- is this block piece i of a record of n bytes?
+unfoldable pub isPiece : Block → ℕ → ℕ → Bool
+isPiece (block.Piece n′ i′) n i = eqb n′ n && eqb i′ i
+isPiece block.Mark n i = false
+isPiece block.Gap n i = false
+isPiece block.Damaged n i = false
+
+-- the next c pieces due of a record of n bytes in m blocks from block p on, j of them met: the first at fault, else what was met
+unfoldable pub piecesMet : List ℕ → Bool → ℕ → ℕ → ℕ → ℕ → ℕ → Met → Met
+piecesMet s reverse n p m j ℕ.zero whole = whole
+piecesMet s reverse n p m j (suc c) whole =
+    let rest = piecesMet s reverse n p m (suc j) c whole in
+    pick (isPiece (classAt s (p + orderMet reverse m j)) n (orderMet reverse m j)) rest (met.Bad (p + orderMet reverse m j))
+
+-- a record of n bytes, met at piece i
+unfoldable pub recordMet : List ℕ → Bool → ℕ → ℕ → ℕ → ℕ → Met
+recordMet s reverse p e n i =
+    pick (eqb i (orderMet reverse (piecesOf n) 0) && leb (piecesOf n) (ahead reverse p e))
+    (piecesMet s reverse n (lowest reverse p (piecesOf n)) (piecesOf n) 1 (piecesOf n - 1) (met.Record n (beyond reverse p (piecesOf n))))
+    (met.Bad (firstMet reverse p))
+
+unfoldable pub metBy : List ℕ → Bool → ℕ → ℕ → Block → Met
+metBy s reverse p e (block.Piece n i) = recordMet s reverse p e n i
+metBy s reverse p e block.Mark = met.Mark (beyond reverse p 1)
+metBy s reverse p e block.Gap = met.Gap (beyond reverse p 1)
+metBy s reverse p e block.Damaged = met.Bad (firstMet reverse p)
+
+-- what passing one object from position p meets, on the reel s recorded up to e
+unfoldable pub passed : List ℕ → Bool → ℕ → ℕ → Met
+passed s reverse p e = pick (eqb (ahead reverse p e) 0) met.Nothing (metBy s reverse p e (classAt s (firstMet reverse p)))
+
+-- the paper's numbers: refusal 7, and the block that it names
+unfoldable pub refusalOf : Met → ℕ
+refusalOf (met.Record n q) = 0
+refusalOf (met.Mark q) = 0
+refusalOf (met.Gap q) = 0
+refusalOf met.Nothing = 0
+refusalOf (met.Bad k) = 7

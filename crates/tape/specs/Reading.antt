@@ -1,0 +1,65 @@
+-- What one block is read as. Damaged is every block that is none of the three forms (DECISIONS, damage).
+use mathlib.Core.Bool.{Bool, true, false, _&&_}
+use mathlib.Core.List.{List, [], _∷_}
+use Prim.Native.Nat.{ℕ, _+_, _-_, _*_, _/_, min}
+use lib.Dec.{eqb, leb, ltb}
+use lib.ListN.{length, take, drop}
+use Rattle.lists.specs.Pick.{pick}
+use Rattle.lists.specs.Words.{wordAt}
+use Rattle.tape.specs.Numbers.{blockBytes, dataBytes, headBytes, piecesOf, recordLimit, summedBytes}
+use Rattle.tape.specs.Layout.{checkOf, pieceKind, markKind, gapKind}
+use Rattle.tape.specs.declared.Block.{Block}
+use Rattle.tape.specs.declared.Block.the-variants as block
+
+-- "Kinds: 1 record piece, 2 tape mark, 3 erased gap."
+abbrev pub kindRight : ℕ → Bool
+kindRight k = leb pieceKind k && leb k gapKind
+
+-- a record has 1 to recordLimit bytes; marks and gaps have 0 there
+abbrev pub lengthRight : ℕ → ℕ → Bool
+lengthRight k n = pick (eqb k pieceKind) (leb 1 n && leb n recordLimit) (eqb n 0)
+
+-- a record's indices run from 0; marks and gaps have 0 there
+abbrev pub indexRight : ℕ → ℕ → ℕ → Bool
+indexRight k n i = pick (eqb k pieceKind) (ltb i (piecesOf n)) (eqb i 0)
+
+-- the data bytes that piece i of n bytes uses; marks and gaps use none
+abbrev pub usedOf : ℕ → ℕ → ℕ → ℕ
+usedOf k n i = pick (eqb k pieceKind) (min dataBytes (n - dataBytes * i)) 0
+
+unfoldable pub zeros : List ℕ → Bool
+zeros [] = true
+zeros (a ∷ r) = eqb a 0 && zeros r
+
+-- "unused data bytes are 0"
+unfoldable pub paddingRight : List ℕ → ℕ → Bool
+paddingRight b used = zeros (drop (headBytes + used) (take summedBytes b))
+
+-- "a last word: the sum of the 255 words before it, modulo 65,535"
+unfoldable pub checkRight : List ℕ → Bool
+checkRight b = eqb (wordAt b summedBytes) (checkOf (take summedBytes b))
+
+-- what a block with these three words is, if all of it is right
+abbrev pub kindOf : ℕ → ℕ → ℕ → Block
+kindOf k n i = pick (eqb k pieceKind) (block.Piece n i) (pick (eqb k markKind) block.Mark block.Gap)
+
+-- kind, length, index, padding and check, in this order
+unfoldable pub headRight : ℕ → ℕ → ℕ → Bool
+headRight k n i = kindRight k && (lengthRight k n && indexRight k n i)
+
+unfoldable pub bodyRight : List ℕ → ℕ → Bool
+bodyRight b used = paddingRight b used && checkRight b
+
+unfoldable pub classBy : List ℕ → ℕ → ℕ → ℕ → Block
+classBy b k n i = pick (headRight k n i) (pick (bodyRight b (usedOf k n i)) (kindOf k n i) block.Damaged) block.Damaged
+
+unfoldable pub classOf : List ℕ → Block
+classOf b = classBy b (wordAt b 0) (wordAt b 2) (wordAt b 4)
+
+-- block k of the reel s
+abbrev pub blockAt : List ℕ → ℕ → List ℕ
+blockAt s k = take blockBytes (drop (blockBytes * k) s)
+
+-- a block that the slice does not hold whole is damaged: every number is some answer
+unfoldable pub classAt : List ℕ → ℕ → Block
+classAt s k = pick (ltb k (length s / blockBytes)) (classOf (blockAt s k)) block.Damaged

@@ -1,0 +1,31 @@
+-- "Mount reads every block below the end it is given" (01, Calls): object after object from block 0, the first fault named.
+use mathlib.Core.List.{List}
+use mathlib.Core.Bool.{Bool, false}
+use Prim.Native.Nat.{ℕ, suc}
+use Rattle.tape.specs.Pass.{passed}
+use Rattle.tape.specs.declared.Met.{Met}
+use Rattle.tape.specs.declared.Met.the-variants as met
+use Rattle.tape.specs.declared.Swept.{Swept}
+use Rattle.tape.specs.declared.Swept.the-variants as swept
+
+-- what one object says of the sweep; `onward` goes on from the position beyond it
+unfoldable pub sweptOn : Met → (ℕ → Swept) → Swept
+sweptOn (met.Record n q) onward = onward q
+sweptOn (met.Mark q) onward = onward q
+sweptOn (met.Gap q) onward = onward q
+sweptOn met.Nothing onward = swept.Whole
+sweptOn (met.Bad k) onward = swept.Bad k
+
+-- at most `turns` objects from position p on
+unfoldable pub sweptFrom : ℕ → List ℕ → ℕ → ℕ → Swept
+sweptFrom ℕ.zero s p e = swept.Whole
+sweptFrom (suc turns) s p e = sweptOn (passed s false p e) (λ q. sweptFrom turns s q e)
+
+-- each object takes a block or more, so e objects are enough (law `swept-whole`)
+unfoldable pub sweptBelow : List ℕ → ℕ → Swept
+sweptBelow s e = sweptFrom e s 0 e
+
+-- the paper's numbers
+unfoldable pub sweepRefusal : Swept → ℕ
+sweepRefusal swept.Whole = 0
+sweepRefusal (swept.Bad k) = 7

@@ -1,0 +1,76 @@
+// What a reel is: its geometry, and the answers that reading it can give. The meaning stands in specs/.
+ghost use mathlib.Core.Path.{_≡_};
+ghost use Rattle.tape.specs.Numbers.{eotMarker, piecesOf};
+
+// A reel of so many blocks, with the numbers that all reels share.
+pub struct Geometry {
+    pub capacity: usize,
+}
+
+impl Geometry {
+    pub const BLOCK: usize = 512;
+
+    pub const DATA: usize = 504;
+
+    pub const MARGIN: usize = 64;
+
+    pub const RECORD_LIMIT: usize = 16384;
+
+    pub const CAPACITY_LIMIT: usize = 65536;
+
+    // The block that the EOT marker stands at.
+    pub fn marker(self) -> usize
+        ensures { λ r. ⌜ r ≡ eotMarker (self .capacity) ⌝ }
+    {
+        if self.capacity < Geometry::MARGIN {
+            0
+        } else {
+            self.capacity - Geometry::MARGIN
+        }
+    }
+}
+
+// How many blocks a record of n bytes takes. A quotient first: no sum that could wrap.
+pub fn pieces(n: usize) -> usize
+    ensures { λ r. ⌜ r ≡ piecesOf n ⌝ }
+{
+    if n % Geometry::DATA == 0 {
+        n / Geometry::DATA
+    } else {
+        n / Geometry::DATA + 1
+    }
+}
+
+// What a single block is read as.
+pub enum Block {
+    // Piece i of a record of n bytes.
+    Piece(usize, usize),
+    Mark,
+    Gap,
+    Damaged,
+}
+
+// What a pass over one object meets, and the position just beyond it.
+pub enum Met {
+    Record(usize, usize),
+    Mark(usize),
+    Gap(usize),
+    // The recorded end, or block 0 in reverse.
+    Nothing,
+    // The first block at fault.
+    Bad(usize),
+}
+
+// What the mount's reading of every block below the end finds.
+pub enum Swept {
+    Whole,
+    Bad(usize),
+}
+
+// What the listing says of an image before any line: the paper's L, S and X, or the recorded end.
+pub enum Image {
+    TooLong,
+    NotWhole,
+    Bad(usize),
+    Whole(usize),
+}
