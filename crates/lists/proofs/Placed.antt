@@ -94,17 +94,16 @@ placed-other w m a j (b ∷ d) f =
     placed-other w (set m (place w a) b) (suc a) j d (λ i h e. f (suc i) (omega arith) (rw (add-suc a i, ← suc-add a i) e))
     ∙ getD-set-other m (place w a) j b 0 (λ e. f 0 (omega arith) (rw (add-zero a) e))
 
--- what went out comes back
+-- what went out comes back: the first byte is not written over, since no later one has its place
+placed-first : (w : Bool) (m : List ℕ) (a b : ℕ) (d : List ℕ) → place w a < length m → getD (placed w m a (b ∷ d)) (place w a) 0 ≡ b
+unfolding placed
+placed-first w m a b d h =
+    placed-other w (set m (place w a) b) (suc a) (place w a) d (λ i k e. omega (arith, place-apart w a (suc a + i) e))
+    ∙ getD-set-same m (place w a) b 0 h
+
 pub gathered-placed : (w : Bool) (m : List ℕ) (a : ℕ) (d : List ℕ) → a + length d ≤ length m → length m % 2 ≡ 0 → gathered w (placed w m a d) a (length d) ≡ d
 unfolding placed gathered
 gathered-placed w m a [] h e = refl
 gathered-placed w m a (b ∷ d) h e =
-    let n = set m (place w a) b in
-    let first : getD (placed w n (suc a) d) (place w a) 0 ≡ b =
-        placed-other w n (suc a) (place w a) d (λ i k q. omega (arith, place-apart w a (suc a + i) q))
-        ∙ getD-set-same m (place w a) b 0 (place-in w a (length m) (omega arith) e)
-        in
-    let rest : gathered w (placed w n (suc a) d) (suc a) (length d) ≡ d =
-        gathered-placed w n (suc a) d (rw length-set (omega arith)) (rw length-set e)
-        in
-    cc
+    let first : getD (placed w m a (b ∷ d)) (place w a) 0 ≡ b = placed-first w m a b d (place-in w a (length m) (omega arith) e) in
+    cc (gathered-placed w (set m (place w a) b) (suc a) d (rw length-set (omega arith)) (rw length-set e))

@@ -1,13 +1,12 @@
 -- Laws of `sets`, a run of stores: how two runs join, and what a run leaves as it was.
 use mathlib.Core.Path.{_≡_, refl, sym, ap, _∙_}
 use mathlib.Core.List.{List, [], _∷_, _++_, append-assoc, append-nil}
-use Prim.Native.Nat.{ℕ, zero, suc, _+_, _-_, _*_, _≤_, _<_}
-use native.Mathlib.Nat.{add-suc, suc-add, add-zero, zero-add}
-use native.Mathlib.Numerals.{add-one}
+use Prim.Native.Nat.{ℕ, zero, suc, _+_, _≤_, _<_}
+use native.Mathlib.Nat.{add-suc, suc-add, add-zero}
 use native.Mathlib.Omega.{arith}
 use borrow.Rule.Slice.PartMut.{putMid}
-use lib.ListN.{length, take, drop, getD, set, replicate, length-append, length-take, length-drop, length-replicate, length-set, replicate-append-replicate, drop-of-length-le, List·getD-append}
-use lib.Seq.{sets, sets-eq, length-sets, drop-drop, length-take-le, getD-set-other, getD-set-same, take-set-le, drop-set-lt, take-suc, drop-at, take-append-seam}
+use lib.ListN.{length, take, drop, getD, set, replicate, length-replicate, length-set, replicate-append-replicate, drop-of-length-le}
+use lib.Seq.{sets, sets-eq, drop-drop, length-take-le, getD-set-other, getD-set-same, take-set-le, drop-set-lt, drop-at, take-append-seam}
 
 -- two runs that meet are one run
 pub sets-more : (vs ws l : List ℕ) (i : ℕ) → sets (sets l i vs) (i + length vs) ws ≡ sets l i (vs ++ ws)
@@ -53,6 +52,6 @@ drop-sets [] l i n h = refl
 drop-sets (v ∷ vs) l i n h = drop-sets vs (set l i v) (suc i) n (omega arith) ∙ drop-set-lt n l i v (omega arith)
 
 pub sets-part : (vs l : List ℕ) (i : ℕ) → i + length vs ≤ length l → take (length vs) (drop i (sets l i vs)) ≡ vs
-sets-part vs l i h = 
-    rw (sets-eq vs l i h, append-assoc (take i l) vs (drop (i + length vs) l), drop-at (take i l) (vs ++ drop (i + length vs) l) i (length-take-le i l (omega arith)))
-    (take-append-seam vs (drop (i + length vs) l))
+sets-part vs l i h =
+    let e : length (take i l) ≡ i = length-take-le i l (omega arith) in
+    rw (sets-eq vs l i, append-assoc, drop-at) (take-append-seam vs (drop (i + length vs) l))

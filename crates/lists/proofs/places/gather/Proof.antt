@@ -1,3 +1,4 @@
+-- `gather` meets its contract. So far the first i bytes of b are what lies at the first i places.
 use borrow.Author.Needs.{needs}
 use native.Mathlib.Omega.{arith}
 use mathlib.Core.Path.{_≡_, _∙_}
@@ -9,9 +10,6 @@ use Rattle.lists.proofs.Placed.{gather-more, length-gathered, place-in}
 use Rattle.lists.proofs.Stores.{sets-whole}
 use Rattle.lists.proofs.places.gather.Statement.{statement}
 use Rattle.lists.proofs.places.gather.Tie as tie
-use Rattle.lists.proofs.places.gather.Reads as reads
-use Rattle.lists.proofs.places.gather.Lts as lts
-use Rattle.lists.proofs.places.place_of.Reads as place-of-reads
 
 abbrev Inv-loop : tie.InvT-loop
 Inv-loop b₀ mem a swb i₀ b i = (i ≤ length b₀) × (b ≡ sets b₀ 0 (gathered swb mem a i)) × (length b ≡ length b₀)
@@ -19,50 +17,40 @@ Inv-loop b₀ mem a swb i₀ b i = (i ≤ length b₀) × (b ≡ sets b₀ 0 (ga
 abbrev μ-loop : tie.MeasureT-loop
 μ-loop b₀ mem a swb i₀ b i = length b₀ - i
 
--- src/places.rt:35:5
 loop-holds : tie.Need-loop-holds Inv-loop μ-loop
 unfolding gathered
 loop-holds c = search needs
 
--- src/places.rt:36:32
 add-place-of : tie.Need-add-place-of Inv-loop μ-loop
 add-place-of c = search needs
 
--- src/places.rt:36:13
 place-of-requires : tie.Need-place-of-requires Inv-loop μ-loop
 place-of-requires c κs = search needs
 
--- src/places.rt:37:16
 shared-slice-read-b : tie.Need-shared-slice-read-b Inv-loop μ-loop
 shared-slice-read-b c =
     let a = c .before .before .before .before .before .before .args in
     let i = c .before .before .before .loop .i in
     omega (arith, place-in (a .swb) (a .a + i) (length (a .mem .now)) (omega arith) (search needs))
 
--- src/places.rt:37:9
 slice-write-b : tie.Need-slice-write-b Inv-loop μ-loop
 slice-write-b c = search needs
 
--- src/places.rt:38:9
 add-i : tie.Need-add-i Inv-loop μ-loop
 add-i c = search needs
 
--- src/places.rt:35:5
 loop-less : tie.Need-loop-less Inv-loop μ-loop
 loop-less c = search needs
 
--- src/places.rt:35:5
 loop-again : tie.Need-loop-again Inv-loop μ-loop
 loop-again c =
     let a = c .before .before .before .before .before .before .args in
     let i = c .before .before .before .loop .i in
     (search needs, cc (gather-more (a .swb) (a .b .now) (a .mem .now) (a .a) i), search needs)
 
--- src/places.rt:30:1
 same-length : tie.Need-same-length Inv-loop μ-loop
 same-length c = search needs
 
--- src/places.rt:30:1
 returns : tie.Need-returns Inv-loop μ-loop
 returns c =
     let a = c .before .before .before .before .args in

@@ -1,3 +1,4 @@
+-- `zero_fill` meets its contract. So far the first i bytes are 0.
 use borrow.Author.Needs.{needs}
 use native.Mathlib.Omega.{arith}
 use mathlib.Core.Path.{_≡_, _∙_}
@@ -8,8 +9,6 @@ use native.Mathlib.Nat.{zero-add}
 use Rattle.lists.proofs.Stores.{fill-more, sets-whole}
 use Rattle.lists.proofs.places.zero_fill.Statement.{statement}
 use Rattle.lists.proofs.places.zero_fill.Tie as tie
-use Rattle.lists.proofs.places.zero_fill.Reads as reads
-use Rattle.lists.proofs.places.zero_fill.Lts as lts
 
 abbrev Inv-loop : tie.InvT-loop
 Inv-loop b₀ i₀ b i = (i ≤ length b₀) × (b ≡ sets b₀ 0 (replicate i 0)) × (length b ≡ length b₀)
@@ -17,34 +16,27 @@ Inv-loop b₀ i₀ b i = (i ≤ length b₀) × (b ≡ sets b₀ 0 (replicate i 
 abbrev μ-loop : tie.MeasureT-loop
 μ-loop b₀ i₀ b i = length b₀ - i
 
--- src/places.rt:46:5
 loop-holds : tie.Need-loop-holds Inv-loop μ-loop
 loop-holds c = search needs
 
--- src/places.rt:47:9
 slice-write-b : tie.Need-slice-write-b Inv-loop μ-loop
 slice-write-b c = search needs
 
--- src/places.rt:48:9
 add-i : tie.Need-add-i Inv-loop μ-loop
 add-i c = search needs
 
--- src/places.rt:46:5
 loop-less : tie.Need-loop-less Inv-loop μ-loop
 loop-less c = search needs
 
--- src/places.rt:46:5
 loop-again : tie.Need-loop-again Inv-loop μ-loop
 loop-again c =
     let b = c .before .before .args .b .now in
     let i = c .before .loop .i in
     (search needs, cc (fill-more b 0 0 i, zero-add i), search needs)
 
--- src/places.rt:42:1
 same-length : tie.Need-same-length Inv-loop μ-loop
 same-length c = search needs
 
--- src/places.rt:42:1
 returns : tie.Need-returns Inv-loop μ-loop
 returns c =
     let b = c .before .before .args .b .now in

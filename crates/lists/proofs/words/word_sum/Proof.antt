@@ -1,3 +1,4 @@
+-- `word_sum` meets its contract. So far the sum is that of the first j words, and low enough not to wrap.
 use borrow.Author.Needs.{needs}
 use native.Mathlib.Omega.{arith}
 use mathlib.Core.Path.{_≡_}
@@ -7,9 +8,6 @@ use Rattle.lists.specs.Words.{wordSum}
 use Rattle.lists.proofs.Sums.{sum-more}
 use Rattle.lists.proofs.words.word_sum.Statement.{statement}
 use Rattle.lists.proofs.words.word_sum.Tie as tie
-use Rattle.lists.proofs.words.word_sum.Reads as reads
-use Rattle.lists.proofs.words.word_sum.Lts as lts
-use Rattle.lists.proofs.words.word.Reads as word-reads
 
 abbrev Inv-loop : tie.InvT-loop
 Inv-loop b n sum₀ j₀ sum j = (j ≤ n) × (sum ≡ wordSum (take (2 * j) b)) × (sum ≤ 65535 * j)
@@ -17,39 +15,31 @@ Inv-loop b n sum₀ j₀ sum j = (j ≤ n) × (sum ≡ wordSum (take (2 * j) b))
 abbrev μ-loop : tie.MeasureT-loop
 μ-loop b n sum₀ j₀ sum j = n - j
 
--- src/words.rt:40:5
 loop-holds : tie.Need-loop-holds Inv-loop μ-loop
 unfolding wordSum
 loop-holds c = search needs
 
--- src/words.rt:41:24
 mul-word : tie.Need-mul-word Inv-loop μ-loop
 mul-word c = search needs
 
--- src/words.rt:41:16
 word-requires : tie.Need-word-requires Inv-loop μ-loop
 word-requires c κs = search needs
 
--- src/words.rt:41:9
 add-sum : tie.Need-add-sum Inv-loop μ-loop
 add-sum c = search needs
 
--- src/words.rt:42:9
 add-j : tie.Need-add-j Inv-loop μ-loop
 add-j c = search needs
 
--- src/words.rt:40:5
 loop-less : tie.Need-loop-less Inv-loop μ-loop
 loop-less c = search needs
 
--- src/words.rt:40:5
 loop-again : tie.Need-loop-again Inv-loop μ-loop
 loop-again c =
     let b = c .before .before .before .before .args .b .now in
     let j = c .before .before .loop .j in
     (search needs, omega (arith, sum-more j b (omega arith)), omega arith)
 
--- src/words.rt:33:1
 returns : tie.Need-returns Inv-loop μ-loop
 returns c =
     let e : c .before .loop .j ≡ c .before .before .before .args .n = omega arith in
