@@ -1,0 +1,57 @@
+-- Laws of `sets`, a run of stores: how two runs join, and what a run leaves as it was.
+use mathlib.Core.Path.{_≡_, refl, sym, ap, _∙_}
+use mathlib.Core.List.{List, [], _∷_, _++_, append-assoc, append-nil}
+use Prim.Native.Nat.{ℕ, zero, suc, _+_, _≤_, _<_}
+use native.Mathlib.Nat.{add-suc, suc-add, add-zero}
+use native.Mathlib.Omega.{arith}
+use borrow.Rule.Slice.PartMut.{putMid}
+use lib.ListN.{length, take, drop, getD, set, replicate, length-replicate, length-set, replicate-append-replicate, drop-of-length-le}
+use lib.Seq.{sets, sets-eq, drop-drop, length-take-le, getD-set-other, getD-set-same, take-set-le, drop-set-lt, drop-at, take-append-seam}
+
+-- two runs that meet are one run
+pub sets-more : (vs ws l : List ℕ) (i : ℕ) → sets (sets l i vs) (i + length vs) ws ≡ sets l i (vs ++ ws)
+sets-more [] ws l i = rw add-zero
+sets-more (a ∷ vs) ws l i = rw (add-suc, ← suc-add) (sets-more vs ws (set l i a) (suc i))
+
+pub sets-at : (vs ws l : List ℕ) (i j : ℕ) → j ≡ i + length vs → sets (sets l i vs) j ws ≡ sets l i (vs ++ ws)
+sets-at vs ws l i j e = rw e (sets-more vs ws l i)
+
+-- a fill, by one more store
+pub fill-more : (l : List ℕ) (v at i : ℕ) → set (sets l at (replicate i v)) (at + i) v ≡ sets l at (replicate (i + 1) v)
+fill-more l v at i = sets-at (replicate i v) (v ∷ []) l at (at + i) (rw length-replicate) ∙ ap (sets l at) (replicate-append-replicate i 1 v)
+
+-- a run over the whole list leaves nothing of it
+pub sets-whole : (vs b : List ℕ) → length vs ≡ length b → sets b 0 vs ≡ vs
+sets-whole vs b e = sets-eq vs b 0 (omega arith) ∙ ap (λ (t : List ℕ). vs ++ t) (drop-of-length-le b {i = 0 + length vs} (omega arith)) ∙ append-nil vs
+
+-- a part that was lent comes back as a run of stores
+pub put-sets : (a m : ℕ) (xs ys : List ℕ) → length ys ≡ m → a + m ≤ length xs → putMid a m xs ys ≡ sets xs a ys
+put-sets a m xs ys e h = rw (← e, drop-drop, ← append-assoc) (sym (sets-eq ys xs a (omega arith)))
+
+-- what stands at an index below, above and within the run
+pub getD-below : (vs l : List ℕ) (i j : ℕ) → j < i → getD (sets l i vs) j 0 ≡ getD l j 0
+getD-below [] l i j h = refl
+getD-below (v ∷ vs) l i j h = getD-below vs (set l i v) (suc i) j (omega arith) ∙ getD-set-other l i j v 0 (λ e. omega arith)
+
+pub getD-above : (vs l : List ℕ) (i j : ℕ) → i + length vs ≤ j → getD (sets l i vs) j 0 ≡ getD l j 0
+getD-above [] l i j h = refl
+getD-above (v ∷ vs) l i j h = getD-above vs (set l i v) (suc i) j (omega arith) ∙ getD-set-other l i j v 0 (λ e. omega arith)
+
+pub getD-within : (vs l : List ℕ) (i j : ℕ) → j < length vs → i + length vs ≤ length l → getD (sets l i vs) (i + j) 0 ≡ getD vs j 0
+getD-within [] l i j h k = absurd (omega arith)
+getD-within (v ∷ vs) l i zero h k = rw add-zero (getD-below vs (set l i v) (suc i) i (omega arith) ∙ getD-set-same l i v 0 (omega arith))
+getD-within (v ∷ vs) l i (suc j) h k = rw (add-suc, ← suc-add) (getD-within vs (set l i v) (suc i) j (omega arith) (rw length-set (omega arith)))
+
+-- the parts before, after and at the run
+pub take-sets : (vs l : List ℕ) (i n : ℕ) → n ≤ i → take n (sets l i vs) ≡ take n l
+take-sets [] l i n h = refl
+take-sets (v ∷ vs) l i n h = take-sets vs (set l i v) (suc i) n (omega arith) ∙ take-set-le n l i v h
+
+pub drop-sets : (vs l : List ℕ) (i n : ℕ) → i + length vs ≤ n → drop n (sets l i vs) ≡ drop n l
+drop-sets [] l i n h = refl
+drop-sets (v ∷ vs) l i n h = drop-sets vs (set l i v) (suc i) n (omega arith) ∙ drop-set-lt n l i v (omega arith)
+
+pub sets-part : (vs l : List ℕ) (i : ℕ) → i + length vs ≤ length l → take (length vs) (drop i (sets l i vs)) ≡ vs
+sets-part vs l i h =
+    let e : length (take i l) ≡ i = length-take-le i l (omega arith) in
+    rw (sets-eq vs l i, append-assoc, drop-at) (take-append-seam vs (drop (i + length vs) l))
