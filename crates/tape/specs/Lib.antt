@@ -7,3 +7,4 @@ pub mod Pass
 pub mod Sweep
 pub mod Bytes
 pub mod Listing
+pub mod Meeting
