@@ -1,0 +1,2 @@
+-- The one table of worked examples.
+pub mod Table

@@ -1,0 +1,1 @@
+// The worked examples of document 01, proved together as one table: specs/ states them, proofs/ proves them.

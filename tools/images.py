@@ -1,0 +1,56 @@
+#!/usr/bin/env python3
+"""Writes the reel images that the listing programs are run on, and what they must print.
+
+A second, independent writing of document 01's reel: the expected lines come from here and not from the proved code.
+Usage: tools/images.py   (from anywhere; it writes below crates/)
+"""
+import os, struct
+
+CRATES = os.path.join(os.path.dirname(os.path.abspath(__file__)), '..', 'crates')
+
+def block(kind, n, i, data=b''):
+    body = struct.pack('<HHH', kind, n, i) + data + bytes(504 - len(data))
+    return body + struct.pack('<H', sum(struct.unpack('<255H', body)) % 65535)
+
+def record(d):
+    return b''.join(block(1, len(d), i, d[504 * i:504 * i + 504]) for i in range((len(d) + 503) // 504))
+
+MARK, GAP = block(2, 0, 0), block(3, 0, 0)
+
+def resum(image, k):
+    body = image[512 * k:512 * k + 510]
+    return image[:512 * k + 510] + struct.pack('<H', sum(struct.unpack('<255H', body)) % 65535) + image[512 * k + 512:]
+
+def poke(image, at, byte):
+    return image[:at] + bytes([byte]) + image[at + 1:]
+
+def ramp(n):
+    return bytes(i * 7 % 256 for i in range(n))
+
+EVERY = record(b'AB') + MARK + GAP + record(ramp(768)) + record(ramp(505)) + MARK + MARK
+FULL = record(ramp(16384)) * 3 + record(ramp(504)) * 28 + MARK          # 128 blocks: 65,536 bytes
+
+CASES = [
+    ('empty', b'', 'E 0'),
+    ('paper', record(b'AB') + MARK + MARK, 'R 0 2\nM 1\nM 2\nE 3'),
+    ('full', FULL, '\n'.join(['R 0 16384', 'R 33 16384', 'R 66 16384'] + ['R %d 504' % (99 + i) for i in range(28)] + ['M 127', 'E 128'])),
+    ('long', FULL + b'\0', 'L'),
+    ('ragged', EVERY + bytes(511), 'S'),
+    ('check', poke(EVERY, 512 * 4 + 100, 0), 'X 4'),                      # one data byte changed, its check left
+    ('padding', resum(poke(EVERY, 9, 1), 0), 'X 0'),                      # a byte beyond "AB" is not 0, the check is right
+    ('mark_words', resum(poke(EVERY, 512 + 4, 1), 1), 'X 1'),             # a mark with an index, the check is right
+    ('cut_off', EVERY[:512 * 4], 'X 3'),                                  # the end cuts the second record off
+    ('out_of_place', EVERY[:512 * 3] + EVERY[512 * 4:512 * 5] + EVERY, 'X 3'),  # a record that starts at piece 1
+]
+
+def write(name, data):
+    path = os.path.join(CRATES, name)
+    os.makedirs(os.path.dirname(path), exist_ok=True)
+    with open(path, 'wb') as f:
+        f.write(data)
+
+write('listing/stdin', EVERY)
+write('listing/stdout', b'R 0 2\nM 1\nG 2\nR 3 768\nR 5 505\nM 7\nM 8\nE 9\n')
+for name, image, lines in CASES:
+    write('listing_cases/data/' + name, image)
+write('listing_cases/stdout', ''.join('%s\n%s\n' % (n, l) for n, _, l in CASES).encode())
