@@ -1,0 +1,36 @@
+-- The command packet: the header word's fields, and the words after it.
+use mathlib.Core.Bool.{Bool, true, false, _||_}
+use mathlib.Core.List.{List}
+use Prim.Native.Nat.{ℕ, _+_, _*_, _/_, _%_}
+use lib.Dec.{eqb, leb}
+use Rattle.lists.specs.Pick.{pick}
+use Rattle.lists.specs.Words.{wordAt}
+use Rattle.signals.specs.declared.packet.Header.{Header}
+use Rattle.signals.specs.declared.packet.Packet.{Packet}
+
+-- ACK 15, CVC 14, OPP 13, SWB 12, mode 11:8, IE 7, code 4:0; `plain`: "Bits 7:5 .. 000 [or] 100"
+unfoldable pub headerOf : ℕ → Header
+headerOf w =
+    record {
+      ack = eqb (w / 32768 % 2) 1;
+      cvc = eqb (w / 16384 % 2) 1;
+      opp = eqb (w / 8192 % 2) 1;
+      swb = eqb (w / 4096 % 2) 1;
+      ie = eqb (w / 128 % 2) 1;
+      plain = eqb (w / 32 % 4) 0;
+      mode = w / 256 % 16;
+      code = w % 32;
+    }
+
+-- "The unit fetches the words the command uses: four for codes 1, 4, 5, two for 8, else one." (step 7)
+unfoldable pub wordsOf : ℕ → ℕ
+wordsOf code = pick ((eqb code 1 || eqb code 4) || eqb code 5) 4 (pick (eqb code 8) 2 1)
+
+-- pointer low, pointer high, count; a Position has its count in the second word
+unfoldable pub packetOf : List ℕ → ℕ → ℕ → Packet
+packetOf m at code =
+    pick (eqb (wordsOf code) 4)
+    (record { pointer = wordAt m (at + 2) + 65536 * (wordAt m (at + 4) % 4); high = leb 4 (wordAt m (at + 4)); count = wordAt m (at + 6) })
+    (pick (eqb (wordsOf code) 2)
+    (record { pointer = 0; high = false; count = wordAt m (at + 2) })
+    (record { pointer = 0; high = false; count = 0 }))
