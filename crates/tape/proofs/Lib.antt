@@ -1,1 +1,2 @@
 -- Laws about what a reel is.
+pub mod Blocks
