@@ -1,2 +1,5 @@
 -- Laws about what a reel is.
 pub mod Blocks
+pub mod Checked
+pub mod Accepted
+pub mod ReadBlocks
