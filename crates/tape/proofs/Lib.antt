@@ -3,3 +3,5 @@ pub mod Blocks
 pub mod Checked
 pub mod Accepted
 pub mod ReadBlocks
+pub mod Runs
+pub mod Recorded
