@@ -2,6 +2,7 @@
 pub mod Blocks
 pub mod Checked
 pub mod Accepted
+pub mod Rebuilt
 pub mod ReadBlocks
 pub mod Runs
 pub mod Recorded
