@@ -1,2 +1,5 @@
 -- Laws about what a reel is.
 pub mod Blocks
+pub mod Images
+pub mod Standing
+pub mod Written
