@@ -3,3 +3,4 @@ pub mod Blocks
 pub mod Images
 pub mod Standing
 pub mod Written
+pub mod Heads
