@@ -1,14 +1,14 @@
 -- How long the images of objects are, how they join, and where a record's pieces lie in its image.
-use mathlib.Core.Path.{_≡_, refl, sym, ap, _∙_}
+use mathlib.Core.Path.{_≡_, refl}
 use mathlib.Core.List.{List, [], _∷_, _++_, append-assoc, append-nil}
 use mathlib.Core.Logic.{⊎-elim}
 use Prim.Native.Nat.{ℕ, zero, suc, _+_, _*_, _≤_, _<_}
-use native.Mathlib.Nat.{add-assoc, zero-add, eq-or-lt-of-le}
+use native.Mathlib.Nat.{zero-add, eq-or-lt-of-le}
 use native.Mathlib.Omega.{arith}
 use lib.ListN.{length, take, drop, length-append, length-take}
 use lib.Seq.{take-at, drop-at}
 use Rattle.tape.specs.Numbers.{blockBytes, dataBytes, piecesOf}
-use Rattle.tape.specs.Layout.{blockOf, gapKind, markKind, pieceKind}
+use Rattle.tape.specs.Layout.{gapKind, markKind, pieceKind}
 use Rattle.tape.specs.Objects.{AllAllowed, Allowed, Object, also, blocksIn, blocksOf, gap, imageOf, imagesOf, mark, none, pieceOf, piecesTo, record-of}
 use Rattle.tape.proofs.Blocks.{length-block}
 

@@ -1,9 +1,9 @@
 -- What a reel that holds a list of objects says of one of them: where it stands, that it ends below the end, and which blocks it has.
-use mathlib.Core.Path.{_≡_, refl, sym, ap, _∙_}
-use mathlib.Core.List.{List, [], _∷_, _++_, append-assoc}
+use mathlib.Core.Path.{_≡_, ap}
+use mathlib.Core.List.{List, _∷_, _++_, append-assoc}
 use Prim.Native.Nat.{ℕ, _+_, _*_, _≤_, _<_}
 use native.Mathlib.Omega.{arith}
-use lib.ListN.{length, take, drop, length-append, length-take, take-append-drop}
+use lib.ListN.{length, drop, length-take, take-append-drop}
 use lib.Seq.{take-at, drop-at, drop-drop}
 use Rattle.tape.specs.Numbers.{blockBytes, piecesOf}
 use Rattle.tape.specs.Objects.{Holds, Object, StandsAt, blocksIn, blocksOf, gap, imageOf, imagesOf, mark, pieceOf, record-of}

@@ -1,11 +1,10 @@
 -- A write at a bound between two objects: what stands below stays, the new object stands behind it, and all beyond is forgotten.
-use mathlib.Core.Path.{_≡_, refl, sym, ap, _∙_}
-use mathlib.Core.List.{List, [], _∷_, _++_, append-assoc, append-nil}
+use mathlib.Core.Path.{_≡_, refl, sym, _∙_}
+use mathlib.Core.List.{List, [], _∷_, _++_, append-nil}
 use Prim.Native.Nat.{ℕ, _+_, _*_, _≤_}
-use native.Mathlib.Nat.{add-zero}
 use native.Mathlib.Omega.{arith}
-use lib.ListN.{length, take, drop}
-use lib.Seq.{sets, take-add, take-at, take-take}
+use lib.ListN.{length, take}
+use lib.Seq.{sets, take-add, take-at}
 use Rattle.lists.proofs.Stores.{sets-part, take-sets}
 use Rattle.tape.specs.Numbers.{blockBytes}
 use Rattle.tape.specs.Objects.{Allowed, Holds, Object, StandsAt, also, blocksIn, blocksOf, imageOf, imagesOf, none}
