@@ -4,3 +4,9 @@ pub mod Images
 pub mod Standing
 pub mod Written
 pub mod Heads
+pub mod Checked
+pub mod Accepted
+pub mod Rebuilt
+pub mod ReadBlocks
+pub mod Runs
+pub mod Recorded
