@@ -8,7 +8,8 @@ use lib.Seq.{take-at, drop-at, drop-drop}
 use Rattle.tape.specs.Numbers.{blockBytes, piecesOf}
 use Rattle.tape.specs.Objects.{Holds, Object, StandsAt, blocksIn, blocksOf, gap, imageOf, imagesOf, mark, pieceOf, record-of}
 use Rattle.tape.specs.Reading.{blockAt}
-use Rattle.tape.proofs.Images.{blocks-append, images-append, length-image, length-images, piece-in}
+use Rattle.tape.proofs.Images.{blocks-append, images-append, length-image, length-images, piece-in-image}
+use Rattle.tape.proofs.Runs.{part-of-front}
 
 -- the reel as the images of its objects and a rest
 pub holds-split : {s : List ℕ} {e : ℕ} (before after : List Object) → Holds s e (before ++ after) → s ≡ imagesOf before ++ (imagesOf after ++ drop (blockBytes * e) s)
@@ -36,12 +37,12 @@ module _ {s : List ℕ} {e : ℕ} (before : List Object) (o : Object) (after : L
 
 -- piece j of a record is block j from where the record stands
 pub stands-piece : (s : List ℕ) (p : ℕ) (d : List ℕ) (j : ℕ) → StandsAt s p (record-of d) → j < piecesOf (length d) → blockAt s (p + j) ≡ pieceOf d j
-unfolding blocksIn imageOf
+unfolding blocksIn
 stands-piece s p d j h l =
-    let m = piecesOf (length d) in
     let t = drop (blockBytes * p) s in
     let at : blockBytes * (p + j) ≡ blockBytes * p + blockBytes * j = omega arith in
-    rw (at, ← drop-drop (blockBytes * j) (blockBytes * p) s, ← take-append-drop (blockBytes * m) t, h) (piece-in d m j (drop (blockBytes * m) t) l)
+    rw (at, ← drop-drop (blockBytes * j) (blockBytes * p) s, ← part-of-front blockBytes (blockBytes * j) (blockBytes * piecesOf (length d)) t (omega arith), h)
+    (piece-in-image d j l)
 
 pub stands-mark : (s : List ℕ) (p : ℕ) → StandsAt s p mark → blockAt s p ≡ imageOf mark
 unfolding blocksIn
