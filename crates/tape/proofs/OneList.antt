@@ -1,4 +1,4 @@
--- "A well formed reel has exactly one list of objects": an image tells its object and where it ends.
+-- A well formed reel has exactly one list of objects: an image tells its object and where it ends.
 use mathlib.Core.Path.{_≡_, refl, sym, ap, _∙_}
 use mathlib.Core.List.{List, [], _++_, append-assoc, append-nil}
 use Prim.Native.Nat.{ℕ, _+_, _-_, _*_, _≤_}
