@@ -7,3 +7,8 @@ pub mod ReadBlocks
 pub mod Runs
 pub mod PieceRun
 pub mod Recorded
+pub mod Images
+pub mod Standing
+pub mod Written
+pub mod Heads
+pub mod OneList
