@@ -1,4 +1,4 @@
--- `lay_block` meets its contract: its seven stores are the runs that come to the block.
+-- `lay_block` meets its contract: its six stores are the runs that come to the block.
 use borrow.Author.Needs.{needs}
 use Rattle.lists.specs.Places.{gathered}
 use Rattle.lists.proofs.Placed.{length-gathered}
