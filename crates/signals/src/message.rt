@@ -64,16 +64,17 @@ fn header_word(class: usize, nef: bool) -> u16
 pub fn message_of(e: End, s: Status) -> [u16; 7]
     ensures { λ r. ⌜ r ≡ messageOf e s ⌝ }
 {
-    let nef = wide(e.found) / 4 % 2 == 1;
-    let xst0 = 256 * wide(e.found) + wide(status_byte(s));
+    let found = wide(e.found);
+    let residual = e.residual;
+    let xst0 = 256 * found + wide(status_byte(s));
     [
-        header_word(e.class, nef),
+        header_word(e.class, found / 4 % 2 == 1),
         10,
-        residual_word(e.residual),
+        residual_word(residual),
         xst0 as u16,
         0,
         0,
-        e.xst3 as u16,
+        wide(e.xst3) as u16,
     ]
 }
 
