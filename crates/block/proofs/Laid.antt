@@ -9,6 +9,7 @@ use lib.Seq.{sets, length-sets, length-take-le}
 use Rattle.lists.specs.Words.{wordBytes, wordSum}
 use Rattle.lists.proofs.Stores.{put-sets, sets-at, sets-more, sets-part, sets-whole}
 use Rattle.tape.specs.Layout.{blockOf, bodyOf, checkOf}
+use Rattle.tape.proofs.Blocks.{length-body}
 
 -- a lent part that a call fills with as many bytes as it is long
 filled : (f : ℕ → List ℕ) → ((m : ℕ) → length (f m) ≡ m) → (b g : List ℕ) (a e : ℕ) → a ≤ e → e ≤ length b → g ≡ f (length (take (e - a) (drop a b))) → putMid a (e - a) b g ≡ sets b a (f (e - a))
@@ -32,10 +33,6 @@ module _ (b₀ b₁ b₂ b₃ g z : List ℕ) (k n i used : ℕ) (f : ℕ → Li
       let l₄ : length (putMid 6 (6 + used - 6) b₃ g) ≡ 512 = rw (p, length-sets) l₃ in
       let q = filled (λ m. replicate m 0) (λ m. length-replicate m 0) (putMid 6 (6 + used - 6) b₃ g) z (6 + used) 510 (omega arith) (omega arith) e₅ in
       cc (joined b₀ (f used) k n i, l used)
-
-length-body : (k n i : ℕ) (d : List ℕ) → length d ≤ 504 → length (bodyOf k n i d) ≡ 510
-unfolding bodyOf
-length-body k n i d h = simp (length-append, length-replicate) (omega arith)
 
 -- the check word goes behind whatever 510 bytes were laid
 sealed : (b body : List ℕ) → length b ≡ 512 → length body ≡ 510 → sets (sets b 0 body) 510 (wordBytes (wordSum (take 510 (sets b 0 body)) % 65535)) ≡ body ++ wordBytes (checkOf body)
