@@ -11,3 +11,4 @@ pub mod ReadBlocks
 pub mod Runs
 pub mod PieceRun
 pub mod Recorded
+pub mod Passes
