@@ -12,3 +12,4 @@ pub mod Runs
 pub mod PieceRun
 pub mod Recorded
 pub mod Passes
+pub mod Below

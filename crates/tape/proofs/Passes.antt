@@ -112,23 +112,23 @@ unfolding passed
 reverse-ends s e = refl
 
 -- each object of a list is allowed
-pub allowed-at : (before after : List Object) (o : Object) → AllAllowed (before ++ o ∷ after) → Allowed o
-allowed-at before after o h = first (allowed-rest before (o ∷ after) h)
+pub allowed-at : (before : List Object) (o : Object) (after : List Object) → AllAllowed (before ++ o ∷ after) → Allowed o
+allowed-at before o after h = first (allowed-rest before (o ∷ after) h)
   where
     first : {x : Object} {xs : List Object} → AllAllowed (x ∷ xs) → Allowed x
     first (also a h) = a
 
 -- an object of a well formed reel is met from the bounds on either side of it
-module _ (s : List ℕ) (e : ℕ) (before after : List Object) (o : Object) (h : Holds s e (before ++ o ∷ after)) where
+module _ {s : List ℕ} {e : ℕ} (before : List Object) (o : Object) (after : List Object) (h : Holds s e (before ++ o ∷ after)) where
   bound : blocksOf (before ++ o ∷ []) ≡ blocksOf before + blocksIn o
   unfolding blocksOf
   bound = omega (arith, blocks-append before (o ∷ []))
 
   pub forward-meets : passed s false (blocksOf before) e ≡ metAs o (blocksOf (before ++ o ∷ []))
-  forward-meets = rw bound (pass-forward s (blocksOf before) e o (allowed-at before after o (h .allowed)) (stands-in before o after h) (stands-below before o after h))
+  forward-meets = rw bound (pass-forward s (blocksOf before) e o (allowed-at before o after (h .allowed)) (stands-in before o after h) (stands-below before o after h))
 
   pub reverse-meets : passed s true (blocksOf (before ++ o ∷ [])) e ≡ metAs o (blocksOf before)
-  reverse-meets = rw bound (pass-reverse s (blocksOf before) e o (allowed-at before after o (h .allowed)) (stands-in before o after h))
+  reverse-meets = rw bound (pass-reverse s (blocksOf before) e o (allowed-at before o after (h .allowed)) (stands-in before o after h))
 
 -- an object just laid is met from either side
 module _ (s : List ℕ) (p : ℕ) (o : Object) (a : Allowed o) (room : blockBytes * (p + blocksIn o) ≤ length s) where
