@@ -13,3 +13,7 @@ pub mod PieceRun
 pub mod Recorded
 pub mod Passes
 pub mod Below
+pub mod Parts
+pub mod Gathering
+pub mod Seen
+pub mod Sweeps
