@@ -1,30 +1,16 @@
 -- How long the images of objects are, how they join, and where a record's pieces lie in its image.
-use mathlib.Core.Path.{_≡_, refl, ap}
+use mathlib.Core.Path.{_≡_, refl, _∙_}
 use mathlib.Core.List.{List, [], _∷_, _++_, append-assoc}
-use Prim.Native.Nat.{ℕ, zero, suc, _+_, _*_, _≤_, _<_}
+use Prim.Native.Nat.{ℕ, _+_, _*_, _≤_, _<_}
 use native.Mathlib.Nat.{add-zero, zero-add}
 use native.Mathlib.Omega.{arith}
-use lib.ListN.{length, take, drop, length-append, length-take}
+use lib.ListN.{length, take, drop, length-append}
 use lib.Seq.{take-all}
-use Rattle.tape.specs.Numbers.{blockBytes, dataBytes, piecesOf}
-use Rattle.tape.specs.Layout.{gapKind, markKind, pieceKind}
-use Rattle.tape.specs.Objects.{AllAllowed, Allowed, Object, also, blocksIn, blocksOf, gap, imageOf, imagesOf, mark, none, pieceOf, piecesTo, record-of}
+use Rattle.tape.specs.Numbers.{blockBytes, piecesOf}
+use Rattle.tape.specs.Layout.{gapKind, markKind}
+use Rattle.tape.specs.Objects.{AllAllowed, Allowed, Object, also, blocksIn, blocksOf, gap, imageOf, imagesOf, mark, none, pieceOf, record-of}
 use Rattle.tape.proofs.Blocks.{length-block}
-use Rattle.tape.proofs.Runs.{length-run, part-of-run, run}
-
--- a piece is one block, whatever the record
-pub length-piece : (d : List ℕ) (i : ℕ) → length (pieceOf d i) ≡ blockBytes
-unfolding pieceOf
-length-piece d i = length-block pieceKind (length d) i (take dataBytes (drop (dataBytes * i) d)) (rw length-take (omega arith))
-
--- the pieces of a record are a run, so that the laws of runs give their length and places
-pieces-run : (d : List ℕ) (m : ℕ) → piecesTo d m ≡ run (pieceOf d) m
-unfolding piecesTo run
-pieces-run d zero = refl
-pieces-run d (suc m) = ap (λ (l : List ℕ). l ++ pieceOf d m) (pieces-run d m)
-
-pub length-pieces : (d : List ℕ) (m : ℕ) → length (piecesTo d m) ≡ blockBytes * m
-length-pieces d m = rw pieces-run (length-run (pieceOf d) blockBytes m (λ j h. length-piece d j))
+use Rattle.tape.proofs.PieceRun.{length-piece, length-pieces, part-of-pieces}
 
 pub length-image : (o : Object) → length (imageOf o) ≡ blockBytes * blocksIn o
 unfolding imageOf blocksIn
@@ -67,8 +53,10 @@ pub allowed-both : {xs ys : List Object} → AllAllowed xs → AllAllowed ys →
 allowed-both none k = k
 allowed-both (also a h) k = also a (allowed-both h k)
 
+-- a piece is one block, and so block j of its record
+pub piece-whole : (d : List ℕ) (j : ℕ) → take blockBytes (pieceOf d j) ≡ pieceOf d j
+piece-whole d j = take-all blockBytes (pieceOf d j) (omega (arith, length-piece d j))
+
 pub piece-in-image : (d : List ℕ) (j : ℕ) → j < piecesOf (length d) → take blockBytes (drop (blockBytes * j) (imageOf (record-of d))) ≡ pieceOf d j
 unfolding imageOf
-piece-in-image d j h =
-    rw (pieces-run, ← add-zero (blockBytes * j), part-of-run (pieceOf d) blockBytes (piecesOf (length d)) j 0 blockBytes (λ i l. length-piece d i) h (omega arith))
-    (take-all blockBytes (pieceOf d j) (omega (arith, length-piece d j)))
+piece-in-image d j h = rw add-zero at (part-of-pieces d (piecesOf (length d)) j 0 blockBytes h (omega arith)) ∙ piece-whole d j

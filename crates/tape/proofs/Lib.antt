@@ -1,9 +1,5 @@
 -- Laws about what a reel is.
 pub mod Blocks
-pub mod Images
-pub mod Standing
-pub mod Written
-pub mod Heads
 pub mod Checked
 pub mod Accepted
 pub mod Rebuilt
@@ -11,6 +7,11 @@ pub mod ReadBlocks
 pub mod Runs
 pub mod PieceRun
 pub mod Recorded
+pub mod Images
+pub mod Standing
+pub mod Written
+pub mod Heads
+pub mod OneList
 pub mod Passes
 pub mod Below
 pub mod Parts

@@ -1,15 +1,16 @@
 -- What a reel that holds a list of objects says of one of them: where it stands, that it ends below the end, and which blocks it has.
-use mathlib.Core.Path.{_≡_, ap}
+use mathlib.Core.Path.{_≡_, ap, _∙_}
 use mathlib.Core.List.{List, _∷_, _++_, append-assoc}
 use Prim.Native.Nat.{ℕ, _+_, _*_, _≤_, _<_}
+use native.Mathlib.Nat.{add-zero}
 use native.Mathlib.Omega.{arith}
 use lib.ListN.{length, drop, length-take, take-append-drop}
-use lib.Seq.{take-at, drop-at, drop-drop}
+use lib.Seq.{take-at, drop-at}
 use Rattle.tape.specs.Numbers.{blockBytes, piecesOf}
 use Rattle.tape.specs.Objects.{Holds, Object, StandsAt, blocksIn, blocksOf, gap, imageOf, imagesOf, mark, pieceOf, record-of}
 use Rattle.tape.specs.Reading.{blockAt}
-use Rattle.tape.proofs.Images.{blocks-append, images-append, length-image, length-images, piece-in-image}
-use Rattle.tape.proofs.Runs.{part-of-front}
+use Rattle.tape.proofs.Images.{blocks-append, images-append, length-image, length-images, piece-whole}
+use Rattle.tape.proofs.PieceRun.{part-stands}
 
 -- the reel as the images of its objects and a rest
 pub holds-split : {s : List ℕ} {e : ℕ} (before after : List Object) → Holds s e (before ++ after) → s ≡ imagesOf before ++ (imagesOf after ++ drop (blockBytes * e) s)
@@ -37,12 +38,7 @@ module _ {s : List ℕ} {e : ℕ} (before : List Object) (o : Object) (after : L
 
 -- piece j of a record is block j from where the record stands
 pub stands-piece : (s : List ℕ) (p : ℕ) (d : List ℕ) (j : ℕ) → StandsAt s p (record-of d) → j < piecesOf (length d) → blockAt s (p + j) ≡ pieceOf d j
-unfolding blocksIn
-stands-piece s p d j h l =
-    let t = drop (blockBytes * p) s in
-    let at : blockBytes * (p + j) ≡ blockBytes * p + blockBytes * j = omega arith in
-    rw (at, ← drop-drop (blockBytes * j) (blockBytes * p) s, ← part-of-front blockBytes (blockBytes * j) (blockBytes * piecesOf (length d)) t (omega arith), h)
-    (piece-in-image d j l)
+stands-piece s p d j h l = rw add-zero at (part-stands d s p j 0 blockBytes h l (omega arith)) ∙ piece-whole d j
 
 pub stands-mark : (s : List ℕ) (p : ℕ) → StandsAt s p mark → blockAt s p ≡ imageOf mark
 unfolding blocksIn
