@@ -1,0 +1,6 @@
+-- Case laws of the definitions that the passes and the sweep compute, one for each way that the code returns.
+pub mod Ways
+pub mod Walks
+pub mod Meetings
+pub mod Sweeps
+pub mod Examined

@@ -1,0 +1,105 @@
+use borrow.Author.Needs.{needs}
+use native.Mathlib.Omega.{arith}
+use Rattle.reel.proofs.sweeping.sweep.Statement.{statement}
+use Rattle.reel.proofs.sweeping.sweep.Tie as tie
+use Rattle.reel.proofs.sweeping.sweep.Reads as reads
+use Rattle.reel.proofs.sweeping.sweep.Lts as lts
+use Rattle.reel.proofs.passing.pass.Reads as pass-reads
+
+abbrev Inv-loop : tie.InvT-loop
+Inv-loop reel e p₀ turns₀ p turns = ?
+
+abbrev μ-loop : tie.MeasureT-loop
+μ-loop reel e p₀ turns₀ p turns = ?
+
+-- src/sweeping.rt:13:5
+loop-holds : tie.Need-loop-holds Inv-loop μ-loop
+loop-holds c = search needs
+
+-- src/sweeping.rt:14:9
+sub-turns : tie.Need-sub-turns Inv-loop μ-loop
+sub-turns c = search needs
+
+-- src/sweeping.rt:15:15
+pass-requires : tie.Need-pass-requires Inv-loop μ-loop
+pass-requires c κs = search needs
+
+-- src/sweeping.rt:16:28
+enum-known-q : tie.Need-enum-known-q Inv-loop μ-loop
+enum-known-q c = search needs
+
+-- src/sweeping.rt:13:5
+loop-less : tie.Need-loop-less Inv-loop μ-loop
+loop-less c = search needs
+
+-- src/sweeping.rt:13:5
+loop-again : tie.Need-loop-again Inv-loop μ-loop
+loop-again c = search needs
+
+-- src/sweeping.rt:17:23
+enum-known-q-2 : tie.Need-enum-known-q-2 Inv-loop μ-loop
+enum-known-q-2 c = search needs
+
+-- src/sweeping.rt:13:5
+loop-less-2 : tie.Need-loop-less-2 Inv-loop μ-loop
+loop-less-2 c = search needs
+
+-- src/sweeping.rt:13:5
+loop-again-2 : tie.Need-loop-again-2 Inv-loop μ-loop
+loop-again-2 c = search needs
+
+-- src/sweeping.rt:18:22
+enum-known-q-3 : tie.Need-enum-known-q-3 Inv-loop μ-loop
+enum-known-q-3 c = search needs
+
+-- src/sweeping.rt:13:5
+loop-less-3 : tie.Need-loop-less-3 Inv-loop μ-loop
+loop-less-3 c = search needs
+
+-- src/sweeping.rt:13:5
+loop-again-3 : tie.Need-loop-again-3 Inv-loop μ-loop
+loop-again-3 c = search needs
+
+-- src/sweeping.rt:19:29
+enum-told : tie.Need-enum-told Inv-loop μ-loop
+enum-told c = search needs
+
+-- src/sweeping.rt:19:29
+returns : tie.Need-returns Inv-loop μ-loop
+returns c = search needs
+
+-- src/sweeping.rt:20:22
+enum-known-k : tie.Need-enum-known-k Inv-loop μ-loop
+enum-known-k c = search needs
+
+-- src/sweeping.rt:20:28
+returns-2 : tie.Need-returns-2 Inv-loop μ-loop
+returns-2 c = search needs
+
+-- src/sweeping.rt:8:1
+returns-3 : tie.Need-returns-3 Inv-loop μ-loop
+returns-3 c = search needs
+
+pub sweep-spec : {M : Type 1} → statement M
+sweep-spec =
+    tie.close
+    (tie.spec
+    Inv-loop
+    μ-loop
+    loop-holds
+    sub-turns
+    pass-requires
+    enum-known-q
+    loop-less
+    loop-again
+    enum-known-q-2
+    loop-less-2
+    loop-again-2
+    enum-known-q-3
+    loop-less-3
+    loop-again-3
+    enum-told
+    returns
+    enum-known-k
+    returns-2
+    returns-3)
