@@ -1,4 +1,8 @@
 use borrow.Author.Needs.{needs}
+use native.Mathlib.Omega.{arith}
+use Rattle.reel.proofs.Meetings.{pass-met, pass-nothing}
+use Rattle.reel.proofs.Pieces.{piece-counts}
+use Rattle.tape.specs.Pass.{metBy}
 use Rattle.reel.proofs.passing.pass.Statement.{statement}
 use Rattle.reel.proofs.passing.pass.Tie as tie
 use Rattle.reel.proofs.passing.pass.Reads as reads
@@ -15,7 +19,7 @@ ahead-of-requires c κs = search needs
 
 -- src/passing.rt:95:9
 returns : tie.Need-returns
-returns c = ?
+returns c = pass-nothing _ _ _ _ (c .before .ahead-of .ensures) (c .if1 .taken)
 
 -- src/passing.rt:97:9
 first-met-requires : tie.Need-first-met-requires
@@ -31,7 +35,7 @@ enum-known-b c = search needs
 
 -- src/passing.rt:100:31
 record-met-requires : tie.Need-record-met-requires
-record-met-requires c κs = ?
+record-met-requires c κs = omega (arith, piece-counts _ _ _ _ (c .before .before .before .read-block .ensures) (c .before .b .given .1))
 
 -- src/passing.rt:101:34
 enum-told : tie.Need-enum-told
@@ -55,19 +59,23 @@ enum-told-3 c = search needs
 
 -- src/passing.rt:91:1
 returns-2 : tie.Need-returns-2
-returns-2 c = ?
+unfolding metBy
+returns-2 c = pass-met _ _ _ _ (c .before .before .before .before .before .before .before .ahead-of .ensures) (c .before .before .before .before .before .before .if1 .left) (c .before .before .before .before .before .first-met .ensures) (c .before .before .before .before .read-block .ensures) (rw (c .before .before .b .given .1) (c .record-met .ensures))
 
 -- src/passing.rt:91:1
 returns-3 : tie.Need-returns-3
-returns-3 c = ?
+unfolding metBy
+returns-3 c = pass-met _ _ _ _ (c .before .before .before .before .before .before .ahead-of .ensures) (c .before .before .before .before .before .if1 .left) (c .before .before .before .before .first-met .ensures) (c .before .before .before .read-block .ensures) (rw (c .before .enum-told .given .1, c .beyond-of .ensures))
 
 -- src/passing.rt:91:1
 returns-4 : tie.Need-returns-4
-returns-4 c = ?
+unfolding metBy
+returns-4 c = pass-met _ _ _ _ (c .before .before .before .before .before .before .ahead-of .ensures) (c .before .before .before .before .before .if1 .left) (c .before .before .before .before .first-met .ensures) (c .before .before .before .read-block .ensures) (rw (c .before .enum-told2 .given .1, c .beyond-of2 .ensures))
 
 -- src/passing.rt:91:1
 returns-5 : tie.Need-returns-5
-returns-5 c = ?
+unfolding metBy
+returns-5 c = pass-met _ _ _ _ (c .before .before .before .before .before .ahead-of .ensures) (c .before .before .before .before .if1 .left) (c .before .before .before .first-met .ensures) (c .before .before .read-block .ensures) (rw (c .enum-told3 .given .1, c .before .before .before .first-met .ensures))
 
 pub pass-spec : {M : Type 1} → statement M
 pass-spec =

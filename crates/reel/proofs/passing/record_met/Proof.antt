@@ -1,4 +1,9 @@
 use borrow.Author.Needs.{needs}
+use borrow.Author.Tests.{not-true, not-false}
+use lib.Dec.{eqb}
+use native.Mathlib.Omega.{arith}
+use Rattle.reel.proofs.Meetings.{record-cut, record-due}
+use Rattle.reel.proofs.Ways.{due-ahead, lowest-room}
 use Rattle.reel.proofs.passing.record_met.Statement.{statement}
 use Rattle.reel.proofs.passing.record_met.Tie as tie
 use Rattle.reel.proofs.passing.record_met.Reads as reads
@@ -29,23 +34,27 @@ first-met-requires c κs = search needs
 
 -- src/passing.rt:84:9
 returns : tie.Need-returns
-returns c = ?
+returns c = record-cut _ _ _ _ _ _ (c .before .before .before .before .pieces .ensures) (c .before .before .before .order-met .ensures) (c .before .before .ahead-of .ensures) (not-true _ (c .before .if1 .taken)) (c .first-met .ensures)
 
 -- src/passing.rt:86:32
 beyond-of-requires : tie.Need-beyond-of-requires
-beyond-of-requires c κs = ?
+beyond-of-requires c κs =
+    let a = c .before .before .before .before .before .args in
+    due-ahead (eqb (a .i) (c .before .before .order-met .result)) (a .reverse) (a .p) (a .e) (c .before .before .before .pieces .result) (c .before .ahead-of .ensures) (not-false _ (c .if1 .left))
 
 -- src/passing.rt:87:34
 lowest-of-requires : tie.Need-lowest-of-requires
-lowest-of-requires c κs = ?
+lowest-of-requires c κs = beyond-of-requires (c .before) κs
 
 -- src/passing.rt:87:5
 pieces-met-requires : tie.Need-pieces-met-requires
-pieces-met-requires c κs = ?
+pieces-met-requires c κs =
+    let a = c .before .before .before .before .before .before .before .args in
+    omega (arith, lowest-room (a .reverse) (a .p) (a .e) (c .before .before .before .before .before .pieces .result) 18446744073709551616 (omega arith) (beyond-of-requires (c .before .before) tt) (omega arith) (omega arith))
 
 -- src/passing.rt:77:1
 returns-2 : tie.Need-returns-2
-returns-2 c = ?
+returns-2 c = record-due _ _ _ _ _ _ (c .before .before .before .before .before .before .pieces .ensures) (c .before .before .before .before .before .order-met .ensures) (c .before .before .before .before .ahead-of .ensures) (not-false _ (c .before .before .before .if1 .left)) (c .before .lowest-of .ensures) (c .before .before .beyond-of .ensures) (c .pieces-met .ensures)
 
 pub record-met-spec : {M : Type 1} → statement M
 record-met-spec =

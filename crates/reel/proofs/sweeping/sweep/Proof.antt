@@ -1,4 +1,7 @@
 use borrow.Author.Needs.{needs}
+use mathlib.Core.Path.{_≡_, refl, _∙_}
+use Rattle.reel.proofs.Sweeps.{sweep-done, sweep-turn}
+use Rattle.tape.specs.Sweep.{sweptBelow, sweptFrom, sweptOn}
 use native.Mathlib.Omega.{arith}
 use Rattle.reel.proofs.sweeping.sweep.Statement.{statement}
 use Rattle.reel.proofs.sweeping.sweep.Tie as tie
@@ -7,14 +10,15 @@ use Rattle.reel.proofs.sweeping.sweep.Lts as lts
 use Rattle.reel.proofs.passing.pass.Reads as pass-reads
 
 abbrev Inv-loop : tie.InvT-loop
-Inv-loop reel e p₀ turns₀ p turns = ?
+Inv-loop reel e p₀ turns₀ p turns = sweptFrom turns reel p e ≡ sweptBelow reel e
 
 abbrev μ-loop : tie.MeasureT-loop
-μ-loop reel e p₀ turns₀ p turns = ?
+μ-loop reel e p₀ turns₀ p turns = turns
 
 -- src/sweeping.rt:13:5
 loop-holds : tie.Need-loop-holds Inv-loop μ-loop
-loop-holds c = search needs
+unfolding sweptBelow
+loop-holds c = refl
 
 -- src/sweeping.rt:14:9
 sub-turns : tie.Need-sub-turns Inv-loop μ-loop
@@ -34,7 +38,8 @@ loop-less c = search needs
 
 -- src/sweeping.rt:13:5
 loop-again : tie.Need-loop-again Inv-loop μ-loop
-loop-again c = search needs
+unfolding sweptOn
+loop-again c = sweep-turn _ _ _ _ (c .before .before .before .before .loop-test .taken) (c .before .before .before .pass .ensures) (rw (c .before .q .given .1)) ∙ c .before .before .before .before .before .loop .inv
 
 -- src/sweeping.rt:17:23
 enum-known-q-2 : tie.Need-enum-known-q-2 Inv-loop μ-loop
@@ -46,7 +51,8 @@ loop-less-2 c = search needs
 
 -- src/sweeping.rt:13:5
 loop-again-2 : tie.Need-loop-again-2 Inv-loop μ-loop
-loop-again-2 c = search needs
+unfolding sweptOn
+loop-again-2 c = sweep-turn _ _ _ _ (c .before .before .before .before .loop-test .taken) (c .before .before .before .pass .ensures) (rw (c .before .q2 .given .1)) ∙ c .before .before .before .before .before .loop .inv
 
 -- src/sweeping.rt:18:22
 enum-known-q-3 : tie.Need-enum-known-q-3 Inv-loop μ-loop
@@ -58,7 +64,8 @@ loop-less-3 c = search needs
 
 -- src/sweeping.rt:13:5
 loop-again-3 : tie.Need-loop-again-3 Inv-loop μ-loop
-loop-again-3 c = search needs
+unfolding sweptOn
+loop-again-3 c = sweep-turn _ _ _ _ (c .before .before .before .before .loop-test .taken) (c .before .before .before .pass .ensures) (rw (c .before .q3 .given .1)) ∙ c .before .before .before .before .before .loop .inv
 
 -- src/sweeping.rt:19:29
 enum-told : tie.Need-enum-told Inv-loop μ-loop
@@ -66,7 +73,8 @@ enum-told c = search needs
 
 -- src/sweeping.rt:19:29
 returns : tie.Need-returns Inv-loop μ-loop
-returns c = search needs
+unfolding sweptOn
+returns c = sweep-turn _ _ _ _ (c .before .before .before .loop-test .taken) (c .before .before .pass .ensures) (rw (c .enum-told .given .1)) ∙ c .before .before .before .before .loop .inv
 
 -- src/sweeping.rt:20:22
 enum-known-k : tie.Need-enum-known-k Inv-loop μ-loop
@@ -74,11 +82,12 @@ enum-known-k c = search needs
 
 -- src/sweeping.rt:20:28
 returns-2 : tie.Need-returns-2 Inv-loop μ-loop
-returns-2 c = search needs
+unfolding sweptOn
+returns-2 c = sweep-turn _ _ _ _ (c .before .before .before .before .loop-test .taken) (c .before .before .before .pass .ensures) (rw (c .before .k .given .1)) ∙ c .before .before .before .before .before .loop .inv
 
 -- src/sweeping.rt:8:1
 returns-3 : tie.Need-returns-3 Inv-loop μ-loop
-returns-3 c = search needs
+returns-3 c = sweep-done _ _ _ _ (c .loop-test .left) ∙ c .before .loop .inv
 
 pub sweep-spec : {M : Type 1} → statement M
 sweep-spec =
