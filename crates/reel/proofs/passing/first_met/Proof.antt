@@ -1,19 +1,15 @@
+-- `first_met` meets its contract: in reverse a block lies ahead, so that p is not 0.
 use borrow.Author.Needs.{needs}
 use native.Mathlib.Omega.{arith}
 use Rattle.reel.proofs.passing.first_met.Statement.{statement}
 use Rattle.reel.proofs.passing.first_met.Tie as tie
-use Rattle.reel.proofs.passing.first_met.Reads as reads
-use Rattle.reel.proofs.passing.first_met.Lts as lts
 
--- src/passing.rt:24:18
 sub-result : tie.Need-sub-result
 sub-result c = omega (arith, rw (c .if1 .taken) at (c .before .pre))
 
--- src/passing.rt:20:1
 returns : tie.Need-returns
 returns c = rw (c .if1 .taken)
 
--- src/passing.rt:20:1
 returns-2 : tie.Need-returns-2
 returns-2 c = search needs
 

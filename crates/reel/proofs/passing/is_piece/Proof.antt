@@ -1,42 +1,33 @@
+-- `is_piece` meets its contract, by what the block is.
 use borrow.Author.Needs.{needs}
 use Rattle.tape.specs.Pass.{isPiece}
 use Rattle.reel.proofs.passing.is_piece.Statement.{statement}
 use Rattle.reel.proofs.passing.is_piece.Tie as tie
-use Rattle.reel.proofs.passing.is_piece.Reads as reads
-use Rattle.reel.proofs.passing.is_piece.Lts as lts
 
--- src/passing.rt:52:22
 enum-known-b : tie.Need-enum-known-b
 enum-known-b c = search needs
 
--- src/passing.rt:53:24
 enum-told : tie.Need-enum-told
 enum-told c = search needs
 
--- src/passing.rt:54:23
 enum-told-2 : tie.Need-enum-told-2
 enum-told-2 c = search needs
 
--- src/passing.rt:55:27
 enum-told-3 : tie.Need-enum-told-3
 enum-told-3 c = search needs
 
--- src/passing.rt:48:1
 returns : tie.Need-returns
 unfolding isPiece
 returns c = rw (c .before .b .given .1)
 
--- src/passing.rt:48:1
 returns-2 : tie.Need-returns-2
 unfolding isPiece
 returns-2 c = rw (c .enum-told .given .1)
 
--- src/passing.rt:48:1
 returns-3 : tie.Need-returns-3
 unfolding isPiece
 returns-3 c = rw (c .enum-told2 .given .1)
 
--- src/passing.rt:48:1
 returns-4 : tie.Need-returns-4
 unfolding isPiece
 returns-4 c = rw (c .enum-told3 .given .1)

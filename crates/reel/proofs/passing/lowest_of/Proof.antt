@@ -1,19 +1,15 @@
+-- `lowest_of` meets its contract: in reverse the blocks lie ahead, so that block 0 is not passed.
 use borrow.Author.Needs.{needs}
 use native.Mathlib.Omega.{arith}
 use Rattle.reel.proofs.passing.lowest_of.Statement.{statement}
 use Rattle.reel.proofs.passing.lowest_of.Tie as tie
-use Rattle.reel.proofs.passing.lowest_of.Reads as reads
-use Rattle.reel.proofs.passing.lowest_of.Lts as lts
 
--- src/passing.rt:38:18
 sub-result : tie.Need-sub-result
 sub-result c = omega (arith, rw (c .if1 .taken) at (c .before .pre))
 
--- src/passing.rt:34:1
 returns : tie.Need-returns
 returns c = rw (c .if1 .taken)
 
--- src/passing.rt:34:1
 returns-2 : tie.Need-returns-2
 returns-2 c = search needs
 
