@@ -2,7 +2,7 @@
 use mathlib.Core.Path.{_≡_, refl}
 use mathlib.Core.Bool.{Bool, true, false, _&&_, and-eq-true-iff}
 use mathlib.Core.List.{List}
-use Prim.Native.Nat.{ℕ, _≤_, _<_}
+use Prim.Native.Nat.{ℕ}
 use native.Mathlib.Omega.{arith}
 use borrow.Author.Tests.{eqb-true, eqb-false, leb-true}
 use lib.Dec.{eqb, leb}
@@ -22,6 +22,7 @@ pick-second : {A : Type 0} (t : Bool) (a o r : A) → pick t a o ≡ r → (a �
 pick-second true a o r e f = absurd (f e)
 pick-second false a o r e f = (refl, e)
 
+-- the words of a block that is right, and what is right about it
 pub record Accepted (b : List ℕ) (k n i : ℕ) : Type 0 where
   pub kind : wordAt b 0 ≡ k
   pub size : wordAt b 2 ≡ n

@@ -1,10 +1,10 @@
 -- What a laid block looks like: its size, its three words, its data, and that it is made of bytes.
-use mathlib.Core.Path.{_≡_, refl}
-use mathlib.Core.List.{List, [], _∷_, _++_, append-assoc}
+use mathlib.Core.Path.{_≡_}
+use mathlib.Core.List.{List, _++_, append-assoc}
 use Prim.Native.Nat.{ℕ, zero, suc, _-_, _≤_, _<_}
 use native.Mathlib.Omega.{arith}
 use lib.ListN.{length, take, drop, replicate, length-append, length-replicate}
-use lib.Seq.{take-append-seam}
+use lib.Seq.{take-append-seam, take-at}
 use Rattle.lists.proofs.Bytes.{bytes-append}
 use Rattle.lists.proofs.Sums.{word-back}
 use Rattle.lists.specs.Words.{wordAt, wordBytes, Bytes}
@@ -53,6 +53,12 @@ module _ (k n i : ℕ) (d : List ℕ) where
   pub block-data : length d ≤ dataBytes → take (length d) (drop headBytes (blockOf k n i d)) ≡ d
   unfolding blockOf bodyOf
   block-data _ = front d (replicate (dataBytes - length d) 0) (wordBytes (checkOf (bodyOf k n i d)))
+
+  -- all 504 data bytes, the unused ones too
+  pub block-field : length d ≤ dataBytes → take dataBytes (drop headBytes (blockOf k n i d)) ≡ d ++ replicate (dataBytes - length d) 0
+  unfolding blockOf bodyOf
+  block-field h =
+      take-at (d ++ replicate (dataBytes - length d) 0) (wordBytes (checkOf (bodyOf k n i d))) dataBytes (rw (length-append, length-replicate) (omega arith))
 
   bytes-body : Bytes d → k < 65536 → n < 65536 → i < 65536 → Bytes (bodyOf k n i d)
   unfolding bodyOf

@@ -5,4 +5,5 @@ pub mod Accepted
 pub mod Rebuilt
 pub mod ReadBlocks
 pub mod Runs
+pub mod PieceRun
 pub mod Recorded

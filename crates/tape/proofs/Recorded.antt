@@ -1,13 +1,18 @@
 -- The bytes of a record on the reel: how many, where each run of them lies, and that a record that stands there is read back.
-use mathlib.Core.Path.{_≡_, refl, ap, sym, _∙_}
-use mathlib.Core.List.{List, [], _∷_, _++_}
-use Prim.Native.Nat.{ℕ, zero, suc, _+_, _*_, _/_, _%_, _≤_, _<_}
+use mathlib.Core.Path.{_≡_, refl, ap, _∙_}
+use mathlib.Core.List.{List, _++_, append-assoc, append-nil}
+use Prim.Native.Nat.{ℕ, zero, suc, _+_, _-_, _*_, _/_, _%_, _≤_, _<_}
+use native.Mathlib.Nat.{zero-sub}
 use native.Mathlib.Omega.{arith}
-use lib.ListN.{length, take, drop, length-drop}
-use lib.Seq.{drop-drop, length-take-le}
+use lib.ListN.{length, take, drop, length-drop, length-take, replicate}
+use lib.Seq.{drop-drop, length-take-le, take-add, take-all, take-append-seam}
+use Rattle.tape.proofs.Blocks.{block-field}
+use Rattle.tape.proofs.PieceRun.{part-stands}
 use Rattle.tape.proofs.Runs.{length-run, part-of-front, part-of-run, run}
 use Rattle.tape.specs.Bytes.{dataBelow, recordBytes}
-use Rattle.tape.specs.Numbers.{blockBytes, dataBytes, headBytes, piecesOf}
+use Rattle.tape.specs.Layout.{pieceKind}
+use Rattle.tape.specs.Numbers.{blockBytes, dataBytes, headBytes, piecesOf, recordLimit}
+use Rattle.tape.specs.Objects.{StandsAt, pieceOf, record-of}
 
 -- the data bytes of block p + j
 abbrev dataOf : List ℕ → ℕ → ℕ → List ℕ
@@ -43,3 +48,29 @@ module _ (s : List ℕ) (p n : ℕ) (h : blockBytes * (p + piecesOf n) ≤ lengt
       part-of-front (suc c) i n (dataBelow s p (piecesOf n)) l
       ∙ ap (λ (j : ℕ). take (suc c) (drop j (dataBelow s p (piecesOf n)))) e
       ∙ data-part s p (piecesOf n) h (i / dataBytes) (i % dataBytes) (suc c) (omega arith) k
+
+-- the first a bytes of d, filled up with 0, and the next w of them, filled up with 0
+fill-more : (d : List ℕ) (a w : ℕ) → a ≤ length d → take a d ++ replicate (a - length d) 0 ++ (take w (drop a d) ++ replicate (w - length (take w (drop a d))) 0) ≡ take (a + w) d ++ replicate (a + w - length d) 0
+fill-more d a w h =
+    let none : a - length d ≡ 0 = omega arith in
+    let rest : w - length (take w (drop a d)) ≡ a + w - length d = rw (length-take, length-drop) (omega arith) in
+    rw (none, append-nil, rest, ← append-assoc, take-add a w d)
+
+module _ (s : List ℕ) (p : ℕ) (d : List ℕ) (e : StandsAt s p (record-of d)) where
+  piece-stands : (j : ℕ) → j < piecesOf (length d) → dataOf s p j ≡ take dataBytes (drop (dataBytes * j) d) ++ replicate (dataBytes - length (take dataBytes (drop (dataBytes * j) d))) 0
+  unfolding pieceOf
+  piece-stands j l =
+      part-stands d s p j headBytes dataBytes e l (omega arith)
+      ∙ block-field pieceKind (length d) j (take dataBytes (drop (dataBytes * j) d)) (rw length-take (omega arith))
+
+  data-stands : (m : ℕ) → m ≤ piecesOf (length d) → dataBelow s p m ≡ take (dataBytes * m) d ++ replicate (dataBytes * m - length d) 0
+  unfolding dataBelow
+  data-stands zero l = rw zero-sub
+  data-stands (suc m) l =
+      let next : dataBytes * suc m ≡ dataBytes * m + dataBytes = omega arith in
+      rw (data-stands m (omega arith), piece-stands m l, next) (fill-more d (dataBytes * m) dataBytes (omega arith))
+
+  pub record-stands : 1 ≤ length d → length d ≤ recordLimit → recordBytes s p (length d) ≡ d
+  unfolding recordBytes
+  record-stands _ _ =
+      rw (data-stands (piecesOf (length d)) (omega arith), take-all (dataBytes * piecesOf (length d)) d (omega arith)) (take-append-seam d _)
