@@ -7,7 +7,7 @@ ghost use mathlib.Core.Path.{_≡_};
 ghost use Prim.Native.Nat.{_+_, _%_, _<_, _≤_};
 ghost use lib.ListN.{length};
 ghost use Rattle.lists.specs.Places.{gathered};
-ghost use Rattle.tape.specs.Layout.{blockOf, bodyOf};
+ghost use Rattle.tape.specs.Layout.{blockOf};
 
 // The block of kind k, with n and i, whose data are the `used` bytes at the places from address a on.
 pub fn lay_block(

@@ -1,0 +1,51 @@
+-- The stores that lay a block come to the block: its words, its data and its padding join into one run, and the check closes it.
+use mathlib.Core.List.{List, _++_}
+use mathlib.Core.Path.{_≡_, _∙_}
+use Prim.Native.Nat.{ℕ, _+_, _-_, _%_, _≤_}
+use native.Mathlib.Omega.{arith}
+use borrow.Rule.Slice.PartMut.{putMid}
+use lib.ListN.{length, take, drop, replicate, length-append, length-drop, length-replicate}
+use lib.Seq.{sets, length-sets, length-take-le}
+use Rattle.lists.specs.Words.{wordBytes, wordSum}
+use Rattle.lists.proofs.Stores.{put-sets, sets-at, sets-more, sets-part, sets-whole}
+use Rattle.tape.specs.Layout.{blockOf, bodyOf, checkOf}
+
+-- a lent part that a call fills with as many bytes as it is long
+filled : (f : ℕ → List ℕ) → ((m : ℕ) → length (f m) ≡ m) → (b g : List ℕ) (a e : ℕ) → a ≤ e → e ≤ length b → g ≡ f (length (take (e - a) (drop a b))) → putMid a (e - a) b g ≡ sets b a (f (e - a))
+filled f l b g a e h k p =
+    let q : length (take (e - a) (drop a b)) ≡ e - a = length-take-le (e - a) (drop a b) (rw length-drop (omega arith)) in
+    rw (p, q) (put-sets a (e - a) b (f (e - a)) (l (e - a)) (omega arith))
+
+-- three words, the data, and zeros up to the check are one run
+joined : (b d : List ℕ) (k n i : ℕ) → sets (sets (sets (sets (sets b 0 (wordBytes k)) 2 (wordBytes n)) 4 (wordBytes i)) 6 d) (6 + length d) (replicate (504 - length d) 0) ≡ sets b 0 (bodyOf k n i d)
+unfolding bodyOf
+joined b d k n i = sets-more d (replicate (504 - length d) 0) (sets (sets (sets b 0 (wordBytes k)) 2 (wordBytes n)) 4 (wordBytes i)) 6
+
+-- the bytes before the check, from b₀ on: words, then the data g in one lent part, then zeros z in the next
+module _ (b₀ b₁ b₂ b₃ g z : List ℕ) (k n i used : ℕ) (f : ℕ → List ℕ) (l : (m : ℕ) → length (f m) ≡ m) (long : length b₀ ≡ 512) (low : used ≤ 504) where
+  pub body-laid : b₁ ≡ sets b₀ 0 (wordBytes k) → b₂ ≡ sets b₁ 2 (wordBytes n) → b₃ ≡ sets b₂ 4 (wordBytes i) → g ≡ f (length (take (6 + used - 6) (drop 6 b₃))) → z ≡ replicate (length (take (510 - (6 + used)) (drop (6 + used) (putMid 6 (6 + used - 6) b₃ g)))) 0 → putMid (6 + used) (510 - (6 + used)) (putMid 6 (6 + used - 6) b₃ g) z ≡ sets b₀ 0 (bodyOf k n i (f used))
+  body-laid e₁ e₂ e₃ e₄ e₅ =
+      let l₃ : length b₃ ≡ 512 = rw (e₃, length-sets, e₂, length-sets, e₁, length-sets) long in
+      let u : 6 + used - 6 ≡ used = omega arith in
+      let v : 510 - (6 + used) ≡ 504 - used = omega arith in
+      let p = filled f l b₃ g 6 (6 + used) (omega arith) (omega arith) e₄ in
+      let l₄ : length (putMid 6 (6 + used - 6) b₃ g) ≡ 512 = rw (p, length-sets) l₃ in
+      let q = filled (λ m. replicate m 0) (λ m. length-replicate m 0) (putMid 6 (6 + used - 6) b₃ g) z (6 + used) 510 (omega arith) (omega arith) e₅ in
+      cc (joined b₀ (f used) k n i, l used)
+
+length-body : (k n i : ℕ) (d : List ℕ) → length d ≤ 504 → length (bodyOf k n i d) ≡ 510
+unfolding bodyOf
+length-body k n i d h = simp (length-append, length-replicate) (omega arith)
+
+-- the check word goes behind whatever 510 bytes were laid
+sealed : (b body : List ℕ) → length b ≡ 512 → length body ≡ 510 → sets (sets b 0 body) 510 (wordBytes (wordSum (take 510 (sets b 0 body)) % 65535)) ≡ body ++ wordBytes (checkOf body)
+unfolding checkOf
+sealed b body h e =
+    let t : take 510 (sets b 0 body) ≡ body = rw (← e) (sets-part body b 0 (omega arith)) in
+    rw t (sets-at body (wordBytes (wordSum body % 65535)) b 0 510 (omega arith) ∙ sets-whole (body ++ wordBytes (wordSum body % 65535)) b (simp length-append (omega arith)))
+
+-- the check of b₅, stored into it
+module _ (b₀ b₅ b₆ d : List ℕ) (k n i s : ℕ) (long : length b₀ ≡ 512) (low : length d ≤ 504) where
+  pub block-laid : b₅ ≡ sets b₀ 0 (bodyOf k n i d) → s ≡ wordSum (take 510 b₅) → b₆ ≡ sets b₅ 510 (wordBytes (s % 65535)) → b₆ ≡ blockOf k n i d
+  unfolding blockOf
+  block-laid e p q = rw (q, p, e) (sealed b₀ (bodyOf k n i d) long (length-body k n i d low))

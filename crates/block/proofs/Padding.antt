@@ -1,0 +1,50 @@
+-- Padding by sums: bytes are all 0 just where the sum of their words is, and a byte that shares its word with data is looked at alone.
+use mathlib.Core.Bool.{_&&_, _||_, and-true}
+use mathlib.Core.List.{List, [], _∷_}
+use mathlib.Core.Path.{_≡_, refl, _∙_}
+use Prim.Native.Nat.{ℕ, zero, suc, _+_, _*_, _/_, _%_, _≤_}
+use native.Mathlib.Omega.{arith}
+use borrow.Author.Tests.{ne-eqb}
+use lib.Dec.{eqb}
+use lib.ListN.{length, take, drop, getD}
+use lib.Seq.{slice-cons}
+use Rattle.lists.specs.Words.{wordSum}
+use Rattle.tape.specs.Reading.{paddingRight, zeros}
+
+-- a sum is 0 just where each of its parts is
+word-zero : (a b s : ℕ) → (eqb a 0 && (eqb b 0 && eqb s 0)) ≡ eqb (a + 256 * b + s) 0
+word-zero zero zero zero = refl
+word-zero (suc a) b s = simp (ne-eqb (suc a) 0 (λ e. omega arith), ne-eqb (suc a + 256 * b + s) 0 (λ e. omega arith))
+word-zero zero (suc b) s = simp (ne-eqb (suc b) 0 (λ e. omega arith), ne-eqb (0 + 256 * suc b + s) 0 (λ e. omega arith))
+word-zero zero zero (suc s) = simp (ne-eqb (suc s) 0 (λ e. omega arith), ne-eqb (0 + 256 * 0 + suc s) 0 (λ e. omega arith))
+
+pub zeros-sum : (l : List ℕ) → zeros l ≡ eqb (wordSum l) 0
+unfolding zeros wordSum
+zeros-sum [] = refl
+zeros-sum (a ∷ []) = and-true (eqb a 0)
+zeros-sum (a ∷ (b ∷ r)) = rw (zeros-sum r) (word-zero a b (wordSum r))
+
+-- how many words hold the head and the data: an odd last byte counts as a word
+abbrev pub wordsWith : ℕ → ℕ
+wordsWith used = 3 + (used + 1) / 2
+
+module _ (b : List ℕ) (used : ℕ) (long : 510 ≤ length b) (low : used ≤ 504) where
+  even : used % 2 ≡ 0 → paddingRight b used ≡ zeros (drop (2 * wordsWith used) (take 510 b))
+  unfolding paddingRight
+  even e =
+      let p : 6 + used ≡ 2 * wordsWith used = omega arith in
+      rw p
+
+  odd : used % 2 ≡ 1 → paddingRight b used ≡ (eqb (getD b (6 + used) 0) 0 && zeros (drop (2 * wordsWith used) (take 510 b)))
+  unfolding paddingRight zeros
+  odd e =
+      let p : 2 * wordsWith used ≡ suc (6 + used) = omega arith in
+      rw (p, slice-cons (6 + used) 510 b 0 (omega arith) long)
+
+  by-rest : (m : ℕ) → used % 2 ≡ m → paddingRight b used ≡ ((eqb (used % 2) 0 || eqb (getD b (6 + used) 0) 0) && zeros (drop (2 * wordsWith used) (take 510 b)))
+  by-rest zero e = even e ∙ rw e
+  by-rest (suc zero) e = odd e ∙ rw e
+  by-rest (suc (suc m)) e = absurd (omega arith)
+
+  pub padding-sum : paddingRight b used ≡ ((eqb (used % 2) 0 || eqb (getD b (6 + used) 0) 0) && eqb (wordSum (drop (2 * wordsWith used) (take 510 b))) 0)
+  padding-sum = by-rest (used % 2) refl ∙ rw (zeros-sum (drop (2 * wordsWith used) (take 510 b)))
