@@ -1,5 +1,5 @@
 -- Laws of laying a record: a piece is laid from the bytes gathered for it alone, and joins the pieces before it.
-use mathlib.Core.Path.{_≡_, refl, ap}
+use mathlib.Core.Path.{_≡_, ap}
 use mathlib.Core.Bool.{Bool}
 use mathlib.Core.List.{List, _∷_}
 use Prim.Native.Nat.{ℕ, zero, suc, _+_, _-_, _*_, _≤_, min}
@@ -7,7 +7,7 @@ use native.Mathlib.Nat.{add-sub-cancel-left, min-zero, zero-min, suc-min-suc}
 use native.Mathlib.Numerals.{add-one}
 use native.Mathlib.Omega.{arith}
 use borrow.Rule.Slice.PartMut.{putMid}
-use lib.ListN.{length, take, drop, getD, length-append, length-take}
+use lib.ListN.{length, take, getD}
 use lib.Seq.{sets}
 use Rattle.lists.specs.Places.{gathered, place}
 use Rattle.lists.proofs.Placed.{gathered-drop, length-gathered}
@@ -15,7 +15,7 @@ use Rattle.lists.proofs.Stores.{put-sets, sets-at}
 use Rattle.tape.specs.Layout.{blockOf}
 use Rattle.tape.specs.Numbers.{piecesOf}
 use Rattle.tape.specs.Objects.{imageOf, pieceOf, piecesTo, record-of}
-use Rattle.tape.proofs.Blocks.{length-block}
+use Rattle.tape.proofs.PieceRun.{length-pieces}
 
 -- the block t that was lent at `at` comes back as b
 pub part-laid : (l t b : List ℕ) (at : ℕ) → length b ≡ 512 → at + 512 ≤ length l → t ≡ b → putMid at (at + 512 - at) l t ≡ sets l at b
@@ -32,15 +32,6 @@ gathered-front w m a (suc c) (suc n) = rw suc-min-suc (ap (λ (l : List ℕ). ge
 pub piece-laid : (w : Bool) (m b : List ℕ) (a n i used : ℕ) → 504 * i ≤ n → used ≡ min (n - 504 * i) 504 → b ≡ blockOf 1 n i (gathered w m (a + 504 * i) used) → b ≡ pieceOf (gathered w m a n) i
 unfolding pieceOf
 piece-laid w m b a n i used h e q = rw (q, e, length-gathered w m a n, gathered-drop w m a (504 * i) n h, gathered-front w m (a + 504 * i) 504 (n - 504 * i))
-
-pub length-piece : (d : List ℕ) (i : ℕ) → length (pieceOf d i) ≡ 512
-unfolding pieceOf
-length-piece d i = length-block 1 (length d) i (take 504 (drop (504 * i) d)) (rw length-take (omega arith))
-
-length-pieces : (d : List ℕ) (m : ℕ) → length (piecesTo d m) ≡ 512 * m
-unfolding piecesTo
-length-pieces d zero = refl
-length-pieces d (suc m) = rw (length-append, length-piece d m, length-pieces d m) (omega arith)
 
 -- one turn of the loop of `lay_record`
 pub pieces-more : (l d : List ℕ) (p i : ℕ) → sets (sets l (512 * p) (piecesTo d i)) (512 * (p + i)) (pieceOf d i) ≡ sets l (512 * p) (piecesTo d (i + 1))

@@ -31,21 +31,23 @@ copy-more w m m′ m″ s a p n from done c h k l e f =
     (run-more w m (recordBytes s p n) a from done c (omega (arith, record-length s p n l)))
 
 -- a count beyond the length takes no more than the length
-take-least : (c : ℕ) (d : List ℕ) → take (min (length d) c) d ≡ take c d
-take-least zero d = rw min-zero
-take-least (suc c) [] = rw zero-min
-take-least (suc c) (x ∷ d) = rw suc-min-suc (ap (λ (l : List ℕ). x ∷ l) (take-least c d))
+take-least : (c n : ℕ) (d : List ℕ) → length d ≡ n → take (min n c) d ≡ take c d
+take-least zero n d e = rw min-zero
+take-least (suc c) n [] e = rw (← e, zero-min)
+take-least (suc c) n (x ∷ d) e = rw (← e, suc-min-suc) (ap (λ (l : List ℕ). x ∷ l) (take-least c (length d) d refl))
 
--- what a Read moves of the record d of n bytes, and where to: memory m′ after it
-module _ (r w : Bool) (m m′ d : List ℕ) (pointer count n moved : ℕ) (long : length d ≡ n) (few : moved ≡ min n count) where
-  pub read-forward : r ≡ false → m′ ≡ placed w m pointer (take moved (drop 0 d)) → m′ ≡ readInto r w m pointer count d
+-- what a Read moves of the record of n bytes at block p, and where to: memory m′ after it
+module _ (r w : Bool) (m m′ s : List ℕ) (p n pointer count moved : ℕ) (room : 512 * (p + piecesOf n) ≤ length s) (few : moved ≡ min n count) where
+  pub read-forward : r ≡ false → m′ ≡ placed w m pointer (take moved (recordBytes s p n)) → m′ ≡ readInto r w m pointer count (recordBytes s p n)
   unfolding readInto movedTo movedBytes
-  read-forward e p = rw (p, e, few, ← long, take-least count d)
+  read-forward e q = rw (q, e, few, take-least count n (recordBytes s p n) (record-length s p n room))
 
-  pub read-reverse : r ≡ true → m′ ≡ placed w m (pointer + (count - moved)) (take moved (drop (n - moved) d)) → m′ ≡ readInto r w m pointer count d
+  pub read-reverse : r ≡ true → m′ ≡ placed w m (pointer + (count - moved)) (take moved (drop (n - moved) (recordBytes s p n))) → m′ ≡ readInto r w m pointer count (recordBytes s p n)
   unfolding readInto movedTo movedBytes
-  read-reverse e p =
+  read-reverse e q =
+      let d = recordBytes s p n in
+      let long : length d ≡ n = record-length s p n room in
       let f : n - moved ≡ length d - count = omega arith in
       let g : count - moved ≡ count - length d = omega arith in
       let h : length (drop (length d - count) d) ≤ moved = rw length-drop (omega arith) in
-      rw (p, e, f, g, take-all moved (drop (length d - count) d) h)
+      rw (q, e, f, g, take-all moved (drop (length d - count) d) h)

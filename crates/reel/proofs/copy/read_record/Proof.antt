@@ -1,6 +1,5 @@
 -- `read_record` meets its contract: each way, the bytes that are copied out are those that the Read moves.
 use borrow.Author.Needs.{needs}
-use Rattle.tape.proofs.Recorded.{record-length}
 use Rattle.reel.proofs.Moved.{read-forward, read-reverse}
 use Rattle.reel.proofs.copy.read_record.Statement.{statement}
 use Rattle.reel.proofs.copy.read_record.Tie as tie
@@ -28,20 +27,20 @@ same-length c = search needs
 
 returns : tie.Need-returns
 returns c =
-    let start = c .before .before .before .before .before .before .before .before in
+    let room = c .before .before .before .before .before .before .before .before .pre .0 in
     let few = c .before .before .before .before .before .least .ensures in
     let way = c .before .before .before .before .if1 .taken in
-    read-reverse _ _ _ _ _ _ _ _ _ (record-length _ _ _ (start .pre .0)) few way (c .before .before .copy-out .ensures)
+    read-reverse _ _ _ _ _ _ _ _ _ _ room few way (c .before .before .copy-out .ensures)
 
 same-length-2 : tie.Need-same-length-2
 same-length-2 c = search needs
 
 returns-2 : tie.Need-returns-2
 returns-2 c =
-    let start = c .before .before .before .before .before .before .before .before in
+    let room = c .before .before .before .before .before .before .before .before .pre .0 in
     let few = c .before .before .before .before .before .least .ensures in
     let way = c .before .before .before .before .if1 .left in
-    read-forward _ _ _ _ _ _ _ _ _ (record-length _ _ _ (start .pre .0)) few way (c .before .before .copy-out2 .ensures)
+    read-forward _ _ _ _ _ _ _ _ _ _ room few way (c .before .before .copy-out2 .ensures)
 
 pub read-record-spec : {M : Type 1} → statement M
 read-record-spec =

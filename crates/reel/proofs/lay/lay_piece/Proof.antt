@@ -1,7 +1,8 @@
 -- `lay_piece` meets its contract: the bytes gathered for the piece are the record's.
 use borrow.Author.Needs.{needs}
 use native.Mathlib.Omega.{arith}
-use Rattle.reel.proofs.Laid.{length-piece, part-laid, piece-laid}
+use Rattle.tape.proofs.PieceRun.{length-piece}
+use Rattle.reel.proofs.Laid.{part-laid, piece-laid}
 use Rattle.reel.proofs.lay.lay_piece.Statement.{statement}
 use Rattle.reel.proofs.lay.lay_piece.Tie as tie
 

@@ -6,7 +6,7 @@ use Prim.Native.Nat.{_*_, _≤_, _-_}
 use lib.ListN.{length}
 use lib.Seq.{sets}
 use Rattle.lists.specs.Places.{gathered}
-use Rattle.tape.specs.Objects.{imageOf, piecesTo}
+use Rattle.tape.specs.Objects.{piecesTo}
 use Rattle.reel.proofs.Laid.{pieces-more, pieces-whole}
 use Rattle.reel.proofs.lay.lay_record.Statement.{statement}
 use Rattle.reel.proofs.lay.lay_record.Tie as tie
