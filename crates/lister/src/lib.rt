@@ -48,15 +48,14 @@ fn write_object(image: &[u8], p: usize, e: usize) -> usize {
     }
 }
 
-// A line for each object of a whole image, then its end. Each object takes a block or more, so e turns are enough.
-fn write_whole(image: &[u8], e: usize) {
+// A line for each object of a whole image. Each takes a block or more, so e turns are enough.
+fn write_objects(image: &[u8], e: usize) {
     let mut p: usize = 0;
     let mut turns = e;
     while 0 < turns {
         p = write_object(image, p, e);
         turns -= 1;
     }
-    write_line(b"E ", e);
 }
 
 // The listing of an image.
@@ -69,7 +68,10 @@ pub fn list(image: &[u8]) {
             io::write_all(STDOUT_FILENO, b"S\n");
         }
         Image::Bad(k) => write_line(b"X ", k),
-        Image::Whole(e) => write_whole(image, e),
+        Image::Whole(e) => {
+            write_objects(image, e);
+            write_line(b"E ", e);
+        }
     }
 }
 

@@ -27,10 +27,11 @@ fn copy_out(
     while done < count {
         let i = from + done;
         let off = i % Geometry::DATA;
+        let more = least(Geometry::DATA - off, count - done);
         let start = Geometry::BLOCK * (p + i / Geometry::DATA) + 6 + off;
-        let end = start + least(Geometry::DATA - off, count - done);
+        let end = start + more;
         scatter(&reel[start..end], mem, a + done, swb);
-        done += end - start;
+        done += more;
     }
 }
 

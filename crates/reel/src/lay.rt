@@ -36,9 +36,9 @@ pub fn lay_gap(reel: &mut [u8], p: usize)
     lay_bare(reel, p, 3);
 }
 
-// Piece i of the record of n bytes at the places from address a on.
+// Piece i of the record of n bytes at the places from address a on, for which there is room at block p: it goes to block p + i.
 fn lay_piece(reel: &mut [u8], p: usize, n: usize, i: usize, mem: &[u8], a: usize, swb: bool)
-    requires { ⌜ (512 * (p + i + 1) ≤ length (now reel)) × (504 * i < n) × (n < 65536) × (a + n ≤ length (now mem)) × (length (now mem) % 2 ≡ 0) ⌝ }
+    requires { ⌜ (512 * (p + piecesOf n) ≤ length (now reel)) × (504 * i < n) × (n < 65536) × (a + n ≤ length (now mem)) × (length (now mem) % 2 ≡ 0) ⌝ }
     ensures { λ _. ⌜ now (reel .exit) ≡ sets (now (reel .entry)) (512 * (p + i)) (pieceOf (gathered swb (now (mem .entry)) a n) i) ⌝ }
 {
     let at = Geometry::BLOCK * (p + i);

@@ -64,9 +64,10 @@ fn pieces_met(reel: &[u8], reverse: bool, n: usize, p: usize, m: usize, whole: M
     let mut j: usize = 1;
     while j < m {
         let i = order_met(reverse, m, j);
-        let b = read_block(reel, p + i);
+        let k = p + i;
+        let b = read_block(reel, k);
         if !is_piece(b, n, i) {
-            return Met::Bad(p + i);
+            return Met::Bad(k);
         }
         j += 1;
     }

@@ -11,6 +11,7 @@ pub fn sweep(reel: &[u8], e: usize) -> Swept
     let mut p: usize = 0;
     let mut turns = e;
     while 0 < turns {
+        turns -= 1;
         match crate::pass(reel, false, p, e) {
             Met::Record(_, q) => p = q,
             Met::Mark(q) => p = q,
@@ -18,7 +19,6 @@ pub fn sweep(reel: &[u8], e: usize) -> Swept
             Met::Nothing => return Swept::Whole,
             Met::Bad(k) => return Swept::Bad(k),
         }
-        turns -= 1;
     }
     Swept::Whole
 }

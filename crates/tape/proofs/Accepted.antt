@@ -14,7 +14,7 @@ use Rattle.tape.specs.declared.Block.{Block}
 use Rattle.tape.specs.declared.Block.the-variants as block
 
 -- which way a choice went, if its answer is not that of the other way
-pick-first : {A : Type 0} (t : Bool) (a o r : A) → pick t a o ≡ r → (o ≡ r → ⊥) → (t ≡ true) × (a ≡ r)
+pub pick-first : {A : Type 0} (t : Bool) (a o r : A) → pick t a o ≡ r → (o ≡ r → ⊥) → (t ≡ true) × (a ≡ r)
 pick-first true a o r e f = (refl, e)
 pick-first false a o r e f = absurd (f e)
 
@@ -42,7 +42,7 @@ accepted b k n i r ek en ei e f =
     (record { kind = ek; size = en; index = ei; head = p .0; padding = s .0; check = s .1 }, q .1)
 
 -- two different answers are never equal: `cc` proves 0 ≡ 1 from them
-clash : _≡_ {A = ℕ} 0 1 → ⊥
+pub clash : _≡_ {A = ℕ} 0 1 → ⊥
 clash e = omega arith
 
 no-piece : (t : Bool) (n i : ℕ) → pick t block.Mark block.Gap ≡ block.Piece n i → ⊥

@@ -12,3 +12,9 @@ pub mod Standing
 pub mod Written
 pub mod Heads
 pub mod OneList
+pub mod Passes
+pub mod Below
+pub mod Parts
+pub mod Gathering
+pub mod Seen
+pub mod Sweeps
