@@ -6,5 +6,7 @@ pub use seeking::Sought;
 pub use seeking::seek;
 pub use spacing::Rule;
 pub use spacing::Spaced;
+pub use spacing::Span;
 pub use spacing::Stop;
+pub use spacing::Turn;
 pub use spacing::space;

@@ -1,5 +1,7 @@
 // Gaps are passed over: the next record or mark, either way.
 use tape::Met;
+ghost use mathlib.Core.Path.{_≡_};
+ghost use Rattle.moves.specs.Seeking.{sought};
 
 // What was found, and the position beyond it; where nothing is left, the position there.
 pub enum Sought {
@@ -9,11 +11,14 @@ pub enum Sought {
     Bad(usize),
 }
 
-// Each gap takes a block, so a turn for each block ahead and one more are enough.
-pub fn seek(reel: &[u8], reverse: bool, p: usize, e: usize) -> Sought {
+// Each gap takes a block, so e turns are enough from a position up to e.
+pub fn seek(reel: &[u8], reverse: bool, p: usize, e: usize) -> Sought
+    ensures { λ r. ⌜ r ≡ sought (now (reel .entry)) reverse p e ⌝ }
+{
     let mut at = p;
     let mut turns = e;
-    loop {
+    while 0 < turns {
+        turns -= 1;
         match reel::pass(reel, reverse, at, e) {
             Met::Record(n, q) => return Sought::Record(n, q),
             Met::Mark(q) => return Sought::Mark(q),
@@ -21,9 +26,6 @@ pub fn seek(reel: &[u8], reverse: bool, p: usize, e: usize) -> Sought {
             Met::Nothing => return Sought::Nothing(at),
             Met::Bad(k) => return Sought::Bad(k),
         }
-        if turns == 0 {
-            return Sought::Nothing(at);
-        }
-        turns -= 1;
     }
+    Sought::Nothing(at)
 }

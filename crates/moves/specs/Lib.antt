@@ -1,0 +1,4 @@
+-- Motion over objects.
+pub mod Seeking
+pub mod Spacing
+pub mod Between
