@@ -83,11 +83,9 @@ pub fn put_message(mem: &mut [u8], a: usize, m: [u16; 7])
     requires { ⌜ a + 14 ≤ length (now mem) ⌝ }
     ensures { λ _. ⌜ now (mem .exit) ≡ messaged (now (mem .entry)) a m ⌝ }
 {
-    put_word(mem, a, m[0] as usize);
-    put_word(mem, a + 2, m[1] as usize);
-    put_word(mem, a + 4, m[2] as usize);
-    put_word(mem, a + 6, m[3] as usize);
-    put_word(mem, a + 8, m[4] as usize);
-    put_word(mem, a + 10, m[5] as usize);
-    put_word(mem, a + 12, m[6] as usize);
+    let mut i: usize = 0;
+    while i < 7 {
+        put_word(mem, a + 2 * i, m[i] as usize);
+        i += 1;
+    }
 }

@@ -1,0 +1,2 @@
+-- The laws of the words and bytes of a message.
+pub mod Messages
