@@ -6,6 +6,9 @@ use crate::Panel;
 use crate::Registers;
 use crate::Tape;
 use crate::Unit;
+ghost use mathlib.Core.Path.{_≡_};
+ghost use Prim.Native.Nat.{_<_};
+ghost use Rattle.state.specs.Changes.{initialRegisters, initialized, mountedAs, noAttention, noCharacteristics, operated, pointerOf, switchedLine, switchedLock, tsdbWritten};
 
 pub enum Act {
     OnLine,
@@ -14,12 +17,17 @@ pub enum Act {
     Unlock,
 }
 
-fn pointer_of(word: usize) -> usize {
-    word / 4 * 4 + 65536 * (word % 4)
+fn pointer_of(word: u16) -> usize
+    ensures { λ r. ⌜ r ≡ pointerOf word ⌝ }
+{
+    let w = word as usize;
+    w / 4 * 4 + 65536 * (w % 4)
 }
 
 // The characteristics that an initialize leaves.
-fn no_characteristics() -> Characteristics {
+fn no_characteristics() -> Characteristics
+    ensures { λ r. ⌜ r ≡ noCharacteristics ⌝ }
+{
     Characteristics {
         address: 0,
         length: 0,
@@ -29,7 +37,9 @@ fn no_characteristics() -> Characteristics {
     }
 }
 
-fn initial_registers() -> Registers {
+fn initial_registers() -> Registers
+    ensures { λ r. ⌜ r ≡ initialRegisters ⌝ }
+{
     Registers {
         pointer: 0,
         class: 0,
@@ -40,7 +50,9 @@ fn initial_registers() -> Registers {
     }
 }
 
-fn no_attention() -> Attention {
+fn no_attention() -> Attention
+    ensures { λ r. ⌜ r ≡ noAttention ⌝ }
+{
     Attention {
         unit_owns: false,
         pending: false,
@@ -49,34 +61,45 @@ fn no_attention() -> Attention {
 }
 
 // A mounted unit: position 0 and the rest as an initialize leaves it.
-pub fn mounted(end: usize, online: bool, locked: bool, lengths: Lengths) -> Unit {
+pub fn mounted(end: usize, online: bool, locked: bool, lengths: Lengths) -> Unit
+    ensures { λ r. ⌜ r ≡ mountedAs end online locked lengths ⌝ }
+{
+    let tape = Tape { position: 0, end };
+    let registers = initial_registers();
+    let panel = Panel {
+        online,
+        locked,
+        vck: true,
+    };
+    let attention = no_attention();
+    let characteristics = no_characteristics();
     Unit {
-        tape: Tape { position: 0, end },
-        registers: initial_registers(),
-        panel: Panel {
-            online,
-            locked,
-            vck: true,
-        },
-        attention: no_attention(),
-        characteristics: no_characteristics(),
+        tape,
+        registers,
+        panel,
+        attention,
+        characteristics,
         lengths,
     }
 }
 
 impl Unit {
     // A TSDB write: with SSR clear it sets RMR and nothing else.
-    pub fn write_tsdb(mut self, word: usize) -> Unit {
+    pub fn write_tsdb(mut self, word: u16) -> Unit
+        ensures { λ r. ⌜ r ≡ tsdbWritten self word ⌝ }
+    {
         if !self.registers.ssr {
             self.registers.rmr = true;
             return self;
         }
+        let pointer = pointer_of(word);
+        let nba = self.registers.nba;
         let g = Registers {
-            pointer: pointer_of(word),
+            pointer,
             class: 0,
             rmr: false,
             nxm: false,
-            nba: self.registers.nba,
+            nba,
             ssr: false,
         };
         self.registers = g;
@@ -84,22 +107,27 @@ impl Unit {
     }
 
     // A TSSR write initializes. Off line the tape stays where it is.
-    pub fn initialize(mut self) -> Unit {
-        let online = self.panel.online;
-        let position = if online { 0 } else { self.tape.position };
+    pub fn initialize(mut self) -> Unit
+        ensures { λ r. ⌜ r ≡ initialized self ⌝ }
+    {
         let g = initial_registers();
         let a = no_attention();
         let c = no_characteristics();
-        self.tape.position = position;
         self.registers = g;
         self.panel.vck = true;
         self.attention = a;
         self.characteristics = c;
+        if self.panel.online {
+            self.tape.position = 0;
+            return self;
+        }
         self
     }
 
     // Going on or off line makes an attention pending if EAI is set; going on line sets VCK.
-    fn switch_line(mut self, online: bool) -> Unit {
+    fn switch_line(mut self, online: bool) -> Unit
+        ensures { λ r. ⌜ r ≡ switchedLine self online ⌝ }
+    {
         let vck = self.panel.vck | online;
         let pending = self.attention.pending | self.characteristics.eai;
         self.panel.online = online;
@@ -108,8 +136,17 @@ impl Unit {
         self
     }
 
+    fn lock(mut self, on: bool) -> Unit
+        ensures { λ r. ⌜ r ≡ switchedLock self on ⌝ }
+    {
+        self.panel.locked = on;
+        self
+    }
+
     // An act that finds its switch already so raises and sets nothing.
-    pub fn operate(mut self, act: Act) -> Unit {
+    pub fn operate(self, act: Act) -> Unit
+        ensures { λ r. ⌜ r ≡ operated self act ⌝ }
+    {
         match act {
             Act::OnLine => if self.panel.online {
                 self
@@ -121,14 +158,8 @@ impl Unit {
             } else {
                 self
             },
-            Act::Lock => {
-                self.panel.locked = true;
-                self
-            }
-            Act::Unlock => {
-                self.panel.locked = false;
-                self
-            }
+            Act::Lock => self.lock(true),
+            Act::Unlock => self.lock(false),
         }
     }
 }

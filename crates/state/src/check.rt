@@ -1,43 +1,83 @@
 // Refusals 1, 2 and 3 of a step: the state's own numbers, then the lengths of what is lent.
 use crate::Characteristics;
 use crate::Lengths;
+use crate::Registers;
+use crate::Tape;
 use crate::Unit;
+use tape::Geometry;
+ghost use mathlib.Core.Path.{_≡_};
+ghost use Rattle.state.specs.Checks.{blocksRight, bufferWrong, lengthsWrong, memoryRight, refusalOf, registersWrong, stateWrong, tapeWrong};
 
-// "memory: even length, 2 to 262,144 bytes".
-pub fn memory_right(len: usize) -> bool {
-    (len % 2 == 0) & (2 <= len) & (len <= 262144)
+pub const MEMORY_LIMIT: usize = 262144;
+
+pub const POINTER_LIMIT: usize = 262144;
+
+pub const LAST_CLASS: usize = 6;
+
+pub fn memory_right(n: usize) -> bool
+    ensures { λ r. ⌜ r ≡ memoryRight n ⌝ }
+{
+    (n % 2 == 0) & (2 <= n) & (n <= MEMORY_LIMIT)
 }
 
-pub fn blocks_right(blocks: usize) -> bool {
-    (1 <= blocks) & (blocks <= 65536)
+pub fn blocks_right(b: usize) -> bool
+    ensures { λ r. ⌜ r ≡ blocksRight b ⌝ }
+{
+    (1 <= b) & (b <= Geometry::CAPACITY_LIMIT)
 }
 
-// Odd, under 14 bytes or outside the mount's memory. Both numbers are bounded before they are added.
-pub fn buffer_wrong(c: Characteristics, memory: usize) -> bool {
+fn tape_wrong(t: Tape, blocks: usize) -> bool
+    ensures { λ r. ⌜ r ≡ tapeWrong t blocks ⌝ }
+{
+    (t.end < t.position) | (blocks < t.end)
+}
+
+fn registers_wrong(g: Registers) -> bool
+    ensures { λ r. ⌜ r ≡ registersWrong g ⌝ }
+{
+    (POINTER_LIMIT <= g.pointer) | (LAST_CLASS < g.class)
+}
+
+// A difference and no sum: both numbers may be made up.
+pub fn buffer_wrong(c: Characteristics, memory: usize) -> bool
+    ensures { λ r. ⌜ r ≡ bufferWrong c memory ⌝ }
+{
     if memory < c.length {
         return true;
     }
-    (c.address % 2 == 1) | (c.length < 14) | (memory - c.length < c.address)
+    (c.address % 2 == 1) | (c.length < signals::MESSAGE) | (memory - c.length < c.address)
 }
 
-pub fn state_wrong(u: Unit) -> bool {
-    let lengths = (!memory_right(u.lengths.memory)) | (!blocks_right(u.lengths.blocks));
+fn lengths_wrong(l: Lengths) -> bool
+    ensures { λ r. ⌜ r ≡ lengthsWrong l ⌝ }
+{
+    (!memory_right(l.memory)) | (!blocks_right(l.blocks))
+}
+
+// Refusal 1, but for the journal's numbers.
+pub fn state_wrong(u: Unit) -> bool
+    ensures { λ r. ⌜ r ≡ stateWrong u ⌝ }
+{
+    let t = u.tape;
+    let g = u.registers;
     let c = u.characteristics;
-    let buffer = (!u.registers.nba) & buffer_wrong(c, u.lengths.memory);
-    let tape = (u.tape.end < u.tape.position) | (u.lengths.blocks < u.tape.end);
-    let registers = (262143 < u.registers.pointer) | (6 < u.registers.class);
-    tape | registers | buffer | lengths
+    let l = u.lengths;
+    tape_wrong(t, l.blocks)
+        | (registers_wrong(g) | (((!g.nba) & buffer_wrong(c, l.memory)) | lengths_wrong(l)))
 }
 
 // The first of refusals 1, 2, 3 that holds, or 0. The lengths are in bytes.
-pub fn refusal(u: Unit, memory: usize, reel: usize) -> usize {
+pub fn refusal(u: Unit, memory: usize, reel: usize) -> usize
+    ensures { λ r. ⌜ r ≡ refusalOf u memory reel ⌝ }
+{
     if state_wrong(u) {
         return 1;
     }
     if memory != u.lengths.memory {
         return 2;
     }
-    if (reel % 512 != 0) | (reel / 512 != u.lengths.blocks) {
+    let whole = (reel % Geometry::BLOCK == 0) & (reel / Geometry::BLOCK == u.lengths.blocks);
+    if !whole {
         return 3;
     }
     0
