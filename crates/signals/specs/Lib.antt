@@ -3,3 +3,4 @@ pub mod Codes
 pub mod Header
 pub mod Residuals
 pub mod Message
+pub mod Bits

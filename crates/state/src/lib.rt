@@ -5,6 +5,8 @@ mod register;
 
 pub use act::Act;
 pub use act::mounted;
+pub use check::MEMORY_LIMIT;
+pub use check::POINTER_LIMIT;
 pub use check::blocks_right;
 pub use check::buffer_wrong;
 pub use check::memory_right;

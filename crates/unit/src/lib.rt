@@ -1,18 +1,24 @@
-// One TS11-compatible unit: what a step is about to store, as a value, and storing it.
-mod advancing;
-mod early;
-mod plan;
-mod reading;
+// One TS11-compatible unit: what a step is about to store, as a value, then storing it; and the calls without a journal.
+mod commands;
+mod effects;
+mod plans;
+mod reads;
 mod spaces;
-mod storing;
-mod writing;
+mod steps;
+mod stores;
+mod writes;
 
-pub use advancing::plan_advance;
-pub use plan::Answer;
-pub use plan::Laid;
-pub use plan::Moved;
-pub use plan::Plan;
-pub use plan::Ran;
-pub use plan::laid_blocks;
-pub use plan::moved_bytes;
-pub use storing::store;
+pub use effects::Effect;
+pub use effects::Notice;
+pub use effects::Ran;
+pub use plans::Answer;
+pub use plans::Laid;
+pub use plans::Motion;
+pub use plans::Moved;
+pub use plans::Moving;
+pub use plans::Object;
+pub use plans::Plan;
+pub use plans::laid_blocks;
+pub use plans::moved_bytes;
+pub use steps::plan_advance;
+pub use stores::store;

@@ -1,78 +1,134 @@
 // Position: records and marks, forward and in reverse.
-use crate::plan::Ran;
-use crate::plan::end_of;
-use crate::plan::faulty;
-use crate::plan::ran;
+use crate::plans::Motion;
+use crate::plans::Moving;
+use crate::plans::no_lay;
+use crate::plans::no_move;
 use moves::Rule;
 use moves::Spaced;
+use moves::Span;
 use moves::Stop;
 use moves::space;
+use signals::End;
 use signals::MarkCount;
 use signals::RecordCount;
 use signals::Residual;
 use signals::flag;
 use state::Tape;
+ghost use mathlib.Core.Path.{_≡_};
+ghost use Prim.Native.Nat.{_≤_};
+ghost use Rattle.unit.specs.Spaces.{positioned, residualOf, spaceEnd, spaceMotion};
 
-fn residual_of(marks: bool, left: u16) -> Residual {
+fn residual_of(marks: bool, left: u16) -> Residual
+    ensures { λ r. ⌜ r ≡ residualOf marks left ⌝ }
+{
     if marks {
-        Residual::Marks(MarkCount(left))
-    } else {
-        Residual::Records(RecordCount(left))
+        return Residual::Marks(MarkCount(left));
     }
+    Residual::Records(RecordCount(left))
 }
 
-// XST3 of a stage that ran: REV if it ran in reverse.
-fn ended(class: usize, found: u8, xst3: u8, r: Rule, s: Spaced, t: Tape) -> Ran {
-    ran(
-        end_of(class, found, xst3, residual_of(r.marks, s.left)),
-        Tape {
-            position: s.position,
-            end: t.end,
-        },
-    )
-}
-
-fn spaced_end(r: Rule, s: Spaced, t: Tape) -> Ran {
+// How a stop ends the command; RLS if BOT or LET left any count.
+fn space_end(r: Rule, s: Span, stop: Stop) -> End
+    ensures { λ x. ⌜ x ≡ spaceEnd r s stop ⌝ }
+{
+    let residual = residual_of(r.marks, s.left);
     let rev = flag(r.reverse, signals::REV);
     let tmk = flag(s.tmk, signals::TMK);
-    let stop = s.stop;
+    let left = flag(s.left != 0, signals::RLS);
     match stop {
-        Stop::Count => ended(0, tmk, rev, r, s, t),
-        Stop::Mark => ended(2, signals::TMK + signals::RLS, rev, r, s, t),
-        Stop::LogicalEnd => ended(
-            2,
-            tmk + signals::LET + flag(s.left != 0, signals::RLS),
-            rev,
-            r,
-            s,
-            t,
-        ),
-        Stop::Nothing => if r.reverse {
-            ended(2, tmk + signals::RLS, signals::REV + signals::RIB, r, s, t)
-        } else {
-            ended(6, tmk, signals::OPI, r, s, t)
+        Stop::Count => End {
+            class: 0,
+            found: tmk,
+            xst3: rev,
+            residual,
         },
-        Stop::Bad(k) => faulty(k, t),
+        Stop::Mark => End {
+            class: 2,
+            found: signals::TMK + signals::RLS,
+            xst3: rev,
+            residual,
+        },
+        Stop::LogicalEnd => End {
+            class: 2,
+            found: tmk + signals::LET + left,
+            xst3: rev,
+            residual,
+        },
+        Stop::Nothing => if r.reverse {
+            End {
+                class: 2,
+                found: tmk + left,
+                xst3: signals::REV + signals::RIB,
+                residual,
+            }
+        } else {
+            End {
+                class: 6,
+                found: tmk,
+                xst3: signals::OPI,
+                residual,
+            }
+        },
+        Stop::Bad(_) => End {
+            class: 0,
+            found: 0,
+            xst3: 0,
+            residual,
+        },
     }
 }
 
-// A count of 0 moves nothing and no stage runs.
-pub fn position(reel: &[u8], t: Tape, r: Rule, count: u16, enb: bool) -> Ran {
-    if count == 0 {
-        return ran(end_of(0, 0, 0, residual_of(r.marks, 0)), t);
+fn space_motion(r: Rule, x: Spaced, e: usize) -> Motion
+    ensures { λ y. ⌜ y ≡ spaceMotion r x e ⌝ }
+{
+    let stop = x.stop;
+    let span = x.span;
+    if let Stop::Bad(k) = stop {
+        return Motion::Fault(k);
     }
-    let first = enb & (t.position == 0);
-    let s = space(
-        reel,
-        r,
-        t.end,
-        Spaced {
-            position: t.position,
-            left: count,
-            tmk: false,
-            after_mark: first,
-            stop: Stop::Count,
-        },
-    );
-    spaced_end(r, s, t)
+    let end = space_end(r, span, stop);
+    let tape = Tape {
+        position: span.position,
+        end: e,
+    };
+    let moved = no_move();
+    let laid = no_lay();
+    Motion::Ended(Moving {
+        end,
+        tape,
+        moved,
+        laid,
+    })
+}
+
+// A count of 0 moves nothing and no stage runs. With ENB a mark met first from block 0 counts as the second in a row.
+pub fn position(reel: &[u8], t: Tape, r: Rule, count: u16, enb: bool) -> Motion
+    requires { ⌜ t .end ≤ 65536 ⌝ }
+    ensures { λ x. ⌜ x ≡ positioned (now (reel .entry)) t r count enb ⌝ }
+{
+    if count == 0 {
+        let residual = residual_of(r.marks, 0);
+        let end = End {
+            class: 0,
+            found: 0,
+            xst3: 0,
+            residual,
+        };
+        let moved = no_move();
+        let laid = no_lay();
+        return Motion::Ended(Moving {
+            end,
+            tape: t,
+            moved,
+            laid,
+        });
+    }
+    let after_mark = enb & (t.position == 0);
+    let from = Span {
+        position: t.position,
+        left: count,
+        tmk: false,
+        after_mark,
+    };
+    space_motion(r, space(reel, r, t.end, from), t.end)
 }

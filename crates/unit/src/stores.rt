@@ -1,8 +1,8 @@
-// Storing a plan: the reel's blocks, the data, and the message over it.
-use crate::plan::Laid;
-use crate::plan::Moved;
-use crate::plan::Object;
-use crate::plan::Plan;
+// Storing a plan: the reel's blocks, then the data, and the message over it.
+use crate::plans::Laid;
+use crate::plans::Moved;
+use crate::plans::Object;
+use crate::plans::Plan;
 
 fn lay_object(reel: &mut [u8], at: usize, l: Laid, mem: &[u8]) {
     let o = l.object;
@@ -10,7 +10,7 @@ fn lay_object(reel: &mut [u8], at: usize, l: Laid, mem: &[u8]) {
         Object::Nothing => {}
         Object::Mark => reel::lay_mark(reel, at),
         Object::Gap => reel::lay_gap(reel, at),
-        Object::Record => reel::lay_record(reel, at, mem, l.pointer, l.length, l.swb),
+        Object::Record => reel::lay_record(reel, at, mem, l.pointer, l.length as usize, l.swb),
     }
 }
 
@@ -32,7 +32,7 @@ pub fn move_data(reel: &[u8], m: Moved, mem: &mut [u8]) {
             m.reverse,
             mem,
             m.pointer,
-            m.count,
+            m.count as usize,
             m.swb,
         );
     }

@@ -1,0 +1,125 @@
+// What a step is about to do, as a value.
+use signals::End;
+use state::Tape;
+use state::Unit;
+ghost use mathlib.Core.Path.{_≡_};
+ghost use Prim.Native.Nat.{_≤_};
+ghost use Rattle.unit.specs.Plans.{laidBlocks, movedLength, noLay, noMove, objectBlocks};
+
+// The answers of the calls; a definition in specs/ gives each its number.
+pub enum Answer {
+    // Whether it interrupts.
+    Done(bool),
+    Idle,
+    // A refusal's number.
+    Refused(usize),
+    // Refusal 7, and the block it names.
+    BadBlock(usize),
+}
+
+// The bytes that a Read moves: of the record of `length` bytes at block `first`, to a buffer of `count` bytes at `pointer`.
+pub struct Moved {
+    pub first: usize,
+    pub length: usize,
+    pub reverse: bool,
+    pub pointer: usize,
+    pub count: u16,
+    pub swb: bool,
+}
+
+pub enum Object {
+    Nothing,
+    Mark,
+    Gap,
+    // The bytes at the places from `pointer` on.
+    Record,
+}
+
+// What is laid at block `at`: for a retry a gap first, then the object.
+pub struct Laid {
+    pub at: usize,
+    pub gap_first: bool,
+    pub object: Object,
+    pub pointer: usize,
+    pub length: u16,
+    pub swb: bool,
+}
+
+// How a command on the tape ended: what it says, where the tape stands, what is moved and laid.
+pub struct Moving {
+    pub end: End,
+    pub tape: Tape,
+    pub moved: Moved,
+    pub laid: Laid,
+}
+
+pub enum Motion {
+    Ended(Moving),
+    // A block at fault.
+    Fault(usize),
+}
+
+// All that a step is about to store.
+pub struct Plan {
+    pub answer: Answer,
+    pub unit: Unit,
+    pub moved: Moved,
+    pub laid: Laid,
+    pub sends: bool,
+    pub message: [u16; 7],
+}
+
+pub fn no_move() -> Moved
+    ensures { λ r. ⌜ r ≡ noMove ⌝ }
+{
+    Moved {
+        first: 0,
+        length: 0,
+        reverse: false,
+        pointer: 0,
+        count: 0,
+        swb: false,
+    }
+}
+
+pub fn no_lay() -> Laid
+    ensures { λ r. ⌜ r ≡ noLay ⌝ }
+{
+    Laid {
+        at: 0,
+        gap_first: false,
+        object: Object::Nothing,
+        pointer: 0,
+        length: 0,
+        swb: false,
+    }
+}
+
+fn object_blocks(o: Object, length: u16) -> usize
+    ensures is { λ r. ⌜ r ≡ objectBlocks o length ⌝ }
+    ensures low { λ r. ⌜ r ≤ 65536 ⌝ }
+{
+    match o {
+        Object::Nothing => 0,
+        Object::Mark => 1,
+        Object::Gap => 1,
+        Object::Record => tape::pieces(length as usize),
+    }
+}
+
+// How many blocks are laid.
+pub fn laid_blocks(l: Laid) -> usize
+    ensures is { λ r. ⌜ r ≡ laidBlocks l ⌝ }
+    ensures low { λ r. ⌜ r ≤ 65537 ⌝ }
+{
+    let o = l.object;
+    let n = object_blocks(o, l.length);
+    if l.gap_first { n + 1 } else { n }
+}
+
+// How many memory bytes a Read stores.
+pub fn moved_bytes(m: Moved) -> usize
+    ensures { λ r. ⌜ r ≡ movedLength m ⌝ }
+{
+    lists::least(m.length, m.count as usize)
+}

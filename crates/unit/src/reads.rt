@@ -1,0 +1,226 @@
+// Read: one stage, or two for a reread.
+use crate::plans::Motion;
+use crate::plans::Moved;
+use crate::plans::Moving;
+use crate::plans::no_lay;
+use crate::plans::no_move;
+use moves::Sought;
+use moves::seek;
+use signals::ByteCount;
+use signals::End;
+use signals::Residual;
+use signals::flag;
+use state::Tape;
+ghost use mathlib.Core.Path.{_≡_};
+ghost use Rattle.unit.specs.Reads.{firstBlock, markEnd, nothingEnd, readEnd, readMotion, readOne, readThenSpace, reread, spaceBack, spaceThenRead, stageOf, stopMotion};
+
+// What a Read asks for.
+pub struct Reading {
+    pub pointer: usize,
+    pub count: u16,
+    pub swb: bool,
+}
+
+// A stage found a record, with the position beyond it, or the command is over.
+pub enum Stage {
+    Record(usize, usize),
+    Over(Motion),
+}
+
+// A record of n bytes against the count: RLS if shorter, RLL if longer, class 2 for both.
+fn read_end(n: usize, count: u16, rev: bool) -> End
+    ensures { λ r. ⌜ r ≡ readEnd n count rev ⌝ }
+{
+    let c = count as usize;
+    let class = if n == c { 0 } else { 2 };
+    let found = flag(n < c, signals::RLS) + flag(c < n, signals::RLL);
+    let xst3 = flag(rev, signals::REV);
+    let left = (c - lists::least(n, c)) as u16;
+    let residual = Residual::Bytes(ByteCount(left));
+    End {
+        class,
+        found,
+        xst3,
+        residual,
+    }
+}
+
+// A mark: TMK, RLS, class 2.
+fn mark_end(count: u16, rev: bool) -> End
+    ensures { λ r. ⌜ r ≡ markEnd count rev ⌝ }
+{
+    let xst3 = flag(rev, signals::REV);
+    let residual = Residual::Bytes(ByteCount(count));
+    End {
+        class: 2,
+        found: signals::TMK + signals::RLS,
+        xst3,
+        residual,
+    }
+}
+
+// Nothing left: OPI and class 6 forward, RIB and class 2 in reverse.
+fn nothing_end(count: u16, reverse: bool) -> End
+    ensures { λ r. ⌜ r ≡ nothingEnd count reverse ⌝ }
+{
+    let residual = Residual::Bytes(ByteCount(count));
+    if reverse {
+        return End {
+            class: 2,
+            found: 0,
+            xst3: signals::REV + signals::RIB,
+            residual,
+        };
+    }
+    End {
+        class: 6,
+        found: 0,
+        xst3: signals::OPI,
+        residual,
+    }
+}
+
+// An end that moves and lays nothing.
+fn stop_motion(end: End, position: usize, e: usize) -> Motion
+    ensures { λ r. ⌜ r ≡ stopMotion end position e ⌝ }
+{
+    let tape = Tape { position, end: e };
+    let moved = no_move();
+    let laid = no_lay();
+    Motion::Ended(Moving {
+        end,
+        tape,
+        moved,
+        laid,
+    })
+}
+
+// Seek, and say how the command ends where no record is found.
+fn stage(reel: &[u8], t: Tape, count: u16, reverse: bool) -> Stage
+    ensures { λ r. ⌜ r ≡ stageOf (now (reel .entry)) t count reverse ⌝ }
+{
+    match seek(reel, reverse, t.position, t.end) {
+        Sought::Record(n, q) => Stage::Record(n, q),
+        Sought::Mark(q) => Stage::Over(stop_motion(mark_end(count, reverse), q, t.end)),
+        Sought::Nothing(q) => Stage::Over(stop_motion(nothing_end(count, reverse), q, t.end)),
+        Sought::Bad(k) => Stage::Over(Motion::Fault(k)),
+    }
+}
+
+// The first block of the record of n bytes beyond which the position is q.
+fn first_block(reverse: bool, n: usize, q: usize) -> usize
+    ensures { λ r. ⌜ r ≡ firstBlock reverse n q ⌝ }
+{
+    if reverse {
+        return q;
+    }
+    let m = tape::pieces(n);
+    if q < m { 0 } else { q - m }
+}
+
+// The record's bytes go to the buffer by the direction of the read, and the tape stands at `position` after the last stage.
+fn read_motion(r: Reading, reverse: bool, n: usize, q: usize, t: Tape, rev: bool) -> Motion
+    ensures { λ x. ⌜ x ≡ readMotion r reverse n q t rev ⌝ }
+{
+    let end = read_end(n, r.count, rev);
+    let first = first_block(reverse, n, q);
+    let moved = Moved {
+        first,
+        length: n,
+        reverse,
+        pointer: r.pointer,
+        count: r.count,
+        swb: r.swb,
+    };
+    let laid = no_lay();
+    Motion::Ended(Moving {
+        end,
+        tape: t,
+        moved,
+        laid,
+    })
+}
+
+pub fn read_one(reel: &[u8], t: Tape, r: Reading, reverse: bool) -> Motion
+    ensures { λ x. ⌜ x ≡ readOne (now (reel .entry)) t r reverse ⌝ }
+{
+    match stage(reel, t, r.count, reverse) {
+        Stage::Record(n, q) => read_motion(
+            r,
+            reverse,
+            n,
+            q,
+            Tape {
+                position: q,
+                end: t.end,
+            },
+            reverse,
+        ),
+        Stage::Over(m) => m,
+    }
+}
+
+// Space, then read back over it.
+fn space_then_read(reel: &[u8], t: Tape, r: Reading, reverse: bool) -> Motion
+    ensures { λ x. ⌜ x ≡ spaceThenRead (now (reel .entry)) t r reverse ⌝ }
+{
+    match stage(reel, t, r.count, reverse) {
+        Stage::Record(_, q) => read_one(
+            reel,
+            Tape {
+                position: q,
+                end: t.end,
+            },
+            r,
+            !reverse,
+        ),
+        Stage::Over(m) => m,
+    }
+}
+
+// The space back after a read, for OPP.
+fn space_back(reel: &[u8], e: usize, r: Reading, reverse: bool, n: usize, q: usize) -> Motion
+    ensures { λ x. ⌜ x ≡ spaceBack (now (reel .entry)) e r reverse n q ⌝ }
+{
+    match stage(
+        reel,
+        Tape {
+            position: q,
+            end: e,
+        },
+        r.count,
+        !reverse,
+    ) {
+        Stage::Record(_, b) => read_motion(
+            r,
+            reverse,
+            n,
+            q,
+            Tape {
+                position: b,
+                end: e,
+            },
+            !reverse,
+        ),
+        Stage::Over(m) => m,
+    }
+}
+
+// Read, then space back over it: OPP.
+fn read_then_space(reel: &[u8], t: Tape, r: Reading, reverse: bool) -> Motion
+    ensures { λ x. ⌜ x ≡ readThenSpace (now (reel .entry)) t r reverse ⌝ }
+{
+    match stage(reel, t, r.count, reverse) {
+        Stage::Record(n, q) => space_back(reel, t.end, r, reverse, n, q),
+        Stage::Over(m) => m,
+    }
+}
+
+pub fn reread_one(reel: &[u8], t: Tape, r: Reading, reverse: bool, opp: bool) -> Motion
+    ensures { λ x. ⌜ x ≡ reread (now (reel .entry)) t r reverse opp ⌝ }
+{
+    if opp {
+        return read_then_space(reel, t, r, reverse);
+    }
+    space_then_read(reel, t, r, reverse)
+}
