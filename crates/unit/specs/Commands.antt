@@ -1,0 +1,179 @@
+-- The commands, carried out. (01, "Commands")
+use mathlib.Core.Bool.{Bool, true, false, _||_}
+use mathlib.Core.List.{List}
+use Prim.Native.Nat.{ℕ, _+_, _*_, _/_, _%_}
+use lib.Dec.{eqb, leb, ltb}
+use lib.ListN.{length}
+use Rattle.lists.specs.Pick.{pick}
+use Rattle.lists.specs.Words.{wordAt}
+use Rattle.signals.specs.declared.codes.Command.{Command}
+use Rattle.signals.specs.declared.codes.Command.the-variants as command
+use Rattle.signals.specs.declared.packet.Header.{Header}
+use Rattle.signals.specs.declared.packet.Packet.{Packet}
+use Rattle.signals.specs.declared.message.End.{End}
+use Rattle.signals.specs.declared.counts.Residual.the-variants as residual
+use Rattle.state.specs.Changes.{withRegisters}
+use Rattle.state.specs.Checks.{bufferWrong, pointerLimit}
+use Rattle.state.specs.declared.Unit.{Unit}
+use Rattle.state.specs.declared.Characteristics.{Characteristics}
+use Rattle.state.specs.declared.Registers.{Registers}
+use Rattle.moves.specs.declared.spacing.Rule.{Rule}
+use Rattle.unit.specs.Plans.{end, standing}
+use Rattle.unit.specs.Reads.{readOne, reread}
+use Rattle.unit.specs.Spaces.{positioned}
+use Rattle.unit.specs.Writes.{retried, writtenAt}
+use Rattle.unit.specs.Effects.{effectOf, motionEffect, withAttention, withPanel, withTape}
+use Rattle.unit.specs.declared.plans.Laid.{Laid}
+use Rattle.unit.specs.declared.plans.Object.{Object}
+use Rattle.unit.specs.declared.plans.Object.the-variants as object
+use Rattle.unit.specs.declared.reads.Reading.{Reading}
+use Rattle.unit.specs.declared.effects.Notice.the-variants as notice
+use Rattle.unit.specs.declared.effects.Ran.{Ran}
+use Rattle.unit.specs.declared.effects.Ran.the-variants as ran
+
+abbrev pub plainEnd : End
+plainEnd = end 0 0 0 residual.Nothing
+
+-- "clean (no action)", "Initialize 11/0 (house: no action). Get Status 15/0."
+unfoldable pub plainEffect : Unit → Bool → Ran
+plainEffect u ie = ran.Ended (effectOf u plainEnd notice.Message ie)
+
+-- "a release carried out, which sends none and keeps the owner"; its IE is an idle attention's
+unfoldable pub released : Unit → Bool → Ran
+released u ie =
+    ran.Ended
+    (effectOf
+    (withAttention u (record { «unit_owns» = u .attention .«unit_owns»; pending = u .attention .pending; «release_ie» = ie }))
+    plainEnd
+    notice.Nothing
+    ie)
+
+-- "4 rewind"
+unfoldable pub rewound : Unit → Bool → Ran
+rewound u ie = ran.Ended (effectOf (withTape u (standing 0 (u .tape .end))) plainEnd notice.Message ie)
+
+-- "rewind and unload (ends off line, no attention)"
+unfoldable pub unloaded : Unit → Bool → Ran
+unloaded u ie =
+    ran.Ended
+    (effectOf
+    (withPanel
+    (withTape u (standing 0 (u .tape .end)))
+    (record { online = false; locked = u .panel .locked; vck = u .panel .vck }))
+    plainEnd
+    notice.Message
+    ie)
+
+-- "mode word (0 if the count is under 8)"
+unfoldable pub modeWord : List ℕ → Packet → ℕ
+modeWord m p = pick (ltb (p .count) 8) 0 (wordAt m (p .pointer + 6))
+
+-- "Write Characteristics data: address low, high, length, mode word"; ESS is bit 7, ENB bit 6, EAI bit 5
+unfoldable pub characteristicsAt : List ℕ → Packet → Characteristics
+characteristicsAt m p =
+    record {
+      address = wordAt m (p .pointer) + 65536 * wordAt m (p .pointer + 2);
+      length = wordAt m (p .pointer + 4);
+      eai = eqb (modeWord m p / 32 % 2) 1;
+      ess = eqb (modeWord m p / 128 % 2) 1;
+      enb = eqb (modeWord m p / 64 % 2) 1;
+    }
+
+abbrev pub withNba : Unit → Bool → Unit
+withNba u nba =
+    withRegisters u
+    (record {
+      pointer = u .registers .pointer;
+      class = u .registers .class;
+      rmr = u .registers .rmr;
+      nxm = u .registers .nxm;
+      nba = nba;
+      ssr = u .registers .ssr;
+    })
+
+-- "NBA set, class 3, all old values kept"
+unfoldable pub refusedCharacteristics : Unit → Bool → Ran
+refusedCharacteristics u ie = ran.Ended (effectOf (withNba u true) (end 3 0 0 residual.Nothing) notice.Message ie)
+
+abbrev pub withCharacteristics : Unit → Characteristics → Unit
+withCharacteristics u c =
+    record {
+      tape = u .tape;
+      registers = u .registers;
+      panel = u .panel;
+      attention = u .attention;
+      characteristics = c;
+      lengths = u .lengths;
+    }
+
+-- "Otherwise NBA clears and all are taken."
+unfoldable pub takenCharacteristics : Unit → Characteristics → Bool → Ran
+takenCharacteristics u c ie = ran.Ended (effectOf (withCharacteristics (withNba u false) c) plainEnd notice.Message ie)
+
+-- "Count under 6, address odd or past 18 bits, length under 14, or buffer not inside memory"
+unfoldable pub characterized : Unit → List ℕ → Packet → Bool → Ran
+characterized u m p ie =
+    pick (ltb (p .count) 6) (refusedCharacteristics u ie)
+    (pick (leb pointerLimit (characteristicsAt m p .address) || bufferWrong (characteristicsAt m p) (length m))
+    (refusedCharacteristics u ie)
+    (takenCharacteristics u (characteristicsAt m p) ie))
+
+abbrev pub asked : Header → Packet → Reading
+asked h p = record { pointer = p .pointer; count = p .count; swb = h .swb }
+
+unfoldable pub readBy : Unit → List ℕ → Header → Packet → Bool → Ran
+readBy u s h p reverse = motionEffect u (readOne s (u .tape) (asked h p) reverse) (h .ie)
+
+unfoldable pub rereadBy : Unit → List ℕ → Header → Packet → Bool → Ran
+rereadBy u s h p reverse = motionEffect u (reread s (u .tape) (asked h p) reverse (h .opp)) (h .ie)
+
+unfoldable pub positionedBy : Unit → List ℕ → Header → Packet → Bool → Bool → Ran
+positionedBy u s h p reverse marks =
+    motionEffect u
+    (positioned s (u .tape) (record { reverse = reverse; marks = marks; ess = u .characteristics .ess }) (p .count) (u .characteristics .enb))
+    (h .ie)
+
+-- where the tape stands
+abbrev pub laidHere : Unit → Object → ℕ → ℕ → Bool → Laid
+laidHere u o pointer n swb =
+    record { at = u .tape .position; «gap_first» = false; object = o; pointer = pointer; length = n; swb = swb }
+
+unfoldable pub writtenBy : Unit → List ℕ → Header → Packet → Bool → Ran
+writtenBy u s h p again =
+    motionEffect u
+    (pick again
+    (retried s (u .tape) (u .lengths .blocks) (laidHere u object.Record (p .pointer) (p .count) (h .swb)) false)
+    (writtenAt (u .tape) (u .lengths .blocks) (laidHere u object.Record (p .pointer) (p .count) (h .swb)) false))
+    (h .ie)
+
+unfoldable pub formatted : Unit → List ℕ → Header → Object → Bool → Bool → Ran
+formatted u s h o mark again =
+    motionEffect u
+    (pick again
+    (retried s (u .tape) (u .lengths .blocks) (laidHere u o 0 0 false) mark)
+    (writtenAt (u .tape) (u .lengths .blocks) (laidHere u o 0 0 false) mark))
+    (h .ie)
+
+unfoldable pub carriedOut : Unit → List ℕ → List ℕ → Header → Packet → Command → Ran
+carriedOut u m s h p command.ReadNext = readBy u s h p false
+carriedOut u m s h p command.ReadPrevious = readBy u s h p true
+carriedOut u m s h p command.RereadPrevious = rereadBy u s h p true
+carriedOut u m s h p command.RereadNext = rereadBy u s h p false
+carriedOut u m s h p command.WriteCharacteristics = characterized u m p (h .ie)
+carriedOut u m s h p command.Write = writtenBy u s h p false
+carriedOut u m s h p command.WriteRetry = writtenBy u s h p true
+carriedOut u m s h p command.RecordsForward = positionedBy u s h p false false
+carriedOut u m s h p command.RecordsReverse = positionedBy u s h p true false
+carriedOut u m s h p command.MarksForward = positionedBy u s h p false true
+carriedOut u m s h p command.MarksReverse = positionedBy u s h p true true
+carriedOut u m s h p command.Rewind = rewound u (h .ie)
+carriedOut u m s h p command.WriteMark = formatted u s h object.Mark true false
+carriedOut u m s h p command.Erase = formatted u s h object.Gap false false
+carriedOut u m s h p command.MarkRetry = formatted u s h object.Mark true true
+carriedOut u m s h p command.Release = released u (h .ie)
+carriedOut u m s h p command.Unload = unloaded u (h .ie)
+carriedOut u m s h p command.Clean = plainEffect u (h .ie)
+carriedOut u m s h p command.Initialize = plainEffect u (h .ie)
+carriedOut u m s h p command.GetStatus = plainEffect u (h .ie)
+-- ended at step 5
+carriedOut u m s h p command.Illegal = plainEffect u (h .ie)

@@ -1,0 +1,56 @@
+-- The parts of a plan: ends, moves and blocks laid.
+use mathlib.Core.Bool.{Bool, true, false}
+use Prim.Native.Nat.{ℕ, _+_, min}
+use Rattle.lists.specs.Pick.{pick}
+use Rattle.tape.specs.Numbers.{piecesOf}
+use Rattle.signals.specs.declared.message.End.{End}
+use Rattle.signals.specs.declared.counts.Residual.{Residual}
+use Rattle.state.specs.declared.Tape.{Tape}
+use Rattle.unit.specs.declared.plans.Answer.{Answer}
+use Rattle.unit.specs.declared.plans.Answer.the-variants as answer
+use Rattle.unit.specs.declared.plans.Moved.{Moved}
+use Rattle.unit.specs.declared.plans.Laid.{Laid}
+use Rattle.unit.specs.declared.plans.Object.{Object}
+use Rattle.unit.specs.declared.plans.Object.the-variants as object
+use Rattle.unit.specs.declared.plans.Moving.{Moving}
+use Rattle.unit.specs.declared.plans.Motion.{Motion}
+use Rattle.unit.specs.declared.plans.Motion.the-variants as motion
+
+-- the paper's number of an answer (Idle is no refusal)
+unfoldable pub numberOf : Answer → ℕ
+numberOf (answer.Done i) = 0
+numberOf answer.Idle = 0
+numberOf (answer.Refused n) = n
+numberOf (answer.BadBlock k) = 7
+
+-- an end: class, XST0's high byte, XST3, residual
+abbrev pub end : ℕ → ℕ → ℕ → Residual → End
+end class found xst3 left = record { class = class; found = found; xst3 = xst3; residual = left }
+
+abbrev pub standing : ℕ → ℕ → Tape
+standing p e = record { position = p; end = e }
+
+abbrev pub noMove : Moved
+noMove = record { first = 0; length = 0; reverse = false; pointer = 0; count = 0; swb = false }
+
+abbrev pub noLay : Laid
+noLay = record { at = 0; «gap_first» = false; object = object.Nothing; pointer = 0; length = 0; swb = false }
+
+-- a motion that ended and moves and lays nothing
+abbrev pub stops : End → Tape → Motion
+stops x t = motion.Ended (record { end = x; tape = t; moved = noMove; laid = noLay })
+
+-- the blocks of what is laid
+unfoldable pub objectBlocks : Object → ℕ → ℕ
+objectBlocks object.Nothing n = 0
+objectBlocks object.Mark n = 1
+objectBlocks object.Gap n = 1
+objectBlocks object.Record n = piecesOf n
+
+-- "gap and object together" for a retry
+unfoldable pub laidBlocks : Laid → ℕ
+laidBlocks l = pick (l .«gap_first») (objectBlocks (l .object) (l .length) + 1) (objectBlocks (l .object) (l .length))
+
+-- the memory bytes that a Read stores
+unfoldable pub movedLength : Moved → ℕ
+movedLength m = min (m .length) (m .count)

@@ -1,0 +1,107 @@
+-- "Read 1 / 0 next, 1 previous, 2 reread previous, 3 reread next." (01, Commands)
+use mathlib.Core.Bool.{Bool, true, false, not}
+use mathlib.Core.List.{List}
+use Prim.Native.Nat.{ℕ, _+_, _-_, min}
+use lib.Dec.{eqb, ltb}
+use Rattle.lists.specs.Pick.{pick}
+use Rattle.tape.specs.Numbers.{piecesOf}
+use Rattle.signals.specs.Bits.{TMK, RLS, RLL, OPI, REV, RIB}
+use Rattle.signals.specs.Message.{flagOf}
+use Rattle.signals.specs.declared.message.End.{End}
+use Rattle.signals.specs.declared.counts.Residual.{Residual}
+use Rattle.signals.specs.declared.counts.Residual.the-variants as residual
+use Rattle.state.specs.declared.Tape.{Tape}
+use Rattle.moves.specs.Seeking.{sought}
+use Rattle.moves.specs.declared.seeking.Sought.{Sought}
+use Rattle.moves.specs.declared.seeking.Sought.the-variants as sought-as
+use Rattle.unit.specs.Plans.{end, noLay, standing, stops}
+use Rattle.unit.specs.declared.plans.Motion.{Motion}
+use Rattle.unit.specs.declared.plans.Motion.the-variants as motion
+use Rattle.unit.specs.declared.reads.Reading.{Reading}
+use Rattle.unit.specs.declared.reads.Stage.{Stage}
+use Rattle.unit.specs.declared.reads.Stage.the-variants as stage
+
+abbrev pub bytes : ℕ → Residual
+bytes n = residual.Bytes (record { 0 = n })
+
+-- "Record longer than the count: RLL; shorter: RLS; class 2."
+unfoldable pub readEnd : ℕ → ℕ → Bool → End
+readEnd n count rev =
+    end (pick (eqb n count) 0 2) (flagOf (ltb n count) RLS + flagOf (ltb count n) RLL) (flagOf rev REV) (bytes (count - min n count))
+
+-- "A mark: TMK, RLS, class 2, position past it, nothing moved."
+unfoldable pub markEnd : ℕ → Bool → End
+markEnd count rev = end 2 (TMK + RLS) (flagOf rev REV) (bytes count)
+
+-- "Forward at the recorded end: OPI, class 6. Reverse to block 0 with no further record or mark: RIB, class 2"
+unfoldable pub nothingEnd : ℕ → Bool → End
+nothingEnd count reverse = pick reverse (end 2 0 (REV + RIB) (bytes count)) (end 6 0 OPI (bytes count))
+
+unfoldable pub stopMotion : End → ℕ → ℕ → Motion
+stopMotion x p e = stops x (standing p e)
+
+unfoldable pub stageBy : Tape → ℕ → Bool → Sought → Stage
+stageBy t count reverse (sought-as.Record n q) = stage.Record n q
+stageBy t count reverse (sought-as.Mark q) = stage.Over (stopMotion (markEnd count reverse) q (t .end))
+stageBy t count reverse (sought-as.Nothing q) = stage.Over (stopMotion (nothingEnd count reverse) q (t .end))
+stageBy t count reverse (sought-as.Bad k) = stage.Over (motion.Fault k)
+
+-- one stage: gaps are passed over; "A mark, BOT or end in the first stage ends it, residual as if nothing moved."
+unfoldable pub stageOf : List ℕ → Tape → ℕ → Bool → Stage
+stageOf s t count reverse = stageBy t count reverse (sought s reverse (t .position) (t .end))
+
+-- the first block of a record of n bytes beyond which the position is q
+unfoldable pub firstBlock : Bool → ℕ → ℕ → ℕ
+firstBlock reverse n q = pick reverse q (q - piecesOf n)
+
+-- the record is read in direction `reverse`; the last stage ran `rev` and left the tape at t
+unfoldable pub readMotion : Reading → Bool → ℕ → ℕ → Tape → Bool → Motion
+readMotion r reverse n q t rev =
+    motion.Ended
+    (record {
+      end = readEnd n (r .count) rev;
+      tape = t;
+      moved =
+          record {
+            first = firstBlock reverse n q;
+            length = n;
+            reverse = reverse;
+            pointer = r .pointer;
+            count = r .count;
+            swb = r .swb;
+          };
+      laid = noLay;
+    })
+
+unfoldable pub readOneBy : Tape → Reading → Bool → Stage → Motion
+readOneBy t r reverse (stage.Record n q) = readMotion r reverse n q (standing q (t .end)) reverse
+readOneBy t r reverse (stage.Over m) = m
+
+unfoldable pub readOne : List ℕ → Tape → Reading → Bool → Motion
+readOne s t r reverse = readOneBy t r reverse (stageOf s t (r .count) reverse)
+
+unfoldable pub spaceThenReadBy : List ℕ → Tape → Reading → Bool → Stage → Motion
+spaceThenReadBy s t r reverse (stage.Record n q) = readOne s (standing q (t .end)) r (not reverse)
+spaceThenReadBy s t r reverse (stage.Over m) = m
+
+-- "Mode 2 reread: space reverse, read forward. Mode 3: space forward, read reverse."
+unfoldable pub spaceThenRead : List ℕ → Tape → Reading → Bool → Motion
+spaceThenRead s t r reverse = spaceThenReadBy s t r reverse (stageOf s t (r .count) reverse)
+
+unfoldable pub spaceBackBy : ℕ → Reading → Bool → ℕ → ℕ → Stage → Motion
+spaceBackBy e r reverse n q (stage.Record n′ b) = readMotion r reverse n q (standing b e) (not reverse)
+spaceBackBy e r reverse n q (stage.Over m) = m
+
+unfoldable pub spaceBack : List ℕ → ℕ → Reading → Bool → ℕ → ℕ → Motion
+spaceBack s e r reverse n q = spaceBackBy e r reverse n q (stageOf s (standing q e) (r .count) (not reverse))
+
+unfoldable pub readThenSpaceBy : List ℕ → Tape → Reading → Bool → Stage → Motion
+readThenSpaceBy s t r reverse (stage.Record n q) = spaceBack s (t .end) r reverse n q
+readThenSpaceBy s t r reverse (stage.Over m) = m
+
+-- "OPP puts the read first, same direction as the space had, then the space back."
+unfoldable pub readThenSpace : List ℕ → Tape → Reading → Bool → Motion
+readThenSpace s t r reverse = readThenSpaceBy s t r reverse (stageOf s t (r .count) reverse)
+
+unfoldable pub reread : List ℕ → Tape → Reading → Bool → Bool → Motion
+reread s t r reverse opp = pick opp (readThenSpace s t r reverse) (spaceThenRead s t r reverse)

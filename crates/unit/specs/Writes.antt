@@ -1,0 +1,58 @@
+-- Write and Format, step 11 and the retry. (01)
+use mathlib.Core.Bool.{Bool, true, false}
+use mathlib.Core.List.{List}
+use Prim.Native.Nat.{ℕ, _+_}
+use lib.Dec.{leb, ltb}
+use Rattle.lists.specs.Pick.{pick}
+use Rattle.tape.specs.Numbers.{eotMarker}
+use Rattle.signals.specs.Bits.{TMK, NEF, REV, RIB}
+use Rattle.signals.specs.Message.{flagOf}
+use Rattle.signals.specs.declared.counts.Residual.the-variants as residual
+use Rattle.state.specs.declared.Tape.{Tape}
+use Rattle.moves.specs.Seeking.{sought}
+use Rattle.moves.specs.declared.seeking.Sought.{Sought}
+use Rattle.moves.specs.declared.seeking.Sought.the-variants as sought-as
+use Rattle.unit.specs.Plans.{end, laidBlocks, noMove, standing, stops}
+use Rattle.unit.specs.declared.plans.Laid.{Laid}
+use Rattle.unit.specs.declared.plans.Motion.{Motion}
+use Rattle.unit.specs.declared.plans.Motion.the-variants as motion
+
+-- "11. Object doesn't fit the reel: NEF, EOT, class 3, unmoved."
+unfoldable pub noRoom : Tape → Motion
+noRoom t = stops (end 3 NEF 0 residual.Nothing) t
+
+-- "A write or format carried out that ends at or past EOT: class 2. A written mark sets TMK."
+unfoldable pub writtenMotion : Laid → ℕ → Bool → Motion
+writtenMotion l blocks mark =
+    motion.Ended
+    (record {
+      end = end (pick (leb (eotMarker blocks) (l .at + laidBlocks l)) 2 0) (flagOf mark TMK) 0 residual.Nothing;
+      tape = standing (l .at + laidBlocks l) (l .at + laidBlocks l);
+      moved = noMove;
+      laid = l;
+    })
+
+unfoldable pub writtenAt : Tape → ℕ → Laid → Bool → Motion
+writtenAt t blocks l mark = pick (ltb blocks (l .at + laidBlocks l)) (noRoom t) (writtenMotion l blocks mark)
+
+-- "then a one-block gap, then the new object"
+unfoldable pub behindGap : Laid → ℕ → Laid
+behindGap l q =
+    record {
+      at = q;
+      «gap_first» = true;
+      object = l .object;
+      pointer = l .pointer;
+      length = l .length;
+      swb = l .swb;
+    }
+
+-- "Retry: space reverse over gaps and one record or mark .. None found: RIB, class 2, nothing written."
+unfoldable pub retriedBy : Tape → ℕ → Laid → Bool → Sought → Motion
+retriedBy t blocks l mark (sought-as.Record n q) = writtenAt t blocks (behindGap l q) mark
+retriedBy t blocks l mark (sought-as.Mark q) = writtenAt t blocks (behindGap l q) mark
+retriedBy t blocks l mark (sought-as.Nothing q) = stops (end 2 0 (REV + RIB) residual.Nothing) (standing q (t .end))
+retriedBy t blocks l mark (sought-as.Bad k) = motion.Fault k
+
+unfoldable pub retried : List ℕ → Tape → ℕ → Laid → Bool → Motion
+retried s t blocks l mark = retriedBy t blocks l mark (sought s true (t .position) (t .end))
