@@ -11,6 +11,8 @@ use Rattle.signals.specs.Message.{messageBytes}
 use Rattle.state.specs.declared.Unit.{Unit}
 use Rattle.state.specs.declared.Tape.{Tape}
 use Rattle.state.specs.declared.Registers.{Registers}
+use Rattle.state.specs.declared.Panel.{Panel}
+use Rattle.state.specs.declared.Attention.{Attention}
 use Rattle.state.specs.declared.Characteristics.{Characteristics}
 use Rattle.state.specs.declared.Lengths.{Lengths}
 use Rattle.state.specs.declared.act.Act.{Act}
@@ -150,20 +152,16 @@ legal-initialized u l =
     let place = either (λ (p : ℕ). p ≤ u .tape .end) (u .panel .online) 0 (u .tape .position) (omega arith) (l .place) in
     legal-with u (initialized u) l refl place (l .capacity) (omega arith) (omega arith) no-buffer
 
-legal-line : (u : Unit) (on : Bool) → Legal u → Legal (switchedLine u on)
-unfolding switchedLine
-legal-line u on l = legal-with u (switchedLine u on) l refl (l .place) (l .capacity) (l .pointer) (l .class) (l .buffer)
-
-legal-lock : (u : Unit) (on : Bool) → Legal u → Legal (switchedLock u on)
-unfolding switchedLock
-legal-lock u on l = legal-with u (switchedLock u on) l refl (l .place) (l .capacity) (l .pointer) (l .class) (l .buffer)
+-- switches and attention are no part of what is checked
+pub legal-panel : (u : Unit) (p : Panel) (a : Attention) → Legal u → Legal (record { tape = u .tape; registers = u .registers; panel = p; attention = a; characteristics = u .characteristics; lengths = u .lengths })
+legal-panel u p a l = legal-with u _ l refl (l .place) (l .capacity) (l .pointer) (l .class) (l .buffer)
 
 pub legal-operated : (u : Unit) → Legal u → (a : Act) → Legal (operated u a)
-unfolding operated
-legal-operated u l act.OnLine = either Legal (u .panel .online) u (switchedLine u true) l (legal-line u true l)
-legal-operated u l act.OffLine = either Legal (u .panel .online) (switchedLine u false) u (legal-line u false l) l
-legal-operated u l act.Lock = legal-lock u true l
-legal-operated u l act.Unlock = legal-lock u false l
+unfolding operated switchedLine switchedLock
+legal-operated u l act.OnLine = either Legal (u .panel .online) u (switchedLine u true) l (legal-panel u _ _ l)
+legal-operated u l act.OffLine = either Legal (u .panel .online) (switchedLine u false) u (legal-panel u _ _ l) l
+legal-operated u l act.Lock = legal-panel u _ _ l
+legal-operated u l act.Unlock = legal-panel u _ _ l
 
 pub legal-mounted : (memory blocks e : ℕ) (online locked : Bool) → memoryRight memory ≡ true → blocksRight blocks ≡ true → e ≤ blocks → Legal (mountedAs e online locked (record { memory = memory; blocks = blocks }))
 unfolding mountedAs

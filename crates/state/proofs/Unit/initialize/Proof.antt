@@ -15,13 +15,22 @@ no-characteristics-requires c κs = search needs
 
 returns : tie.Need-returns
 unfolding initialized
-returns c = let n = c .before .before .before in
+returns c =
+    let n = c .before .before .before in
     rw (n .no-characteristics .ensures, n .before .no-attention .ensures, n .before .before .initial-registers .ensures, c .before .if1 .taken)
 
 returns-2 : tie.Need-returns-2
 unfolding initialized
-returns-2 c = let n = c .before .before in
+returns-2 c =
+    let n = c .before .before in
     rw (n .no-characteristics .ensures, n .before .no-attention .ensures, n .before .before .initial-registers .ensures, c .if1 .left)
 
 pub initialize-spec : {M : Type 1} → statement M
-initialize-spec = tie.close (tie.spec initial-registers-requires no-attention-requires no-characteristics-requires returns returns-2)
+initialize-spec =
+    tie.close
+    (tie.spec
+    initial-registers-requires
+    no-attention-requires
+    no-characteristics-requires
+    returns
+    returns-2)

@@ -53,4 +53,20 @@ unfolding operated
 returns-6 c = rw (c .lock2 .ensures, c .before .enum-told4 .given .1)
 
 pub operate-spec : {M : Type 1} → statement M
-operate-spec = tie.close (tie.spec enum-told switch-line-requires enum-told-2 switch-line-requires-2 enum-told-3 lock-requires enum-told-4 lock-requires-2 returns returns-2 returns-3 returns-4 returns-5 returns-6)
+operate-spec =
+    tie.close
+    (tie.spec
+    enum-told
+    switch-line-requires
+    enum-told-2
+    switch-line-requires-2
+    enum-told-3
+    lock-requires
+    enum-told-4
+    lock-requires-2
+    returns
+    returns-2
+    returns-3
+    returns-4
+    returns-5
+    returns-6)

@@ -63,10 +63,33 @@ add-result-8 c = search needs
 
 returns : tie.Need-returns
 unfolding tssrOf
-returns c = let f = c .before .before in
+returns c =
+    let f = c .before .before in
     let g = f .before .before .before in
     let h = g .before .before .before in
     rw (c .flag-word8 .ensures .0, f .flag-word7 .ensures .0, f .before .flag-word6 .ensures .0, f .before .before .flag-word5 .ensures .0, g .flag-word4 .ensures .0, g .before .flag-word3 .ensures .0, g .before .before .flag-word2 .ensures .0, h .flag-word .ensures .0, h .before .sc .ensures)
 
 pub tssr-spec : {M : Type 1} → statement M
-tssr-spec = tie.close (tie.spec cast-class sc-requires flag-word-requires flag-word-requires-2 add-result flag-word-requires-3 add-result-2 flag-word-requires-4 add-result-3 flag-word-requires-5 add-result-4 flag-word-requires-6 add-result-5 flag-word-requires-7 add-result-6 flag-word-requires-8 add-result-7 mul-result add-result-8 returns)
+tssr-spec =
+    tie.close
+    (tie.spec
+    cast-class
+    sc-requires
+    flag-word-requires
+    flag-word-requires-2
+    add-result
+    flag-word-requires-3
+    add-result-2
+    flag-word-requires-4
+    add-result-3
+    flag-word-requires-5
+    add-result-4
+    flag-word-requires-6
+    add-result-5
+    flag-word-requires-7
+    add-result-6
+    flag-word-requires-8
+    add-result-7
+    mul-result
+    add-result-8
+    returns)

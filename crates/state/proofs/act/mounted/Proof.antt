@@ -18,4 +18,10 @@ unfolding mountedAs
 returns c = rw (c .no-characteristics .ensures, c .before .no-attention .ensures, c .before .before .initial-registers .ensures)
 
 pub mounted-spec : {M : Type 1} → statement M
-mounted-spec = tie.close (tie.spec initial-registers-requires no-attention-requires no-characteristics-requires returns)
+mounted-spec =
+    tie.close
+    (tie.spec
+    initial-registers-requires
+    no-attention-requires
+    no-characteristics-requires
+    returns)

@@ -10,12 +10,14 @@ use Rattle.state.proofs.check.buffer_wrong.Tie as tie
 
 returns : tie.Need-returns
 unfolding bufferWrong
-returns c = let a = c .before .before .args in
+returns c =
+    let a = c .before .before .args in
     rw (lt-ltb (a .memory) (a .c .address + a .c .length) (omega arith), or-true)
 
 returns-2 : tie.Need-returns-2
 unfolding bufferWrong
-returns-2 c = let a = c .before .before .before .before .before .before .args in
+returns-2 c =
+    let a = c .before .before .before .before .before .before .args in
     rw (difference (a .memory) (a .c .address) (a .c .length) (c .before .before .before .before .if1 .left))
 
 pub buffer-wrong-spec : {M : Type 1} → statement M

@@ -19,15 +19,24 @@ returns-2 c = rw (← c .before .before .before .state-wrong .ensures, c .before
 
 returns-3 : tie.Need-returns-3
 unfolding refusalOf
-returns-3 c = let t = c .before .before in
+returns-3 c =
+    let t = c .before .before in
     let a = t .before .before .before .before .args in
     rw (← t .before .before .before .state-wrong .ensures, t .before .before .if1 .left, eq-eqb _ _ (t .if2 .left), ← whole-blocks (a .reel) (a .u .lengths .blocks), c .if3 .taken)
 
 returns-4 : tie.Need-returns-4
 unfolding refusalOf
-returns-4 c = let t = c .before .before in
+returns-4 c =
+    let t = c .before .before in
     let a = t .before .before .before .before .args in
     rw (← t .before .before .before .state-wrong .ensures, t .before .before .if1 .left, eq-eqb _ _ (t .if2 .left), ← whole-blocks (a .reel) (a .u .lengths .blocks), c .if3 .left)
 
 pub refusal-spec : {M : Type 1} → statement M
-refusal-spec = tie.close (tie.spec state-wrong-requires returns returns-2 returns-3 returns-4)
+refusal-spec =
+    tie.close
+    (tie.spec
+    state-wrong-requires
+    returns
+    returns-2
+    returns-3
+    returns-4)

@@ -18,8 +18,16 @@ lengths-wrong-requires c κs = search needs
 
 returns : tie.Need-returns
 unfolding stateWrong
-returns c = let r = c .before .before .before in
+returns c =
+    let r = c .before .before .before in
     rw (c .lengths-wrong .ensures, c .before .buffer-wrong .ensures, r .registers-wrong .ensures, r .before .tape-wrong .ensures)
 
 pub state-wrong-spec : {M : Type 1} → statement M
-state-wrong-spec = tie.close (tie.spec tape-wrong-requires registers-wrong-requires buffer-wrong-requires lengths-wrong-requires returns)
+state-wrong-spec =
+    tie.close
+    (tie.spec
+    tape-wrong-requires
+    registers-wrong-requires
+    buffer-wrong-requires
+    lengths-wrong-requires
+    returns)
