@@ -15,15 +15,15 @@ use Rattle.signals.specs.declared.packet.Packet.{Packet}
 use Rattle.signals.specs.declared.counts.Residual.{Residual}
 use Rattle.signals.specs.declared.counts.Residual.the-variants as residual
 use Rattle.state.specs.declared.Unit.{Unit}
-use Rattle.unit.specs.Plans.{end}
-use Rattle.unit.specs.Effects.{effectOf, planned, still, withAttention, withOwner, withPanel}
-use Rattle.unit.specs.Commands.{carriedOut}
+use Rattle.motions.specs.Parts.{end}
+use Rattle.commands.specs.Effects.{effectOf, planned, still, withAttention, withOwner, withPanel}
+use Rattle.commands.specs.Commands.{carriedOut}
 use Rattle.unit.specs.Rules.{hasExtent, isIllegal, isTape, notExecutable, wholeCount, writes}
-use Rattle.unit.specs.declared.plans.Answer.the-variants as answer
-use Rattle.unit.specs.declared.plans.Plan.{Plan}
-use Rattle.unit.specs.declared.effects.Notice.the-variants as notice
-use Rattle.unit.specs.declared.effects.Ran.{Ran}
-use Rattle.unit.specs.declared.effects.Ran.the-variants as ran
+use Rattle.commands.specs.declared.plans.Answer.the-variants as answer
+use Rattle.commands.specs.declared.plans.Plan.{Plan}
+use Rattle.commands.specs.declared.effects.Notice.the-variants as notice
+use Rattle.commands.specs.declared.effects.Ran.{Ran}
+use Rattle.commands.specs.declared.effects.Ran.the-variants as ran
 
 -- an end before the command is carried out: the tape stays
 unfoldable pub rejected : Unit → Bool → ℕ → ℕ → Residual → Ran

@@ -1,12 +1,12 @@
 // Advance, in order: a function for each step of the paper, each going on to the next.
-use crate::commands::carry_out;
-use crate::effects::Notice;
-use crate::effects::Ran;
-use crate::effects::effect_of;
-use crate::effects::plan_of;
-use crate::effects::still_plan;
-use crate::plans::Answer;
-use crate::plans::Plan;
+use commands::Answer;
+use commands::Notice;
+use commands::Plan;
+use commands::Ran;
+use commands::carry_out;
+use commands::effect_of;
+use commands::plan_of;
+use commands::still_plan;
 use lists::word;
 use signals::ByteCount;
 use signals::Command;

@@ -1,10 +1,10 @@
 // Write and Format: the object goes where the tape stands, or for a retry, behind a gap, where the last object stood.
-use crate::plans::Laid;
-use crate::plans::Motion;
-use crate::plans::Moving;
-use crate::plans::laid_blocks;
-use crate::plans::no_lay;
-use crate::plans::no_move;
+use crate::parts::Laid;
+use crate::parts::Motion;
+use crate::parts::Moving;
+use crate::parts::laid_blocks;
+use crate::parts::no_lay;
+use crate::parts::no_move;
 use moves::Sought;
 use moves::seek;
 use signals::End;
@@ -14,8 +14,8 @@ use state::Tape;
 use tape::Geometry;
 ghost use mathlib.Core.Path.{_≡_};
 ghost use Prim.Native.Nat.{_+_, _≤_};
-ghost use Rattle.unit.specs.Plans.{laidBlocks};
-ghost use Rattle.unit.specs.Writes.{behindGap, noRoom, retried, writtenAt, writtenMotion};
+ghost use Rattle.motions.specs.Parts.{laidBlocks};
+ghost use Rattle.motions.specs.Writes.{behindGap, noRoom, retried, writtenAt, writtenMotion};
 
 // Step 11: the object doesn't fit the reel: NEF, class 3, unmoved. (EOT shows by the position.)
 fn no_room(t: Tape) -> Motion

@@ -1,19 +1,19 @@
 // How a command, or an attention, ended: the state it leaves, what it says, and how it is told.
 use crate::plans::Answer;
-use crate::plans::Laid;
-use crate::plans::Motion;
-use crate::plans::Moved;
 use crate::plans::Plan;
-use crate::plans::laid_blocks;
-use crate::plans::no_lay;
-use crate::plans::no_move;
+use motions::Laid;
+use motions::Motion;
+use motions::Moved;
+use motions::laid_blocks;
+use motions::no_lay;
+use motions::no_move;
 use signals::End;
 use signals::Status;
 use signals::message_of;
 use state::Unit;
 use tape::Geometry;
 ghost use mathlib.Core.Path.{_≡_};
-ghost use Rattle.unit.specs.Effects.{effectOf, endedUnit, finished, motionEffect, planned, quiet, silenced, statusOf, still, told};
+ghost use Rattle.commands.specs.Effects.{effectOf, endedUnit, finished, motionEffect, planned, quiet, silenced, statusOf, still, told};
 
 // How an end is told.
 pub enum Notice {

@@ -12,10 +12,10 @@ use Rattle.state.specs.declared.Tape.{Tape}
 use Rattle.moves.specs.Seeking.{sought}
 use Rattle.moves.specs.declared.seeking.Sought.{Sought}
 use Rattle.moves.specs.declared.seeking.Sought.the-variants as sought-as
-use Rattle.unit.specs.Plans.{end, laidBlocks, noMove, standing, stops}
-use Rattle.unit.specs.declared.plans.Laid.{Laid}
-use Rattle.unit.specs.declared.plans.Motion.{Motion}
-use Rattle.unit.specs.declared.plans.Motion.the-variants as motion
+use Rattle.motions.specs.Parts.{end, laidBlocks, noMove, standing, stops}
+use Rattle.motions.specs.declared.parts.Laid.{Laid}
+use Rattle.motions.specs.declared.parts.Motion.{Motion}
+use Rattle.motions.specs.declared.parts.Motion.the-variants as motion
 
 -- "11. Object doesn't fit the reel: NEF, EOT, class 3, unmoved."
 unfoldable pub noRoom : Tape → Motion

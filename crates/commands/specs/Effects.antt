@@ -16,17 +16,17 @@ use Rattle.state.specs.declared.Panel.{Panel}
 use Rattle.state.specs.declared.Attention.{Attention}
 use Rattle.state.specs.declared.Registers.{Registers}
 use Rattle.state.specs.Changes.{withRegisters}
-use Rattle.unit.specs.Plans.{laidBlocks, noLay, noMove}
-use Rattle.unit.specs.declared.plans.Answer.{Answer}
-use Rattle.unit.specs.declared.plans.Answer.the-variants as answer
-use Rattle.unit.specs.declared.plans.Plan.{Plan}
-use Rattle.unit.specs.declared.plans.Motion.{Motion}
-use Rattle.unit.specs.declared.plans.Motion.the-variants as motion
-use Rattle.unit.specs.declared.effects.Notice.{Notice}
-use Rattle.unit.specs.declared.effects.Notice.the-variants as notice
-use Rattle.unit.specs.declared.effects.Effect.{Effect}
-use Rattle.unit.specs.declared.effects.Ran.{Ran}
-use Rattle.unit.specs.declared.effects.Ran.the-variants as ran
+use Rattle.motions.specs.Parts.{laidBlocks, noLay, noMove}
+use Rattle.commands.specs.declared.plans.Answer.{Answer}
+use Rattle.commands.specs.declared.plans.Answer.the-variants as answer
+use Rattle.commands.specs.declared.plans.Plan.{Plan}
+use Rattle.motions.specs.declared.parts.Motion.{Motion}
+use Rattle.motions.specs.declared.parts.Motion.the-variants as motion
+use Rattle.commands.specs.declared.effects.Notice.{Notice}
+use Rattle.commands.specs.declared.effects.Notice.the-variants as notice
+use Rattle.commands.specs.declared.effects.Effect.{Effect}
+use Rattle.commands.specs.declared.effects.Ran.{Ran}
+use Rattle.commands.specs.declared.effects.Ran.the-variants as ran
 
 -- the state with one part anew
 abbrev pub withTape : Unit → Tape → Unit

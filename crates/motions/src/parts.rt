@@ -1,21 +1,9 @@
-// What a step is about to do, as a value.
+// The parts of what a command is about to do: what is moved to memory and what is laid on the reel.
 use signals::End;
 use state::Tape;
-use state::Unit;
 ghost use mathlib.Core.Path.{_≡_};
 ghost use Prim.Native.Nat.{_≤_};
-ghost use Rattle.unit.specs.Plans.{laidBlocks, movedLength, noLay, noMove, objectBlocks};
-
-// The answers of the calls; a definition in specs/ gives each its number.
-pub enum Answer {
-    // Whether it interrupts.
-    Done(bool),
-    Idle,
-    // A refusal's number.
-    Refused(usize),
-    // Refusal 7, and the block it names.
-    BadBlock(usize),
-}
+ghost use Rattle.motions.specs.Parts.{laidBlocks, movedLength, noLay, noMove, objectBlocks};
 
 // The bytes that a Read moves: of the record of `length` bytes at block `first`, to a buffer of `count` bytes at `pointer`.
 pub struct Moved {
@@ -57,16 +45,6 @@ pub enum Motion {
     Ended(Moving),
     // A block at fault.
     Fault(usize),
-}
-
-// All that a step is about to store.
-pub struct Plan {
-    pub answer: Answer,
-    pub unit: Unit,
-    pub moved: Moved,
-    pub laid: Laid,
-    pub sends: bool,
-    pub message: [u16; 7],
 }
 
 pub fn no_move() -> Moved

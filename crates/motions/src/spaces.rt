@@ -1,8 +1,8 @@
 // Position: records and marks, forward and in reverse.
-use crate::plans::Motion;
-use crate::plans::Moving;
-use crate::plans::no_lay;
-use crate::plans::no_move;
+use crate::parts::Motion;
+use crate::parts::Moving;
+use crate::parts::no_lay;
+use crate::parts::no_move;
 use moves::Rule;
 use moves::Spaced;
 use moves::Span;
@@ -16,7 +16,7 @@ use signals::flag;
 use state::Tape;
 ghost use mathlib.Core.Path.{_≡_};
 ghost use Prim.Native.Nat.{_≤_};
-ghost use Rattle.unit.specs.Spaces.{positioned, residualOf, spaceEnd, spaceMotion};
+ghost use Rattle.motions.specs.Spaces.{positioned, residualOf, spaceEnd, spaceMotion};
 
 fn residual_of(marks: bool, left: u16) -> Residual
     ensures { λ r. ⌜ r ≡ residualOf marks left ⌝ }

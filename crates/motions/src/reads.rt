@@ -1,9 +1,9 @@
 // Read: one stage, or two for a reread.
-use crate::plans::Motion;
-use crate::plans::Moved;
-use crate::plans::Moving;
-use crate::plans::no_lay;
-use crate::plans::no_move;
+use crate::parts::Motion;
+use crate::parts::Moved;
+use crate::parts::Moving;
+use crate::parts::no_lay;
+use crate::parts::no_move;
 use moves::Sought;
 use moves::seek;
 use signals::ByteCount;
@@ -12,7 +12,7 @@ use signals::Residual;
 use signals::flag;
 use state::Tape;
 ghost use mathlib.Core.Path.{_≡_};
-ghost use Rattle.unit.specs.Reads.{firstBlock, markEnd, nothingEnd, readEnd, readMotion, readOne, readThenSpace, reread, spaceBack, spaceThenRead, stageOf, stopMotion};
+ghost use Rattle.motions.specs.Reads.{firstBlock, markEnd, nothingEnd, readEnd, readMotion, readOne, readThenSpace, reread, spaceBack, spaceThenRead, stageOf, stopMotion};
 
 // What a Read asks for.
 pub struct Reading {
@@ -96,7 +96,7 @@ fn stop_motion(end: End, position: usize, e: usize) -> Motion
 }
 
 // Seek, and say how the command ends where no record is found.
-fn stage(reel: &[u8], t: Tape, count: u16, reverse: bool) -> Stage
+fn run_stage(reel: &[u8], t: Tape, count: u16, reverse: bool) -> Stage
     ensures { λ r. ⌜ r ≡ stageOf (now (reel .entry)) t count reverse ⌝ }
 {
     match seek(reel, reverse, t.position, t.end) {
@@ -144,7 +144,7 @@ fn read_motion(r: Reading, reverse: bool, n: usize, q: usize, t: Tape, rev: bool
 pub fn read_one(reel: &[u8], t: Tape, r: Reading, reverse: bool) -> Motion
     ensures { λ x. ⌜ x ≡ readOne (now (reel .entry)) t r reverse ⌝ }
 {
-    match stage(reel, t, r.count, reverse) {
+    match run_stage(reel, t, r.count, reverse) {
         Stage::Record(n, q) => read_motion(
             r,
             reverse,
@@ -164,7 +164,7 @@ pub fn read_one(reel: &[u8], t: Tape, r: Reading, reverse: bool) -> Motion
 fn space_then_read(reel: &[u8], t: Tape, r: Reading, reverse: bool) -> Motion
     ensures { λ x. ⌜ x ≡ spaceThenRead (now (reel .entry)) t r reverse ⌝ }
 {
-    match stage(reel, t, r.count, reverse) {
+    match run_stage(reel, t, r.count, reverse) {
         Stage::Record(_, q) => read_one(
             reel,
             Tape {
@@ -182,7 +182,7 @@ fn space_then_read(reel: &[u8], t: Tape, r: Reading, reverse: bool) -> Motion
 fn space_back(reel: &[u8], e: usize, r: Reading, reverse: bool, n: usize, q: usize) -> Motion
     ensures { λ x. ⌜ x ≡ spaceBack (now (reel .entry)) e r reverse n q ⌝ }
 {
-    match stage(
+    match run_stage(
         reel,
         Tape {
             position: q,
@@ -210,7 +210,7 @@ fn space_back(reel: &[u8], e: usize, r: Reading, reverse: bool, n: usize, q: usi
 fn read_then_space(reel: &[u8], t: Tape, r: Reading, reverse: bool) -> Motion
     ensures { λ x. ⌜ x ≡ readThenSpace (now (reel .entry)) t r reverse ⌝ }
 {
-    match stage(reel, t, r.count, reverse) {
+    match run_stage(reel, t, r.count, reverse) {
         Stage::Record(n, q) => space_back(reel, t.end, r, reverse, n, q),
         Stage::Over(m) => m,
     }

@@ -18,18 +18,18 @@ use Rattle.state.specs.declared.Unit.{Unit}
 use Rattle.state.specs.declared.Characteristics.{Characteristics}
 use Rattle.state.specs.declared.Registers.{Registers}
 use Rattle.moves.specs.declared.spacing.Rule.{Rule}
-use Rattle.unit.specs.Plans.{end, standing}
-use Rattle.unit.specs.Reads.{readOne, reread}
-use Rattle.unit.specs.Spaces.{positioned}
-use Rattle.unit.specs.Writes.{retried, writtenAt}
-use Rattle.unit.specs.Effects.{effectOf, motionEffect, withAttention, withPanel, withTape}
-use Rattle.unit.specs.declared.plans.Laid.{Laid}
-use Rattle.unit.specs.declared.plans.Object.{Object}
-use Rattle.unit.specs.declared.plans.Object.the-variants as object
-use Rattle.unit.specs.declared.reads.Reading.{Reading}
-use Rattle.unit.specs.declared.effects.Notice.the-variants as notice
-use Rattle.unit.specs.declared.effects.Ran.{Ran}
-use Rattle.unit.specs.declared.effects.Ran.the-variants as ran
+use Rattle.motions.specs.Parts.{end, standing}
+use Rattle.motions.specs.Reads.{readOne, reread}
+use Rattle.motions.specs.Spaces.{positioned}
+use Rattle.motions.specs.Writes.{retried, writtenAt}
+use Rattle.commands.specs.Effects.{effectOf, motionEffect, withAttention, withPanel, withTape}
+use Rattle.motions.specs.declared.parts.Laid.{Laid}
+use Rattle.motions.specs.declared.parts.Object.{Object}
+use Rattle.motions.specs.declared.parts.Object.the-variants as object
+use Rattle.motions.specs.declared.reads.Reading.{Reading}
+use Rattle.commands.specs.declared.effects.Notice.the-variants as notice
+use Rattle.commands.specs.declared.effects.Ran.{Ran}
+use Rattle.commands.specs.declared.effects.Ran.the-variants as ran
 
 abbrev pub plainEnd : End
 plainEnd = end 0 0 0 residual.Nothing

@@ -4,16 +4,16 @@ use crate::effects::Notice;
 use crate::effects::Ran;
 use crate::effects::effect_of;
 use crate::effects::motion_effect;
-use crate::plans::Laid;
-use crate::plans::Motion;
-use crate::plans::Object;
-use crate::reads::Reading;
-use crate::reads::read_one;
-use crate::reads::reread_one;
-use crate::spaces::position;
-use crate::writes::retry;
-use crate::writes::write_at;
 use lists::word;
+use motions::Laid;
+use motions::Motion;
+use motions::Object;
+use motions::Reading;
+use motions::position;
+use motions::read_one;
+use motions::reread_one;
+use motions::retry;
+use motions::write_at;
 use moves::Rule;
 use signals::Command;
 use signals::End;
@@ -27,7 +27,7 @@ ghost use mathlib.Core.Bool.{true};
 ghost use mathlib.Core.Path.{_≡_};
 ghost use Prim.Native.Nat.{_+_, _≤_};
 ghost use lib.ListN.{length};
-ghost use Rattle.unit.specs.Commands.{carriedOut, characteristicsAt, characterized, formatted, modeWord, plainEffect, plainEnd, positionedBy, readBy, refusedCharacteristics, released, rereadBy, rewound, takenCharacteristics, unloaded, writtenBy};
+ghost use Rattle.commands.specs.Commands.{carriedOut, characteristicsAt, characterized, formatted, modeWord, plainEffect, plainEnd, positionedBy, readBy, refusedCharacteristics, released, rereadBy, rewound, takenCharacteristics, unloaded, writtenBy};
 
 fn plain_end() -> End
     ensures { λ r. ⌜ r ≡ plainEnd ⌝ }

@@ -1,4 +1,4 @@
--- The parts of a plan: ends, moves and blocks laid.
+-- The parts of what a command is about to do: ends, moves and blocks laid.
 use mathlib.Core.Bool.{Bool, true, false}
 use Prim.Native.Nat.{ℕ, _+_, min}
 use Rattle.lists.specs.Pick.{pick}
@@ -6,22 +6,13 @@ use Rattle.tape.specs.Numbers.{piecesOf}
 use Rattle.signals.specs.declared.message.End.{End}
 use Rattle.signals.specs.declared.counts.Residual.{Residual}
 use Rattle.state.specs.declared.Tape.{Tape}
-use Rattle.unit.specs.declared.plans.Answer.{Answer}
-use Rattle.unit.specs.declared.plans.Answer.the-variants as answer
-use Rattle.unit.specs.declared.plans.Moved.{Moved}
-use Rattle.unit.specs.declared.plans.Laid.{Laid}
-use Rattle.unit.specs.declared.plans.Object.{Object}
-use Rattle.unit.specs.declared.plans.Object.the-variants as object
-use Rattle.unit.specs.declared.plans.Moving.{Moving}
-use Rattle.unit.specs.declared.plans.Motion.{Motion}
-use Rattle.unit.specs.declared.plans.Motion.the-variants as motion
-
--- the paper's number of an answer (Idle is no refusal)
-unfoldable pub numberOf : Answer → ℕ
-numberOf (answer.Done i) = 0
-numberOf answer.Idle = 0
-numberOf (answer.Refused n) = n
-numberOf (answer.BadBlock k) = 7
+use Rattle.motions.specs.declared.parts.Moved.{Moved}
+use Rattle.motions.specs.declared.parts.Laid.{Laid}
+use Rattle.motions.specs.declared.parts.Object.{Object}
+use Rattle.motions.specs.declared.parts.Object.the-variants as object
+use Rattle.motions.specs.declared.parts.Moving.{Moving}
+use Rattle.motions.specs.declared.parts.Motion.{Motion}
+use Rattle.motions.specs.declared.parts.Motion.the-variants as motion
 
 -- an end: class, XST0's high byte, XST3, residual
 abbrev pub end : ℕ → ℕ → ℕ → Residual → End

@@ -16,9 +16,9 @@ use Rattle.moves.specs.declared.spacing.Span.{Span}
 use Rattle.moves.specs.declared.spacing.Spaced.{Spaced}
 use Rattle.moves.specs.declared.spacing.Stop.{Stop}
 use Rattle.moves.specs.declared.spacing.Stop.the-variants as stop-as
-use Rattle.unit.specs.Plans.{end, standing, stops}
-use Rattle.unit.specs.declared.plans.Motion.{Motion}
-use Rattle.unit.specs.declared.plans.Motion.the-variants as motion
+use Rattle.motions.specs.Parts.{end, standing, stops}
+use Rattle.motions.specs.declared.parts.Motion.{Motion}
+use Rattle.motions.specs.declared.parts.Motion.the-variants as motion
 
 -- "records or marks for Position modes 0 to 3"
 unfoldable pub residualOf : Bool → ℕ → Residual

@@ -14,12 +14,12 @@ use Rattle.state.specs.declared.Tape.{Tape}
 use Rattle.moves.specs.Seeking.{sought}
 use Rattle.moves.specs.declared.seeking.Sought.{Sought}
 use Rattle.moves.specs.declared.seeking.Sought.the-variants as sought-as
-use Rattle.unit.specs.Plans.{end, noLay, standing, stops}
-use Rattle.unit.specs.declared.plans.Motion.{Motion}
-use Rattle.unit.specs.declared.plans.Motion.the-variants as motion
-use Rattle.unit.specs.declared.reads.Reading.{Reading}
-use Rattle.unit.specs.declared.reads.Stage.{Stage}
-use Rattle.unit.specs.declared.reads.Stage.the-variants as stage
+use Rattle.motions.specs.Parts.{end, noLay, standing, stops}
+use Rattle.motions.specs.declared.parts.Motion.{Motion}
+use Rattle.motions.specs.declared.parts.Motion.the-variants as motion
+use Rattle.motions.specs.declared.reads.Reading.{Reading}
+use Rattle.motions.specs.declared.reads.Stage.{Stage}
+use Rattle.motions.specs.declared.reads.Stage.the-variants as stage
 
 abbrev pub bytes : ℕ → Residual
 bytes n = residual.Bytes (record { 0 = n })

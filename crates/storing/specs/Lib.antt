@@ -1,0 +1,2 @@
+-- What storing a plan does to memory and reel.
+pub mod Stored
