@@ -1,0 +1,3 @@
+-- Case laws of the definitions that the code computes, and what a search and a space say of the reel.
+pub mod Seeks
+pub mod Spaces
