@@ -9,7 +9,7 @@ use lib.ListN.{length, take, drop, length-drop, length-take}
 use lib.Seq.{drop-drop, take-add}
 use Rattle.lists.specs.Words.{Bytes}
 use Rattle.tape.specs.Bytes.{recordBytes}
-use Rattle.tape.specs.Numbers.{blockBytes, dataBytes, headBytes, piecesOf, recordLimit}
+use Rattle.tape.specs.Numbers.{blockBytes, dataBytes, headBytes, piecesOf}
 use Rattle.tape.specs.Objects.{Allowed, StandsAt, blocksIn, gap, imageOf, mark, pieceOf, piecesTo, record-of}
 use Rattle.tape.specs.Reading.{blockAt, classAt, classOf}
 use Rattle.tape.specs.declared.Block.{Block}
@@ -17,7 +17,7 @@ use Rattle.tape.specs.declared.Block.the-variants as block
 use Rattle.tape.proofs.Accepted.{clash, pick-first}
 use Rattle.tape.proofs.Parts.{bytes-part, take-there}
 use Rattle.tape.proofs.Passes.{PiecesAt}
-use Rattle.tape.proofs.ReadBlocks.{piece-ranged, whole-gap, whole-mark, whole-piece}
+use Rattle.tape.proofs.ReadBlocks.{piece-read, whole-gap, whole-mark, whole-piece}
 use Rattle.tape.proofs.Recorded.{record-length, record-part}
 use Rattle.tape.proofs.Runs.{part-of-front}
 
@@ -46,9 +46,6 @@ module _ (s : List ℕ) (k : ℕ) (all : Bytes s) where
 
   piece-at : (n i : ℕ) → classAt s k ≡ block.Piece n i → ReadAt s k (block.Piece n i)
   piece-at n i e = read-at (block.Piece n i) (λ h. clash cc) e
-
-  pub piece-read : (n i : ℕ) → classAt s k ≡ block.Piece n i → (1 ≤ n) × (n ≤ recordLimit) × (i < piecesOf n)
-  piece-read n i e = piece-ranged (blockAt s k) n i (piece-at n i e .class)
 
 -- the converse of `stands-piece`: blocks that are a record's pieces make up its image
 pub pieces-join : (s d : List ℕ) (p m : ℕ) → ((j : ℕ) → j < m → blockAt s (p + j) ≡ pieceOf d j) → take (blockBytes * m) (drop (blockBytes * p) s) ≡ piecesTo d m
@@ -92,5 +89,5 @@ module _ (s : List ℕ) (p n : ℕ) (bytes : Bytes s) (one : 1 ≤ n) (all : Pie
 
   pub pieces-allowed : Allowed (record-of (recordBytes s p n))
   pieces-allowed =
-      let r = piece-read s (p + 0) bytes n 0 (all 0 (omega arith)) in
+      let r = piece-read s (p + 0) n 0 (all 0 (omega arith)) in
       rw pieces-length (r .0, r .1)

@@ -16,5 +16,7 @@ pub mod Passes
 pub mod Below
 pub mod Parts
 pub mod Gathering
+pub mod Outcomes
+pub mod Within
 pub mod Seen
 pub mod Sweeps

@@ -2,21 +2,21 @@
 use mathlib.Core.Path.{_≡_, refl}
 use mathlib.Core.Bool.{Bool, true, false, _&&_, and-eq-true-iff}
 use mathlib.Core.List.{List, []}
-use Prim.Native.Nat.{ℕ, _-_, _*_, _≤_, _<_, min}
+use Prim.Native.Nat.{ℕ, _-_, _*_, _/_, _≤_, _<_, min}
 use native.Mathlib.Omega.{arith}
 use borrow.Author.Tests.{le-leb, leb-true, lt-ltb, ltb-true}
 use lib.Dec.{eqb, leb, ltb}
 use lib.ListN.{length, take, drop}
 use Rattle.lists.specs.Pick.{pick}
 use Rattle.lists.specs.Words.{Bytes}
-use Rattle.tape.proofs.Accepted.{Accepted, accepted-gap, accepted-mark, accepted-piece}
+use Rattle.tape.proofs.Accepted.{Accepted, accepted-gap, accepted-mark, accepted-piece, clash, pick-first}
 use Rattle.tape.proofs.Blocks.{block-index, block-kind, block-length}
 use Rattle.tape.proofs.Checked.{block-check, block-padding}
 use Rattle.tape.proofs.Rebuilt.{rebuilt}
 use Rattle.tape.specs.Layout.{blockOf, gapKind, markKind, pieceKind}
 use Rattle.tape.specs.Numbers.{blockBytes, dataBytes, headBytes, piecesOf, recordLimit}
 use Rattle.tape.specs.Objects.{gap, imageOf, mark}
-use Rattle.tape.specs.Reading.{bodyRight, classBy, classOf, headRight, kindOf, usedOf}
+use Rattle.tape.specs.Reading.{blockAt, bodyRight, classAt, classBy, classOf, headRight, kindOf, usedOf}
 use Rattle.tape.specs.declared.Block.the-variants as block
 
 -- a laid block with a right head is read as what its kind says
@@ -42,6 +42,12 @@ piece-ranged b n i e =
     let p = and-eq-true-iff (leb 1 n && leb n recordLimit) (ltb i (piecesOf n)) .0 (accepted-piece b n i e .head) in
     let q = and-eq-true-iff (leb 1 n) (leb n recordLimit) .0 (p .0) in
     (leb-true 1 n (q .0), leb-true n recordLimit (q .1), ltb-true i (piecesOf n) (p .1))
+
+-- a block that the slice does not hold is damaged, and so no piece
+pub piece-read : (s : List ℕ) (k n i : ℕ) → classAt s k ≡ block.Piece n i → (1 ≤ n) × (n ≤ recordLimit) × (i < piecesOf n)
+unfolding classAt
+piece-read s k n i e =
+    piece-ranged (blockAt s k) n i (pick-first (ltb k (length s / blockBytes)) (classOf (blockAt s k)) block.Damaged (block.Piece n i) e (λ h. clash cc) .1)
 
 used-fits : (t : Bool) (m : ℕ) → pick t (min dataBytes m) 0 ≤ dataBytes
 used-fits true m = omega arith

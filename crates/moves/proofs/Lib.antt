@@ -1,0 +1,5 @@
+-- Case laws of the definitions that the code computes, and what a search and a space say of the reel.
+pub mod Seeks
+pub mod Spaces
+pub mod Rounds
+pub mod Within

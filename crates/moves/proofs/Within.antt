@@ -1,0 +1,93 @@
+-- Where a search and a space lead, by their numbers alone: never past the end, and the count never grows.
+use mathlib.Core.Bool.{Bool, true, false, _&&_}
+use mathlib.Core.List.{List}
+use mathlib.Core.Path.{_≡_}
+use Prim.Native.Nat.{ℕ, zero, suc, _+_, _-_, _≤_, _<_}
+use native.Mathlib.Omega.{arith}
+use Rattle.tape.specs.Pass.{passed}
+use Rattle.tape.specs.declared.Met.{Met}
+use Rattle.tape.specs.declared.Met.the-variants as met
+use Rattle.tape.proofs.Within.{Onward, PassIn, RecordIn, onward-more, pass-in}
+use Rattle.moves.specs.Seeking.{sought, soughtFrom, soughtOn}
+use Rattle.moves.specs.Spacing.{markTurn, recordTurn, spaced, turnOf}
+use Rattle.moves.specs.declared.seeking.Sought.{Sought}
+use Rattle.moves.specs.declared.seeking.Sought.the-variants as sought-as
+use Rattle.moves.specs.declared.spacing.Rule.{Rule}
+use Rattle.moves.specs.declared.spacing.Spaced.{Spaced}
+use Rattle.moves.specs.declared.spacing.Span.{Span}
+use Rattle.moves.specs.declared.spacing.Turn.{Turn}
+use Rattle.moves.specs.declared.spacing.Turn.the-variants as turn-as
+use Rattle.moves.proofs.Rounds.{SpanHas, either, spaced-keeps}
+
+-- what is known of each answer of a search
+abbrev pub SoughtIn : Bool → ℕ → ℕ → Sought → Type 0
+SoughtIn reverse p e (sought-as.Record n q) = RecordIn reverse e n q × Onward reverse p e q
+SoughtIn reverse p e (sought-as.Mark q) = Onward reverse p e q
+SoughtIn reverse p e (sought-as.Nothing q) = q ≤ e
+SoughtIn reverse p e (sought-as.Bad k) = Unit {0}
+
+-- from further back the same is known
+from-before : {reverse : Bool} {p e q : ℕ} (f : Sought) → Onward reverse p e q → SoughtIn reverse q e f → SoughtIn reverse p e f
+from-before (sought-as.Record n t) o h = (h .0, onward-more o (h .1))
+from-before (sought-as.Mark t) o h = onward-more o h
+from-before (sought-as.Nothing t) o h = h
+from-before (sought-as.Bad k) o h = tt
+
+on-in : (reverse : Bool) (p e : ℕ) (m : Met) (onward : ℕ → Sought) → p ≤ e → PassIn reverse p e m → ((q : ℕ) → q ≤ e → SoughtIn reverse q e (onward q)) → SoughtIn reverse p e (soughtOn m p onward)
+unfolding soughtOn
+on-in reverse p e (met.Record n q) onward h i on = i
+on-in reverse p e (met.Mark q) onward h i on = i
+on-in reverse p e (met.Gap q) onward h i on = from-before (onward q) i (on q (i .below))
+on-in reverse p e met.Nothing onward h i on = h
+on-in reverse p e (met.Bad k) onward h i on = tt
+
+from-in : (turns : ℕ) (s : List ℕ) (reverse : Bool) (p e : ℕ) → p ≤ e → SoughtIn reverse p e (soughtFrom turns s reverse p e)
+unfolding soughtFrom
+from-in zero s reverse p e h = h
+from-in (suc turns) s reverse p e h = on-in reverse p e (passed s reverse p e) (λ q. soughtFrom turns s reverse q e) h (pass-in s reverse p e h) (λ q k. from-in turns s reverse q e k)
+
+module _ (s : List ℕ) (reverse : Bool) (p e : ℕ) (h : p ≤ e) where
+  pub sought-in : SoughtIn reverse p e (sought s reverse p e)
+  unfolding sought
+  sought-in = from-in e s reverse p e h
+
+  pub sought-record : {n q : ℕ} → sought s reverse p e ≡ sought-as.Record n q → RecordIn reverse e n q
+  sought-record y = (rw y at sought-in) .0
+
+  -- a block or more further, and so not at the end that it came from
+  pub sought-mark : {q : ℕ} → sought s reverse p e ≡ sought-as.Mark q → (q ≤ e) × (reverse ≡ false → 1 ≤ q) × (reverse ≡ true → q + 1 ≤ e)
+  sought-mark y =
+      let o = rw y at sought-in in
+      (o .below, λ z. omega (arith, o .up z), λ z. omega (arith, o .down z))
+
+  pub sought-nothing : {q : ℕ} → sought s reverse p e ≡ sought-as.Nothing q → q ≤ e
+  sought-nothing y = rw y at sought-in
+
+abbrev Below : ℕ → Span → Type 0
+Below e y = y .position ≤ e
+
+-- a turn leads to what the search found, or stays
+turn-below : (r : Rule) (e : ℕ) (y : Span) (f : Sought) → Below e y → SoughtIn (r .reverse) (y .position) e f → SpanHas (Below e) (turnOf r y f)
+unfolding turnOf recordTurn markTurn
+turn-below r e y (sought-as.Record n q) h i = either (SpanHas (Below e)) (r .marks) _ _ (i .0 .below) (i .0 .below)
+turn-below r e y (sought-as.Mark q) h i =
+    either (SpanHas (Below e)) (r .marks) _ _ (either (SpanHas (Below e)) (r .ess && y .«after_mark») _ _ (i .below) (i .below)) (i .below)
+turn-below r e y (sought-as.Nothing q) h i = i
+turn-below r e y (sought-as.Bad k) h i = h
+
+pub spaced-within : (s : List ℕ) (r : Rule) (e : ℕ) (x : Span) → x .position ≤ e → spaced s r e x .span .position ≤ e
+spaced-within s r e x h = spaced-keeps s r e (Below e) (λ y i n. turn-below r e y _ i (sought-in s (r .reverse) (y .position) e i)) x h
+
+abbrev Fewer : ℕ → Span → Type 0
+Fewer n y = y .left ≤ n
+
+turn-fewer : (r : Rule) (n : ℕ) (y : Span) (f : Sought) → Fewer n y → SpanHas (Fewer n) (turnOf r y f)
+unfolding turnOf recordTurn markTurn
+turn-fewer r n y (sought-as.Record m q) h = either (SpanHas (Fewer n)) (r .marks) _ _ h (omega arith)
+turn-fewer r n y (sought-as.Mark q) h =
+    either (SpanHas (Fewer n)) (r .marks) _ _ (either (SpanHas (Fewer n)) (r .ess && y .«after_mark») _ _ (omega arith) (omega arith)) h
+turn-fewer r n y (sought-as.Nothing q) h = h
+turn-fewer r n y (sought-as.Bad k) h = h
+
+pub spaced-left : (s : List ℕ) (r : Rule) (e : ℕ) (x : Span) → spaced s r e x .span .left ≤ x .left
+spaced-left s r e x = spaced-keeps s r e (Fewer (x .left)) (λ y i n. turn-fewer r (x .left) y _ i) x (omega arith)

@@ -1,0 +1,19 @@
+-- `record_turn` meets its contract.
+use borrow.Author.Needs.{needs}
+use Rattle.moves.specs.Spacing.{recordTurn}
+use Rattle.moves.proofs.spacing.record_turn.Statement.{statement}
+use Rattle.moves.proofs.spacing.record_turn.Tie as tie
+
+returns : tie.Need-returns
+unfolding recordTurn
+returns c = rw (c .if1 .taken)
+
+sub-t6 : tie.Need-sub-t6
+sub-t6 c = search needs
+
+returns-2 : tie.Need-returns-2
+unfolding recordTurn
+returns-2 c = rw (c .before .if1 .left)
+
+pub record-turn-spec : {M : Type 1} → statement M
+record-turn-spec = tie.close (tie.spec returns sub-t6 returns-2)
