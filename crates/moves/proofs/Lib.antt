@@ -7,3 +7,4 @@ pub mod Bounds
 pub mod Steps
 pub mod Finds
 pub mod Counts
+pub mod FoundAt
