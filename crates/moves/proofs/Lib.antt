@@ -3,3 +3,8 @@ pub mod Seeks
 pub mod Spaces
 pub mod Rounds
 pub mod Within
+pub mod Bounds
+pub mod Steps
+pub mod Finds
+pub mod Counts
+pub mod FoundAt

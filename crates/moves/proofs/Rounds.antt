@@ -29,6 +29,10 @@ TurnHas P Q (turn-as.Over z) = Q z
 abbrev pub SpanHas : (Span → Type 0) → Turn → Type 0
 SpanHas P t = TurnHas P (λ z. P (z .span)) t
 
+pub turn-more : (P P′ : Span → Type 0) (Q Q′ : Spaced → Type 0) → ((z : Span) → P z → P′ z) → ((z : Spaced) → Q z → Q′ z) → (t : Turn) → TurnHas P Q t → TurnHas P′ Q′ t
+turn-more P P′ Q Q′ f g (turn-as.On y) h = f y h
+turn-more P P′ Q Q′ f g (turn-as.Over z) h = g z h
+
 -- what holds of both sides of a choice holds of the choice
 pub either : {A : Type 0} (P : A → Type 0) (b : Bool) (t u : A) → P t → P u → P (pick b t u)
 either P true t u h k = h

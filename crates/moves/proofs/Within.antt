@@ -2,7 +2,7 @@
 use mathlib.Core.Bool.{Bool, true, false, _&&_}
 use mathlib.Core.List.{List}
 use mathlib.Core.Path.{_≡_}
-use Prim.Native.Nat.{ℕ, zero, suc, _+_, _-_, _≤_, _<_}
+use Prim.Native.Nat.{ℕ, zero, suc, _+_, _≤_}
 use native.Mathlib.Omega.{arith}
 use Rattle.tape.specs.Pass.{passed}
 use Rattle.tape.specs.declared.Met.{Met}
@@ -13,10 +13,7 @@ use Rattle.moves.specs.Spacing.{markTurn, recordTurn, spaced, turnOf}
 use Rattle.moves.specs.declared.seeking.Sought.{Sought}
 use Rattle.moves.specs.declared.seeking.Sought.the-variants as sought-as
 use Rattle.moves.specs.declared.spacing.Rule.{Rule}
-use Rattle.moves.specs.declared.spacing.Spaced.{Spaced}
 use Rattle.moves.specs.declared.spacing.Span.{Span}
-use Rattle.moves.specs.declared.spacing.Turn.{Turn}
-use Rattle.moves.specs.declared.spacing.Turn.the-variants as turn-as
 use Rattle.moves.proofs.Rounds.{SpanHas, either, spaced-keeps}
 
 -- what is known of each answer of a search

@@ -52,9 +52,10 @@ fn record_turn(r: Rule, s: Span, q: usize) -> Turn
             after_mark: false,
         });
     }
+    let left = s.left - 1;
     Turn::On(Span {
         position: q,
-        left: s.left - 1,
+        left,
         tmk: s.tmk,
         after_mark: false,
     })

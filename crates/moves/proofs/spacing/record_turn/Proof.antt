@@ -8,12 +8,12 @@ returns : tie.Need-returns
 unfolding recordTurn
 returns c = rw (c .if1 .taken)
 
-sub-t6 : tie.Need-sub-t6
-sub-t6 c = search needs
+sub-left : tie.Need-sub-left
+sub-left c = search needs
 
 returns-2 : tie.Need-returns-2
 unfolding recordTurn
 returns-2 c = rw (c .before .if1 .left)
 
 pub record-turn-spec : {M : Type 1} → statement M
-record-turn-spec = tie.close (tie.spec returns sub-t6 returns-2)
+record-turn-spec = tie.close (tie.spec returns sub-left returns-2)
