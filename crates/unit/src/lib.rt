@@ -1,4 +1,17 @@
 // One TS11-compatible unit: what an advance is about to store, as a value, and the calls without a journal.
+mod calls;
 mod steps;
 
-pub use steps::plan_advance;
+pub use calls::Outcome;
+pub use calls::Reading;
+pub use calls::Register;
+pub use calls::advance;
+pub use calls::host_store;
+pub use calls::mount;
+pub use calls::mount_refusal;
+pub use calls::operate;
+pub use calls::plan_call;
+pub use calls::read_register;
+pub use calls::store_refusal;
+pub use calls::write_tsdb;
+pub use calls::write_tssr;
