@@ -1,0 +1,20 @@
+-- Numbers as bytes, low byte first.
+use mathlib.Core.List.{List, [], _∷_, _++_}
+use Prim.Native.Nat.{ℕ, suc, _+_, _*_, _/_, _%_}
+use lib.ListN.{drop}
+use Rattle.lists.specs.Words.{wordAt, wordBytes}
+
+abbrev pub numberBytes : ℕ → List ℕ
+numberBytes n = wordBytes (n % 65536) ++ wordBytes (n / 65536)
+
+abbrev pub numberAt : List ℕ → ℕ → ℕ
+numberAt b at = wordAt b at + 65536 * wordAt b (at + 2)
+
+unfoldable pub headBytes : List ℕ → List ℕ
+headBytes [] = []
+headBytes (n ∷ ns) = numberBytes n ++ headBytes ns
+
+-- the first k numbers that stand in b
+unfoldable pub headNumbers : ℕ → List ℕ → List ℕ
+headNumbers ℕ.zero b = []
+headNumbers (suc k) b = numberAt b 0 ∷ headNumbers k (drop 4 b)

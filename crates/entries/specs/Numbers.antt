@@ -1,0 +1,108 @@
+-- The head of an entry is 32 numbers; every field of the state has its place. (01: "Undoing registers but not VCK, owners or pending
+-- attention" is what this must rule out: see the law `entry-back`.)
+use mathlib.Core.Bool.{Bool, not}
+use mathlib.Core.List.{List, [], _∷_}
+use Prim.Native.Nat.{ℕ, _%_, _<_}
+use lib.Dec.{eqb}
+use lib.ListN.{getD}
+use Rattle.lists.specs.Pick.{pick}
+use Rattle.state.specs.declared.Unit.{Unit}
+use Rattle.entries.specs.declared.Entry.{Entry}
+
+abbrev pub bit : Bool → ℕ
+bit b = pick b 1 0
+
+-- a number of four bytes
+abbrev pub numberLimit : ℕ
+numberLimit = 4294967296
+
+unfoldable pub numbersOf : Entry → List ℕ
+numbersOf e =
+    e .unit .tape .position % numberLimit ∷ e .unit .tape .end % numberLimit ∷ e .unit .registers .pointer % numberLimit
+    ∷ e .unit .registers .class % numberLimit
+    ∷ bit (e .unit .registers .rmr)
+    ∷ bit (e .unit .registers .nxm)
+    ∷ bit (e .unit .registers .nba)
+    ∷ bit (e .unit .registers .ssr)
+    ∷ bit (e .unit .panel .online)
+    ∷ bit (e .unit .panel .locked)
+    ∷ bit (e .unit .panel .vck)
+    ∷ bit (e .unit .attention .«unit_owns»)
+    ∷ bit (e .unit .attention .pending)
+    ∷ bit (e .unit .attention .«release_ie»)
+    ∷ e .unit .characteristics .address % numberLimit
+    ∷ e .unit .characteristics .length % numberLimit
+    ∷ bit (e .unit .characteristics .eai)
+    ∷ bit (e .unit .characteristics .ess)
+    ∷ bit (e .unit .characteristics .enb)
+    ∷ e .unit .lengths .memory % numberLimit
+    ∷ e .unit .lengths .blocks % numberLimit
+    ∷ e .«data_at» % numberLimit
+    ∷ e .«data_length» % numberLimit
+    ∷ bit (e .swb)
+    ∷ e .«message_at» % numberLimit
+    ∷ e .«message_length» % numberLimit
+    ∷ e .«reel_at» % numberLimit
+    ∷ e .«reel_blocks» % numberLimit
+    ∷ 0
+    ∷ 0
+    ∷ 0
+    ∷ 0
+    ∷ []
+
+-- number i, and whether it is not 0
+abbrev pub nth : List ℕ → ℕ → ℕ
+nth n i = getD n i 0
+
+abbrev pub isSet : List ℕ → ℕ → Bool
+isSet n i = not (eqb (nth n i) 0)
+
+unfoldable pub unitOf : List ℕ → Unit
+unitOf n =
+    record {
+      tape = record { position = nth n 0; end = nth n 1 };
+      registers =
+          record {
+            pointer = nth n 2;
+            class = nth n 3;
+            rmr = isSet n 4;
+            nxm = isSet n 5;
+            nba = isSet n 6;
+            ssr = isSet n 7;
+          };
+      panel = record { online = isSet n 8; locked = isSet n 9; vck = isSet n 10 };
+      attention = record { «unit_owns» = isSet n 11; pending = isSet n 12; «release_ie» = isSet n 13 };
+      characteristics =
+          record { address = nth n 14; length = nth n 15; eai = isSet n 16; ess = isSet n 17; enb = isSet n 18 };
+      lengths = record { memory = nth n 19; blocks = nth n 20 };
+    }
+
+unfoldable pub entryOf : List ℕ → Entry
+entryOf n =
+    record {
+      unit = unitOf n;
+      «data_at» = nth n 21;
+      «data_length» = nth n 22;
+      swb = isSet n 23;
+      «message_at» = nth n 24;
+      «message_length» = nth n 25;
+      «reel_at» = nth n 26;
+      «reel_blocks» = nth n 27;
+    }
+
+-- every number of the entry has at most four bytes; so has each that the journal writes
+pub record Small (e : Entry) : Type 0 where
+  pub position : e .unit .tape .position < numberLimit
+  pub end : e .unit .tape .end < numberLimit
+  pub pointer : e .unit .registers .pointer < numberLimit
+  pub class : e .unit .registers .class < numberLimit
+  pub address : e .unit .characteristics .address < numberLimit
+  pub length : e .unit .characteristics .length < numberLimit
+  pub memory : e .unit .lengths .memory < numberLimit
+  pub blocks : e .unit .lengths .blocks < numberLimit
+  pub data-at : e .«data_at» < numberLimit
+  pub data-length : e .«data_length» < numberLimit
+  pub message-at : e .«message_at» < numberLimit
+  pub message-length : e .«message_length» < numberLimit
+  pub reel-at : e .«reel_at» < numberLimit
+  pub reel-blocks : e .«reel_blocks» < numberLimit

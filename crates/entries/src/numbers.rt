@@ -1,0 +1,126 @@
+// The one encoding of an entry's head: 32 numbers, and back.
+use crate::Entry;
+use state::Attention;
+use state::Characteristics;
+use state::Lengths;
+use state::Panel;
+use state::Registers;
+use state::Tape;
+use state::Unit;
+ghost use mathlib.Core.Path.{_≡_};
+ghost use Prim.Native.Nat.{_%_};
+ghost use Rattle.entries.specs.Numbers.{bit, entryOf, numbersOf, unitOf};
+
+fn low(x: usize) -> u32
+    ensures { λ r. ⌜ r ≡ x % 4294967296 ⌝ }
+{
+    (x % 4294967296) as u32
+}
+
+fn bit_of(b: bool) -> u32
+    ensures { λ r. ⌜ r ≡ bit b ⌝ }
+{
+    if b { 1 } else { 0 }
+}
+
+pub fn numbers_of(e: Entry) -> [u32; 32]
+    ensures { λ r. ⌜ r ≡ numbersOf e ⌝ }
+{
+    let u = e.unit;
+    [
+        low(u.tape.position),
+        low(u.tape.end),
+        low(u.registers.pointer),
+        low(u.registers.class),
+        bit_of(u.registers.rmr),
+        bit_of(u.registers.nxm),
+        bit_of(u.registers.nba),
+        bit_of(u.registers.ssr),
+        bit_of(u.panel.online),
+        bit_of(u.panel.locked),
+        bit_of(u.panel.vck),
+        bit_of(u.attention.unit_owns),
+        bit_of(u.attention.pending),
+        bit_of(u.attention.release_ie),
+        low(u.characteristics.address),
+        low(u.characteristics.length),
+        bit_of(u.characteristics.eai),
+        bit_of(u.characteristics.ess),
+        bit_of(u.characteristics.enb),
+        low(u.lengths.memory),
+        low(u.lengths.blocks),
+        low(e.data_at),
+        low(e.data_length),
+        bit_of(e.swb),
+        low(e.message_at),
+        low(e.message_length),
+        low(e.reel_at),
+        low(e.reel_blocks),
+        0,
+        0,
+        0,
+        0,
+    ]
+}
+
+fn unit_of(n: [u32; 32]) -> Unit
+    ensures { λ r. ⌜ r ≡ unitOf n ⌝ }
+{
+    let tape = Tape {
+        position: n[0] as usize,
+        end: n[1] as usize,
+    };
+    let registers = Registers {
+        pointer: n[2] as usize,
+        class: n[3] as usize,
+        rmr: n[4] != 0,
+        nxm: n[5] != 0,
+        nba: n[6] != 0,
+        ssr: n[7] != 0,
+    };
+    let panel = Panel {
+        online: n[8] != 0,
+        locked: n[9] != 0,
+        vck: n[10] != 0,
+    };
+    let attention = Attention {
+        unit_owns: n[11] != 0,
+        pending: n[12] != 0,
+        release_ie: n[13] != 0,
+    };
+    let characteristics = Characteristics {
+        address: n[14] as usize,
+        length: n[15] as usize,
+        eai: n[16] != 0,
+        ess: n[17] != 0,
+        enb: n[18] != 0,
+    };
+    let lengths = Lengths {
+        memory: n[19] as usize,
+        blocks: n[20] as usize,
+    };
+    Unit {
+        tape,
+        registers,
+        panel,
+        attention,
+        characteristics,
+        lengths,
+    }
+}
+
+pub fn entry_of(n: [u32; 32]) -> Entry
+    ensures { λ r. ⌜ r ≡ entryOf n ⌝ }
+{
+    let unit = unit_of(n);
+    Entry {
+        unit,
+        data_at: n[21] as usize,
+        data_length: n[22] as usize,
+        swb: n[23] != 0,
+        message_at: n[24] as usize,
+        message_length: n[25] as usize,
+        reel_at: n[26] as usize,
+        reel_blocks: n[27] as usize,
+    }
+}
