@@ -15,3 +15,4 @@ pub use calls::read_register;
 pub use calls::store_refusal;
 pub use calls::write_tsdb;
 pub use calls::write_tssr;
+pub use steps::plan_advance;
