@@ -1,0 +1,86 @@
+-- What every Read that ended keeps, stage by stage: the record lies below the recorded end, and its buffer is the one asked for.
+use mathlib.Core.Bool.{Bool, not}
+use mathlib.Core.List.{List}
+use mathlib.Core.Path.{_≡_, refl}
+use Prim.Native.Nat.{ℕ, _+_, _*_, _≤_}
+use native.Mathlib.Omega.{arith}
+use Rattle.tape.specs.Numbers.{blockBytes, piecesOf}
+use Rattle.tape.proofs.Within.{RecordIn}
+use Rattle.signals.specs.declared.message.End.{End}
+use Rattle.state.proofs.Tests.{either}
+use Rattle.moves.specs.declared.seeking.Sought.{Sought}
+use Rattle.moves.specs.declared.seeking.Sought.the-variants as sought-as
+use Rattle.moves.proofs.Within.{SoughtIn, sought-in}
+use Rattle.motions.specs.Parts.{noLay, standing}
+use Rattle.motions.specs.Reads.{firstBlock, markEnd, nothingEnd, readMotion, readOne, readOneBy, readThenSpace, readThenSpaceBy, reread, spaceBack, spaceBackBy, spaceThenRead, spaceThenReadBy, stageBy, stageOf, stopMotion}
+use Rattle.motions.specs.declared.parts.Moving.{Moving}
+use Rattle.motions.specs.declared.reads.Reading.{Reading}
+use Rattle.motions.specs.declared.reads.Stage.{Stage}
+use Rattle.motions.specs.declared.reads.Stage.the-variants as stage
+use Rattle.motions.proofs.Ends.{EndFits, Has, mark-end-fits, nothing-end-fits, read-end-fits}
+
+-- a Read as asked by r that ended, on a tape whose recorded end is e
+pub record ReadFits (e : ℕ) (r : Reading) (x : Moving) : Type 0 where
+  pub place : x .tape .position ≤ x .tape .end
+  pub kept : x .tape .end ≡ e
+  pub source : blockBytes * (x .moved .first + piecesOf (x .moved .length)) ≤ blockBytes * e
+  pub buffer : x .moved .pointer + x .moved .count ≤ r .pointer + r .count
+  pub unlaid : x .laid ≡ noLay
+  pub told : EndFits (x .end)
+
+module _ (e : ℕ) (r : Reading) where
+  stop-has : (x : End) (q : ℕ) → EndFits x → q ≤ e → Has (ReadFits e r) (stopMotion x q e)
+  unfolding stopMotion
+  stop-has x q f h = record { place = h; kept = refl; source = omega arith; buffer = omega arith; unlaid = refl; told = f }
+
+  -- the record of n bytes that was passed up to q is moved, and the tape stands at b
+  record-has : (reverse rev : Bool) (n q b : ℕ) → RecordIn reverse e n q → b ≤ e → Has (ReadFits e r) (readMotion r reverse n q (standing b e) rev)
+  unfolding readMotion firstBlock
+  record-has reverse rev n q b i h =
+      record { place = h; kept = refl; source = omega (arith, i .inside); buffer = omega arith; unlaid = refl; told = read-end-fits n (r .count) rev }
+
+  -- what is known of a stage
+  abbrev StageHas : Bool → Stage → Type 0
+  StageHas reverse (stage.Record n q) = RecordIn reverse e n q
+  StageHas reverse (stage.Over m) = Has (ReadFits e r) m
+
+  stage-by : (p : ℕ) (reverse : Bool) (f : Sought) → SoughtIn reverse p e f → StageHas reverse (stageBy (standing p e) (r .count) reverse f)
+  unfolding stageBy
+  stage-by p reverse (sought-as.Record n q) i = i .0
+  stage-by p reverse (sought-as.Mark q) i = stop-has (markEnd (r .count) reverse) q (mark-end-fits (r .count) reverse) (i .below)
+  stage-by p reverse (sought-as.Nothing q) i = stop-has (nothingEnd (r .count) reverse) q (nothing-end-fits (r .count) reverse) i
+  stage-by p reverse (sought-as.Bad k) i = tt
+
+  module _ (s : List ℕ) where
+    stage-has : (p : ℕ) (reverse : Bool) → p ≤ e → StageHas reverse (stageOf s (standing p e) (r .count) reverse)
+    unfolding stageOf
+    stage-has p reverse h = stage-by p reverse _ (sought-in s reverse p e h)
+
+    one-by : (p : ℕ) (reverse : Bool) (f : Stage) → StageHas reverse f → Has (ReadFits e r) (readOneBy (standing p e) r reverse f)
+    unfolding readOneBy
+    one-by p reverse (stage.Record n q) i = record-has reverse reverse n q q i (i .below)
+    one-by p reverse (stage.Over m) i = i
+
+    pub one-has : (p : ℕ) (reverse : Bool) → p ≤ e → Has (ReadFits e r) (readOne s (standing p e) r reverse)
+    unfolding readOne
+    one-has p reverse h = one-by p reverse _ (stage-has p reverse h)
+
+    then-read-by : (p : ℕ) (reverse : Bool) (f : Stage) → StageHas reverse f → Has (ReadFits e r) (spaceThenReadBy s (standing p e) r reverse f)
+    unfolding spaceThenReadBy
+    then-read-by p reverse (stage.Record n q) i = one-has q (not reverse) (i .below)
+    then-read-by p reverse (stage.Over m) i = i
+
+    back-by : (reverse : Bool) (n q : ℕ) (f : Stage) → RecordIn reverse e n q → StageHas (not reverse) f → Has (ReadFits e r) (spaceBackBy e r reverse n q f)
+    unfolding spaceBackBy
+    back-by reverse n q (stage.Record m b) i j = record-has reverse (not reverse) n q b i (j .below)
+    back-by reverse n q (stage.Over m) i j = j
+
+    then-space-by : (p : ℕ) (reverse : Bool) (f : Stage) → StageHas reverse f → Has (ReadFits e r) (readThenSpaceBy s (standing p e) r reverse f)
+    unfolding readThenSpaceBy spaceBack
+    then-space-by p reverse (stage.Record n q) i = back-by reverse n q _ i (stage-has q (not reverse) (i .below))
+    then-space-by p reverse (stage.Over m) i = i
+
+    pub reread-has : (p : ℕ) (reverse opp : Bool) → p ≤ e → Has (ReadFits e r) (reread s (standing p e) r reverse opp)
+    unfolding reread readThenSpace spaceThenRead
+    reread-has p reverse opp h =
+        either (Has (ReadFits e r)) opp _ _ (then-space-by p reverse _ (stage-has p reverse h)) (then-read-by p reverse _ (stage-has p reverse h))
