@@ -1,0 +1,2 @@
+-- Laws of the motions.
+pub mod Stops

@@ -1,0 +1,30 @@
+-- `read_one` meets its contract: a record goes on, and anything else is the end.
+use borrow.Author.Needs.{needs}
+use Rattle.motions.specs.Reads.{readOne, readOneBy}
+use Rattle.motions.proofs.reads.read_one.Statement.{statement}
+use Rattle.motions.proofs.reads.read_one.Tie as tie
+
+run-stage-requires : tie.Need-run-stage-requires
+run-stage-requires c κs = search needs
+
+enum-known-n : tie.Need-enum-known-n
+enum-known-n c = search needs
+
+read-motion-requires : tie.Need-read-motion-requires
+read-motion-requires c κs = search needs
+
+enum-known-m : tie.Need-enum-known-m
+enum-known-m c = search needs
+
+returns : tie.Need-returns
+unfolding readOne readOneBy
+returns c = rw (← c .before .before .before .before .run-stage .ensures, c .before .before .n .given .1) (c .read-motion .ensures)
+
+returns-2 : tie.Need-returns-2
+unfolding readOne readOneBy
+returns-2 c = rw (← c .before .before .before .run-stage .ensures, c .before .m .given .1)
+
+pub read-one-spec : {M : Type 1} → statement M
+read-one-spec =
+    tie.close
+    (tie.spec run-stage-requires enum-known-n read-motion-requires enum-known-m returns returns-2)

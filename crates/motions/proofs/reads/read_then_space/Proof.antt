@@ -1,0 +1,30 @@
+-- `read_then_space` meets its contract: a record goes on, and anything else is the end.
+use borrow.Author.Needs.{needs}
+use Rattle.motions.specs.Reads.{readThenSpace, readThenSpaceBy}
+use Rattle.motions.proofs.reads.read_then_space.Statement.{statement}
+use Rattle.motions.proofs.reads.read_then_space.Tie as tie
+
+run-stage-requires : tie.Need-run-stage-requires
+run-stage-requires c κs = search needs
+
+enum-known-n : tie.Need-enum-known-n
+enum-known-n c = search needs
+
+space-back-requires : tie.Need-space-back-requires
+space-back-requires c κs = search needs
+
+enum-known-m : tie.Need-enum-known-m
+enum-known-m c = search needs
+
+returns : tie.Need-returns
+unfolding readThenSpace readThenSpaceBy
+returns c = rw (← c .before .before .before .before .run-stage .ensures, c .before .before .n .given .1) (c .space-back .ensures)
+
+returns-2 : tie.Need-returns-2
+unfolding readThenSpace readThenSpaceBy
+returns-2 c = rw (← c .before .before .before .run-stage .ensures, c .before .m .given .1)
+
+pub read-then-space-spec : {M : Type 1} → statement M
+read-then-space-spec =
+    tie.close
+    (tie.spec run-stage-requires enum-known-n space-back-requires enum-known-m returns returns-2)

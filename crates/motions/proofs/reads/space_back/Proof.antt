@@ -1,0 +1,30 @@
+-- `space_back` meets its contract: a record goes on, and anything else is the end.
+use borrow.Author.Needs.{needs}
+use Rattle.motions.specs.Reads.{spaceBack, spaceBackBy}
+use Rattle.motions.proofs.reads.space_back.Statement.{statement}
+use Rattle.motions.proofs.reads.space_back.Tie as tie
+
+run-stage-requires : tie.Need-run-stage-requires
+run-stage-requires c κs = search needs
+
+enum-known-b : tie.Need-enum-known-b
+enum-known-b c = search needs
+
+read-motion-requires : tie.Need-read-motion-requires
+read-motion-requires c κs = search needs
+
+enum-known-m : tie.Need-enum-known-m
+enum-known-m c = search needs
+
+returns : tie.Need-returns
+unfolding spaceBack spaceBackBy
+returns c = rw (← c .before .before .before .before .run-stage .ensures, c .before .before .b .given .1) (c .read-motion .ensures)
+
+returns-2 : tie.Need-returns-2
+unfolding spaceBack spaceBackBy
+returns-2 c = rw (← c .before .before .before .run-stage .ensures, c .before .m .given .1)
+
+pub space-back-spec : {M : Type 1} → statement M
+space-back-spec =
+    tie.close
+    (tie.spec run-stage-requires enum-known-b read-motion-requires enum-known-m returns returns-2)
