@@ -1,7 +1,8 @@
 -- `finish` meets its contract: an arm for each notice.
 use borrow.Author.Needs.{needs}
-use mathlib.Core.Path.{ap, sym, _∙_}
-use Rattle.commands.specs.Effects.{finished, finishedBy}
+use mathlib.Core.Path.{sym, _∙_}
+use Rattle.commands.specs.Effects.{finishedBy}
+use Rattle.commands.proofs.Told.{finished-as}
 use Rattle.commands.proofs.effects.finish.Statement.{statement}
 use Rattle.commands.proofs.effects.finish.Tie as tie
 
@@ -24,16 +25,16 @@ silence-requires-2 : tie.Need-silence-requires-2
 silence-requires-2 c κs = search needs
 
 returns : tie.Need-returns
-unfolding finished finishedBy
-returns c = let a = c .before .before .before .args in c .tell .ensures ∙ sym (ap (finishedBy (a .x) (a .start)) (c .before .enum-told .given .1))
+unfolding finishedBy
+returns c = c .tell .ensures ∙ sym (finished-as _ _ (c .before .enum-told .given .1))
 
 returns-2 : tie.Need-returns-2
-unfolding finished finishedBy
-returns-2 c = let a = c .before .before .before .args in c .silence .ensures ∙ sym (ap (finishedBy (a .x) (a .start)) (c .before .enum-told2 .given .1))
+unfolding finishedBy
+returns-2 c = c .silence .ensures ∙ sym (finished-as _ _ (c .before .enum-told2 .given .1))
 
 returns-3 : tie.Need-returns-3
-unfolding finished finishedBy
-returns-3 c = let a = c .before .before .before .args in c .silence2 .ensures ∙ sym (ap (finishedBy (a .x) (a .start)) (c .before .enum-told3 .given .1))
+unfolding finishedBy
+returns-3 c = c .silence2 .ensures ∙ sym (finished-as _ _ (c .before .enum-told3 .given .1))
 
 pub finish-spec : {M : Type 1} → statement M
 finish-spec =
