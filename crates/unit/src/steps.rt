@@ -18,12 +18,8 @@ use signals::RecordCount;
 use signals::Residual;
 use state::Unit;
 use tape::Geometry;
-ghost use mathlib.Core.Bool.{true};
 ghost use mathlib.Core.Path.{_≡_};
-ghost use Prim.Native.Nat.{_+_, _*_, _<_, _≤_};
-ghost use lib.ListN.{length};
-ghost use Rattle.signals.specs.Header.{headerOf, packetOf, wordsOf};
-ghost use Rattle.state.specs.Checks.{refusalOf};
+ghost use Prim.Native.Nat.{_<_, _≤_};
 ghost use Rattle.unit.specs.Rules.{hasExtent, isIllegal, isTape, lengthWrong, notExecutable, reverseFirst, wholeCount, writes};
 ghost use Rattle.unit.specs.Steps.{advanced, attended, rejected, stepAttention, stepExecutable, stepExtent, stepFetch, stepHeader, stepIllegal, stepNoBuffer, stepOwner, stepPointer, stepVolume};
 
