@@ -1,7 +1,8 @@
 -- The commands, carried out. (01, "Commands")
+use mathlib.Core.Path.{_≡_}
 use mathlib.Core.Bool.{Bool, true, false, _||_}
 use mathlib.Core.List.{List}
-use Prim.Native.Nat.{ℕ, _+_, _*_, _/_, _%_}
+use Prim.Native.Nat.{ℕ, _+_, _*_, _/_, _%_, _≤_}
 use lib.Dec.{eqb, leb, ltb}
 use lib.ListN.{length}
 use Rattle.lists.specs.Pick.{pick}
@@ -153,6 +154,10 @@ formatted u s h o mark again =
     (retried s (u .tape) (u .lengths .blocks) (laidHere u o 0 0 false) mark)
     (writtenAt (u .tape) (u .lengths .blocks) (laidHere u o 0 0 false) mark))
     (h .ie)
+
+-- what a Write Characteristics asks of its packet: the data are in memory (step 10)
+abbrev pub DataFit : Command → Packet → List ℕ → Type 0
+DataFit c p m = c ≡ command.WriteCharacteristics → p .pointer + p .count ≤ length m
 
 unfoldable pub carriedOut : Unit → List ℕ → List ℕ → Header → Packet → Command → Ran
 carriedOut u m s h p command.ReadNext = readBy u s h p false

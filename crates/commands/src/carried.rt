@@ -27,7 +27,7 @@ ghost use mathlib.Core.Bool.{true};
 ghost use mathlib.Core.Path.{_≡_};
 ghost use Prim.Native.Nat.{_+_, _≤_};
 ghost use lib.ListN.{length};
-ghost use Rattle.commands.specs.Commands.{carriedOut, characteristicsAt, characterized, formatted, modeWord, plainEffect, plainEnd, positionedBy, readBy, refusedCharacteristics, released, rereadBy, rewound, takenCharacteristics, unloaded, writtenBy};
+ghost use Rattle.commands.specs.Commands.{DataFit, carriedOut, characteristicsAt, characterized, formatted, modeWord, plainEffect, plainEnd, positionedBy, readBy, refusedCharacteristics, released, rereadBy, rewound, takenCharacteristics, unloaded, writtenBy};
 
 fn plain_end() -> End
     ensures { λ r. ⌜ r ≡ plainEnd ⌝ }
@@ -224,7 +224,7 @@ fn format(u: Unit, reel: &[u8], h: Header, object: Object, mark: bool, again: bo
 }
 
 pub fn carry_out(u: Unit, mem: &[u8], reel: &[u8], h: Header, p: Packet, c: Command) -> Ran
-    requires { ⌜ (u .tape .end ≤ 65536) × (p .pointer + p .count ≤ length (now mem)) ⌝ }
+    requires { ⌜ (u .tape .end ≤ 65536) × DataFit c p (now mem) ⌝ }
     ensures { λ r. ⌜ r ≡ carriedOut u (now (mem .entry)) (now (reel .entry)) h p c ⌝ }
 {
     match c {

@@ -55,7 +55,8 @@ pub struct Packet {
 
 pub fn fetch(mem: &[u8], at: usize, code: usize) -> Packet
     requires { ⌜ (at + 2 * wordsOf code ≤ length (now mem)) × (at < 262144) ⌝ }
-    ensures { λ r. ⌜ r ≡ packetOf (now (mem .entry)) at code ⌝ }
+    ensures is { λ r. ⌜ r ≡ packetOf (now (mem .entry)) at code ⌝ }
+    ensures low { λ r. ⌜ r .pointer < 262144 ⌝ }
 {
     let words = words_of(code);
     if words == 4 {

@@ -1,15 +1,14 @@
 -- "Advance, in order" (01): a definition for each step, last step first, so that each names the next.
-use mathlib.Core.Bool.{Bool, true, false, _||_, _&&_, not}
+use mathlib.Core.Bool.{Bool, false, _||_, _&&_, not}
 use mathlib.Core.List.{List}
 use Prim.Native.Nat.{ℕ, _+_, _*_, _%_}
-use lib.Dec.{eqb, leb, ltb}
+use lib.Dec.{eqb, ltb}
 use lib.ListN.{length}
 use Rattle.lists.specs.Pick.{pick}
 use Rattle.lists.specs.Words.{wordAt}
 use Rattle.signals.specs.Bits.{ILA, ILC, NEF, WLE}
 use Rattle.signals.specs.Codes.{commandOf}
 use Rattle.signals.specs.Header.{headerOf, packetOf, wordsOf}
-use Rattle.signals.specs.declared.codes.Command.{Command}
 use Rattle.signals.specs.declared.packet.Header.{Header}
 use Rattle.signals.specs.declared.packet.Packet.{Packet}
 use Rattle.signals.specs.declared.counts.Residual.{Residual}
@@ -31,42 +30,42 @@ rejected u ie class found left = ran.Ended (effectOf u (end class found 0 left) 
 
 -- "10. Codes 1, 4, 5: data extent, pointer plus whole count, ends past the end of memory: NXM, class 5, tape unmoved."
 -- (11 stands with the writes.)
-unfoldable pub stepExtent : Unit → List ℕ → List ℕ → Header → Packet → Command → Ran
-stepExtent u m s h p c =
+unfoldable pub stepExtent : Unit → List ℕ → List ℕ → Header → Packet → Ran
+stepExtent u m s h p =
     pick (hasExtent h && ltb (length m) (p .pointer + p .count)) (rejected u (h .ie) 5 0 (wholeCount h (p .count)))
-    (carriedOut u m s h p c)
+    (carriedOut u m s h p (commandOf (h .code) (h .mode)))
 
 -- "9. Tape command off line or with VCK: NEF, class 3. Then in this order, class 3 each: Write or Format under write lock, NEF and
 -- WLE; reverse first stage at block 0 (not a rewind), NEF; a written length out of range, NEF."
-unfoldable pub stepExecutable : Unit → List ℕ → List ℕ → Header → Packet → Command → Ran
-stepExecutable u m s h p c =
+unfoldable pub stepExecutable : Unit → List ℕ → List ℕ → Header → Packet → Ran
+stepExecutable u m s h p =
     pick (isTape h && (not (u .panel .online) || u .panel .vck)) (rejected u (h .ie) 3 NEF (wholeCount h (p .count)))
     (pick (writes h && u .panel .locked) (rejected u (h .ie) 3 (NEF + WLE) (wholeCount h (p .count)))
     (pick (notExecutable u h p) (rejected u (h .ie) 3 NEF (wholeCount h (p .count)))
-    (stepExtent u m s h p c)))
+    (stepExtent u m s h p)))
 
 -- "8. Pointer bits above A17, or odd pointer in Write Characteristics: ILA, class 3."
-unfoldable pub stepPointer : Unit → List ℕ → List ℕ → Header → Packet → Command → Ran
-stepPointer u m s h p c =
+unfoldable pub stepPointer : Unit → List ℕ → List ℕ → Header → Packet → Ran
+stepPointer u m s h p =
     pick (p .high || (eqb (h .code) 4 && eqb (p .pointer % 2) 1)) (rejected u (h .ie) 3 ILA (wholeCount h (p .count)))
-    (stepExecutable u m s h p c)
+    (stepExecutable u m s h p)
 
 -- "7. (House) The unit fetches the words the command uses .. Outside memory: NXM, class 5."
-unfoldable pub stepFetch : Unit → List ℕ → List ℕ → Header → Command → Ran
-stepFetch u m s h c =
+unfoldable pub stepFetch : Unit → List ℕ → List ℕ → Header → Ran
+stepFetch u m s h =
     pick (ltb (length m) (u .registers .pointer + 2 * wordsOf (h .code))) (rejected u (h .ie) 5 0 residual.Nothing)
-    (stepPointer u m s h (packetOf m (u .registers .pointer) (h .code)) c)
+    (stepPointer u m s h (packetOf m (u .registers .pointer) (h .code)))
 
 -- "6. NBA set and not Write Characteristics: class 3."
-unfoldable pub stepNoBuffer : Unit → List ℕ → List ℕ → Header → Command → Ran
-stepNoBuffer u m s h c =
-    pick (u .registers .nba && not (eqb (h .code) 4)) (rejected u (h .ie) 3 0 residual.Nothing) (stepFetch u m s h c)
+unfoldable pub stepNoBuffer : Unit → List ℕ → List ℕ → Header → Ran
+stepNoBuffer u m s h =
+    pick (u .registers .nba && not (eqb (h .code) 4)) (rejected u (h .ie) 3 0 residual.Nothing) (stepFetch u m s h)
 
 -- "5. Bits 7:5 neither 000 nor 100, or unknown code or mode: ILC, class 3."
 unfoldable pub stepIllegal : Unit → List ℕ → List ℕ → Header → Ran
 stepIllegal u m s h =
     pick (not (h .plain) || isIllegal (commandOf (h .code) (h .mode))) (rejected u (h .ie) 3 ILC residual.Nothing)
-    (stepNoBuffer u m s h (commandOf (h .code) (h .mode)))
+    (stepNoBuffer u m s h)
 
 -- "4. CVC (14) clears VCK."
 unfoldable pub stepVolume : Unit → List ℕ → List ℕ → Header → Ran

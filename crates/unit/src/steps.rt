@@ -18,12 +18,8 @@ use signals::RecordCount;
 use signals::Residual;
 use state::Unit;
 use tape::Geometry;
-ghost use mathlib.Core.Bool.{true};
 ghost use mathlib.Core.Path.{_≡_};
-ghost use Prim.Native.Nat.{_+_, _*_, _<_, _≤_};
-ghost use lib.ListN.{length};
-ghost use Rattle.signals.specs.Header.{headerOf, packetOf, wordsOf};
-ghost use Rattle.state.specs.Checks.{refusalOf};
+ghost use Prim.Native.Nat.{_<_, _≤_};
 ghost use Rattle.unit.specs.Rules.{hasExtent, isIllegal, isTape, lengthWrong, notExecutable, reverseFirst, wholeCount, writes};
 ghost use Rattle.unit.specs.Steps.{advanced, attended, rejected, stepAttention, stepExecutable, stepExtent, stepFetch, stepHeader, stepIllegal, stepNoBuffer, stepOwner, stepPointer, stepVolume};
 
@@ -120,14 +116,14 @@ fn is_illegal(c: Command) -> bool
 }
 
 // 10. Data extent past the end of memory: NXM, class 5.
-fn step_extent(u: Unit, mem: &[u8], reel: &[u8], h: Header, p: Packet, c: Command) -> Ran
+fn step_extent(u: Unit, mem: &[u8], reel: &[u8], h: Header, p: Packet) -> Ran
     requires { ⌜ (u .tape .end ≤ 65536) × (p .pointer < 262144) ⌝ }
-    ensures { λ r. ⌜ r ≡ stepExtent u (now (mem .entry)) (now (reel .entry)) h p c ⌝ }
+    ensures { λ r. ⌜ r ≡ stepExtent u (now (mem .entry)) (now (reel .entry)) h p ⌝ }
 {
     if has_extent(h) & (mem.len() < p.pointer + p.count as usize) {
         return reject(u, h.ie, 5, 0, whole_count(h, p.count));
     }
-    carry_out(u, mem, reel, h, p, c)
+    carry_out(u, mem, reel, h, p, signals::decode(h.code, h.mode))
 }
 
 // What keeps a command of step 9 from running, but for the write lock.
@@ -138,9 +134,9 @@ fn not_executable(u: Unit, h: Header, p: Packet) -> bool
 }
 
 // 9. Off line or VCK: NEF. Write lock: NEF and WLE. Reverse at block 0, a written length out of range: NEF.
-fn step_executable(u: Unit, mem: &[u8], reel: &[u8], h: Header, p: Packet, c: Command) -> Ran
+fn step_executable(u: Unit, mem: &[u8], reel: &[u8], h: Header, p: Packet) -> Ran
     requires { ⌜ (u .tape .end ≤ 65536) × (p .pointer < 262144) ⌝ }
-    ensures { λ r. ⌜ r ≡ stepExecutable u (now (mem .entry)) (now (reel .entry)) h p c ⌝ }
+    ensures { λ r. ⌜ r ≡ stepExecutable u (now (mem .entry)) (now (reel .entry)) h p ⌝ }
 {
     if is_tape(h) & ((!u.panel.online) | u.panel.vck) {
         return reject(u, h.ie, 3, signals::NEF, whole_count(h, p.count));
@@ -157,41 +153,41 @@ fn step_executable(u: Unit, mem: &[u8], reel: &[u8], h: Header, p: Packet, c: Co
     if not_executable(u, h, p) {
         return reject(u, h.ie, 3, signals::NEF, whole_count(h, p.count));
     }
-    step_extent(u, mem, reel, h, p, c)
+    step_extent(u, mem, reel, h, p)
 }
 
 // 8. Pointer bits above A17, or odd pointer in Write Characteristics: ILA, class 3.
-fn step_pointer(u: Unit, mem: &[u8], reel: &[u8], h: Header, p: Packet, c: Command) -> Ran
+fn step_pointer(u: Unit, mem: &[u8], reel: &[u8], h: Header, p: Packet) -> Ran
     requires { ⌜ (u .tape .end ≤ 65536) × (p .pointer < 262144) ⌝ }
-    ensures { λ r. ⌜ r ≡ stepPointer u (now (mem .entry)) (now (reel .entry)) h p c ⌝ }
+    ensures { λ r. ⌜ r ≡ stepPointer u (now (mem .entry)) (now (reel .entry)) h p ⌝ }
 {
     if p.high | ((h.code == 4) & (p.pointer % 2 == 1)) {
         return reject(u, h.ie, 3, signals::ILA, whole_count(h, p.count));
     }
-    step_executable(u, mem, reel, h, p, c)
+    step_executable(u, mem, reel, h, p)
 }
 
 // 7. The words that the command uses, outside memory: NXM, class 5.
-fn step_fetch(u: Unit, mem: &[u8], reel: &[u8], h: Header, c: Command) -> Ran
+fn step_fetch(u: Unit, mem: &[u8], reel: &[u8], h: Header) -> Ran
     requires { ⌜ (u .tape .end ≤ 65536) × (u .registers .pointer < 262144) ⌝ }
-    ensures { λ r. ⌜ r ≡ stepFetch u (now (mem .entry)) (now (reel .entry)) h c ⌝ }
+    ensures { λ r. ⌜ r ≡ stepFetch u (now (mem .entry)) (now (reel .entry)) h ⌝ }
 {
     let at = u.registers.pointer;
     if mem.len() < at + 2 * signals::words_of(h.code) {
         return reject(u, h.ie, 5, 0, Residual::Nothing);
     }
-    step_pointer(u, mem, reel, h, signals::fetch(mem, at, h.code), c)
+    step_pointer(u, mem, reel, h, signals::fetch(mem, at, h.code))
 }
 
 // 6. NBA set and not Write Characteristics: class 3.
-fn step_no_buffer(u: Unit, mem: &[u8], reel: &[u8], h: Header, c: Command) -> Ran
+fn step_no_buffer(u: Unit, mem: &[u8], reel: &[u8], h: Header) -> Ran
     requires { ⌜ (u .tape .end ≤ 65536) × (u .registers .pointer < 262144) ⌝ }
-    ensures { λ r. ⌜ r ≡ stepNoBuffer u (now (mem .entry)) (now (reel .entry)) h c ⌝ }
+    ensures { λ r. ⌜ r ≡ stepNoBuffer u (now (mem .entry)) (now (reel .entry)) h ⌝ }
 {
     if u.registers.nba & (h.code != 4) {
         return reject(u, h.ie, 3, 0, Residual::Nothing);
     }
-    step_fetch(u, mem, reel, h, c)
+    step_fetch(u, mem, reel, h)
 }
 
 // 5. Bits 7:5 neither 000 nor 100, or unknown code or mode: ILC, class 3.
@@ -199,11 +195,10 @@ fn step_illegal(u: Unit, mem: &[u8], reel: &[u8], h: Header) -> Ran
     requires { ⌜ (u .tape .end ≤ 65536) × (u .registers .pointer < 262144) ⌝ }
     ensures { λ r. ⌜ r ≡ stepIllegal u (now (mem .entry)) (now (reel .entry)) h ⌝ }
 {
-    let c = signals::decode(h.code, h.mode);
-    if (!h.plain) | is_illegal(c) {
+    if (!h.plain) | is_illegal(signals::decode(h.code, h.mode)) {
         return reject(u, h.ie, 3, signals::ILC, Residual::Nothing);
     }
-    step_no_buffer(u, mem, reel, h, c)
+    step_no_buffer(u, mem, reel, h)
 }
 
 // 4. CVC clears VCK.

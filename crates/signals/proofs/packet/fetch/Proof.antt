@@ -39,7 +39,7 @@ returns : tie.Need-returns
 unfolding packetOf
 returns c =
     let t = c .before .before .before in
-    rw (← t .before .words-of .ensures .0, eq-eqb _ _ (t .if1 .taken), c .word3 .ensures .0, c .before .word2 .ensures .0, c .before .before .word .ensures .0)
+    (rw (← t .before .words-of .ensures .0, eq-eqb _ _ (t .if1 .taken), c .word3 .ensures .0, c .before .word2 .ensures .0, c .before .before .word .ensures .0), search needs)
 
 add-word-4 : tie.Need-add-word-4
 add-word-4 c = search needs
@@ -54,11 +54,11 @@ returns-2 : tie.Need-returns-2
 unfolding packetOf
 returns-2 c =
     let t = c .before .before in
-    rw (← t .before .words-of .ensures .0, ne-eqb _ _ (t .if1 .left), eq-eqb _ _ (c .before .if2 .taken), c .word4 .ensures .0)
+    (rw (← t .before .words-of .ensures .0, ne-eqb _ _ (t .if1 .left), eq-eqb _ _ (c .before .if2 .taken), c .word4 .ensures .0), search needs)
 
 returns-3 : tie.Need-returns-3
 unfolding packetOf
-returns-3 c = rw (← c .before .before .words-of .ensures .0, ne-eqb _ _ (c .before .if1 .left), ne-eqb _ _ (c .if2 .left))
+returns-3 c = (rw (← c .before .before .words-of .ensures .0, ne-eqb _ _ (c .before .if1 .left), ne-eqb _ _ (c .if2 .left)), search needs)
 
 pub fetch-spec : {M : Type 1} → statement M
 fetch-spec =

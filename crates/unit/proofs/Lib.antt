@@ -1,0 +1,2 @@
+-- The laws of advance.
+pub mod Extents
