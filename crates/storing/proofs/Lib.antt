@@ -1,0 +1,3 @@
+-- Laws of storing a plan: the ways that the code returns, lengths, what is kept, and how it is undone.
+pub mod Ways
+pub mod Lengths
