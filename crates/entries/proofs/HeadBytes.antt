@@ -1,0 +1,39 @@
+-- A head's bytes: how many there are, that each is a byte, and that the numbers, and so the entry, come back from them.
+-- (The name `Bytes` is taken: rattle makes a module `bytes` of the source.)
+use mathlib.Core.Path.{_≡_, refl}
+use mathlib.Core.List.{List, [], _∷_, _++_, append-nil}
+use Prim.Native.Nat.{ℕ, zero, suc, _+_, _*_, _/_, _%_, _<_}
+use native.Mathlib.Omega.{arith}
+use lib.ListN.{length, getD}
+use Rattle.lists.specs.Words.{Bytes}
+use Rattle.entries.specs.declared.Entry.{Entry}
+use Rattle.entries.specs.Numbers.{Small, entryOf, numberLimit, numbersOf}
+use Rattle.entries.specs.Bytes.{headBytes, headNumbers, numberAt, numberBytes}
+use Rattle.entries.proofs.Back.{entry-back, length-numbers}
+
+pub length-head : (ns : List ℕ) → length (headBytes ns) ≡ 4 * length ns
+unfolding headBytes
+length-head [] = refl
+length-head (n ∷ ns) = omega (arith, length-head ns)
+
+-- numbers of four bytes give bytes
+pub bytes-head : (ns : List ℕ) → ((i : ℕ) → getD ns i 0 < numberLimit) → Bytes (headBytes ns)
+unfolding headBytes
+bytes-head [] h i = omega arith
+bytes-head (n ∷ ns) h zero = omega arith
+bytes-head (n ∷ ns) h (suc zero) = omega arith
+bytes-head (n ∷ ns) h (suc (suc zero)) = omega arith
+bytes-head (n ∷ ns) h (suc (suc (suc zero))) = omega (arith, h 0)
+bytes-head (n ∷ ns) h (suc (suc (suc (suc i)))) = bytes-head ns (λ j. h (suc j)) i
+
+-- a number from its bytes
+number-back : (n : ℕ) (r : List ℕ) → numberAt (numberBytes n ++ r) 0 ≡ n
+number-back n r = omega arith
+
+pub head-back : (ns rest : List ℕ) → headNumbers (length ns) (headBytes ns ++ rest) ≡ ns
+unfolding headBytes headNumbers
+head-back [] rest = refl
+head-back (n ∷ ns) rest = rw (number-back n (headBytes ns ++ rest), head-back ns rest)
+
+pub head-entry : (e : Entry) → Small e → entryOf (headNumbers 32 (headBytes (numbersOf e))) ≡ e
+head-entry e h = rw (← length-numbers e, ← append-nil (headBytes (numbersOf e)), head-back (numbersOf e) []) (entry-back e h)

@@ -1,0 +1,40 @@
+-- One turn of the loops of `put_head` and `head_at`: what is still to do from here is a number, and then the rest.
+use mathlib.Core.Path.{_≡_, refl}
+use mathlib.Core.List.{List, [], _∷_}
+use Prim.Native.Nat.{ℕ, zero, suc, _+_, _*_, _<_, _≤_}
+use native.Mathlib.Nat.{add-zero}
+use native.Mathlib.Numerals.{add-one}
+use native.Mathlib.Omega.{arith}
+use lib.ListN.{length, drop, getD, set, drop-of-length-le}
+use lib.Seq.{sets, drop-cons, drop-drop, getD-drop}
+use Rattle.lists.proofs.Stores.{sets-at}
+use Rattle.entries.specs.Bytes.{headBytes, headNumbers, numberAt, numberBytes}
+
+pub put-turn : (b n : List ℕ) (at i : ℕ) → i < length n → sets (sets b (at + 4 * i) (numberBytes (getD n i 0))) (at + 4 * (i + 1)) (headBytes (drop (i + 1) n)) ≡ sets b (at + 4 * i) (headBytes (drop i n))
+unfolding headBytes
+put-turn b n at i h = rw (add-one i, drop-cons n i 0 h) (sets-at (numberBytes (getD n i 0)) (headBytes (drop (suc i) n)) b (at + 4 * i) (at + 4 * suc i) (omega arith))
+
+-- and when none is left, nothing is done
+pub put-end : (b n : List ℕ) (at i : ℕ) → length n ≤ i → sets b at (headBytes (drop i n)) ≡ b
+unfolding headBytes
+put-end b n at i h = rw (drop-of-length-le n h)
+
+-- the number at p is the first of what stands from p on
+number-first : (b : List ℕ) (p : ℕ) → numberAt (drop p b) 0 ≡ numberAt b p
+number-first b p =
+    let e : p + 2 + 1 ≡ p + 3 = omega arith in
+    rw (getD-drop p b 0 0, getD-drop p b 1 0, getD-drop p b 2 0, getD-drop p b 3 0, add-zero p, e)
+
+pub read-turn : (n b : List ℕ) (p i k : ℕ) → sets (set n i (numberAt b p)) (i + 1) (headNumbers k (drop (p + 4) b)) ≡ sets n i (headNumbers (suc k) (drop p b))
+unfolding headNumbers
+read-turn n b p i k = rw (number-first b p, drop-drop 4 p b, add-one i)
+
+pub read-end : (n b : List ℕ) (i k : ℕ) → k ≡ 0 → sets n i (headNumbers k b) ≡ n
+unfolding headNumbers
+read-end n b i k e = rw e
+
+-- how many numbers are read
+pub length-read : (k : ℕ) (b : List ℕ) → length (headNumbers k b) ≡ k
+unfolding headNumbers
+length-read zero b = refl
+length-read (suc k) b = rw (length-read k (drop 4 b))
