@@ -32,7 +32,7 @@ enum-told-5 : tie.Need-enum-told-5
 enum-told-5 c = search needs
 
 characterize-requires : tie.Need-characterize-requires
-characterize-requires c κs = search needs
+characterize-requires c κs = c .before .before .before .before .pre .1 (c .enum-told5 .given .1)
 
 enum-told-6 : tie.Need-enum-told-6
 enum-told-6 c = search needs
