@@ -1,8 +1,8 @@
 -- Case laws of what is stored, one for each way that the code returns.
-use mathlib.Core.Path.{_≡_, refl, sym}
+use mathlib.Core.Path.{_≡_}
 use mathlib.Core.Bool.{true, false}
-use mathlib.Core.List.{List, [], _∷_, _++_, append-nil}
-use Prim.Native.Nat.{ℕ, _+_, _*_, _≤_}
+use mathlib.Core.List.{List, [], _∷_, append-nil}
+use Prim.Native.Nat.{ℕ, _+_, _*_}
 use native.Mathlib.Omega.{arith}
 use lib.ListN.{length}
 use lib.Seq.{sets}
@@ -49,20 +49,22 @@ module _ (l : Laid) where
   unfolding laidOn
   laid-alone s s′ m t e = rw (objects-alone m t) e
 
+-- the message goes out over l, or does not
+module _ (p : Plan) (l : List ℕ) where
+  pub message-sent : p .sends ≡ true → messaged l (p .unit .characteristics .address) (p .message) ≡ messageOn p l
+  unfolding messageOn
+  message-sent t = rw t
+
+  pub none-sent : p .sends ≡ false → l ≡ messageOn p l
+  unfolding messageOn
+  none-sent t = rw t
+
 -- the reel s′ after laying, memory m′ after the data, and m″ after the message
 module _ (p : Plan) (m m′ s s′ : List ℕ) (laid : s′ ≡ laidOn s m (p .laid)) (moved : m′ ≡ movedOn s′ (p .moved) m) where
-  message-sent : (l : List ℕ) → p .sends ≡ true → messaged l (p .unit .characteristics .address) (p .message) ≡ messageOn p l
-  unfolding messageOn
-  message-sent l t = rw t
-
-  none-sent : (l : List ℕ) → p .sends ≡ false → l ≡ messageOn p l
-  unfolding messageOn
-  none-sent l t = rw t
-
   pub stored-sent : (m″ : List ℕ) → p .sends ≡ true → m″ ≡ messaged m′ (p .unit .characteristics .address) (p .message) → StoredPlan p m s m″ s′
   unfolding memoryAfter reelAfter
-  stored-sent m″ t e = record { memory = rw (e, moved, laid) (message-sent (movedOn (laidOn s m (p .laid)) (p .moved) m) t); reel = laid }
+  stored-sent m″ t e = record { memory = rw (e, moved, laid) (message-sent p (movedOn (laidOn s m (p .laid)) (p .moved) m) t); reel = laid }
 
   pub stored-quiet : p .sends ≡ false → StoredPlan p m s m′ s′
   unfolding memoryAfter reelAfter
-  stored-quiet t = record { memory = rw (moved, laid) (none-sent (movedOn (laidOn s m (p .laid)) (p .moved) m) t); reel = laid }
+  stored-quiet t = record { memory = rw (moved, laid) (none-sent p (movedOn (laidOn s m (p .laid)) (p .moved) m) t); reel = laid }

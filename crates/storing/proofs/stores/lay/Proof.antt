@@ -6,16 +6,25 @@ use Rattle.storing.proofs.stores.lay.Statement.{statement}
 use Rattle.storing.proofs.stores.lay.Tie as tie
 
 lay-gap-requires : tie.Need-lay-gap-requires
-lay-gap-requires c κs = omega (arith, blocks-after-gap (c .before .before .before .before .args .l) (c .before .if1 .taken), c .before .before .before .before .pre .room)
+lay-gap-requires c κs =
+    let start = c .before .before .before .before in
+    let blocks = blocks-after-gap (start .args .l) (c .before .if1 .taken) in
+    omega arith
 
 add-lay-object : tie.Need-add-lay-object
 add-lay-object c = search needs
 
 lay-object-requires : tie.Need-lay-object-requires
-lay-object-requires c κs = (omega (arith, blocks-after-gap (c .before .before .before .before .before .before .before .before .before .args .l) (c .before .before .before .before .before .before .if1 .taken), c .before .before .before .before .before .before .before .before .before .pre .room), c .before .before .before .before .before .before .before .before .before .pre .source, c .before .before .before .before .before .before .before .before .before .pre .even)
+lay-object-requires c κs =
+    let start = c .before .before .before .before .before .before .before .before .before in
+    let blocks = blocks-after-gap (start .args .l) (c .before .before .before .before .before .before .if1 .taken) in
+    (omega arith, start .pre .source, start .pre .even)
 
 lay-object-requires-2 : tie.Need-lay-object-requires-2
-lay-object-requires-2 c κs = (omega (arith, blocks-alone (c .before .before .before .before .args .l) (c .before .if1 .left), c .before .before .before .before .pre .room), c .before .before .before .before .pre .source, c .before .before .before .before .pre .even)
+lay-object-requires-2 c κs =
+    let start = c .before .before .before .before in
+    let blocks = blocks-alone (start .args .l) (c .before .if1 .left) in
+    (omega arith, start .pre .source, start .pre .even)
 
 same-length : tie.Need-same-length
 same-length c = search needs
