@@ -20,7 +20,7 @@ use Rattle.commands.specs.declared.plans.Answer.{Answer}
 use Rattle.commands.specs.declared.plans.Answer.the-variants as answer
 use Rattle.commands.specs.declared.plans.Plan.{Plan}
 use Rattle.storing.specs.Stored.{Storable, memoryAfter, reelAfter}
-use Rattle.unit.specs.Steps.{advanced}
+use Rattle.advance.specs.Steps.{advanced}
 use Rattle.unit.specs.Calls.{hostLimit, mountRefusal, registerWord}
 use Rattle.unit.specs.declared.calls.Register.{Register}
 use Rattle.entries.specs.declared.Entry.{Entry}

@@ -21,7 +21,7 @@ use Rattle.commands.specs.declared.plans.Answer.{Answer}
 use Rattle.commands.specs.declared.plans.Answer.the-variants as answer
 use Rattle.commands.specs.declared.plans.Plan.{Plan}
 use Rattle.storing.specs.Stored.{memoryAfter, reelAfter}
-use Rattle.unit.specs.Steps.{advanced}
+use Rattle.advance.specs.Steps.{advanced}
 use Rattle.unit.specs.declared.calls.Outcome.{Outcome}
 use Rattle.unit.specs.declared.calls.Reading.{Reading}
 use Rattle.unit.specs.declared.calls.Register.{Register}

@@ -1,4 +1,2 @@
--- One TS11-compatible unit: advance, in order, and the calls without a journal.
-pub mod Rules
-pub mod Steps
+-- One TS11-compatible unit: the calls without a journal.
 pub mod Calls

@@ -195,7 +195,7 @@ pub fn plan_call(u: Unit, mem: &[u8], reel: &[u8]) -> Plan
     if n != 0 {
         return still_plan(u, Answer::Refused(n));
     }
-    crate::steps::plan_advance(u, mem, reel)
+    advance::plan_advance(u, mem, reel)
 }
 
 pub fn advance(u: Unit, mem: &mut [u8], reel: &mut [u8]) -> Outcome

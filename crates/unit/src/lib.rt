@@ -1,6 +1,5 @@
-// One TS11-compatible unit: what an advance is about to store, as a value, and the calls without a journal.
+// One TS11-compatible unit: the calls without a journal.
 mod calls;
-mod steps;
 
 pub use calls::Outcome;
 pub use calls::Reading;
@@ -15,4 +14,3 @@ pub use calls::read_register;
 pub use calls::store_refusal;
 pub use calls::write_tsdb;
 pub use calls::write_tssr;
-pub use steps::plan_advance;

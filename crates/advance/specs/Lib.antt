@@ -1,0 +1,3 @@
+-- Advance, in order.
+pub mod Rules
+pub mod Steps
