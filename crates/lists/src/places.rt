@@ -33,8 +33,8 @@ pub fn gather(b: &mut [u8], mem: &[u8], a: usize, swb: bool)
 {
     let mut i: usize = 0;
     while i < b.len() {
-        let at = place_of(swb, a + i);
-        b[i] = mem[at];
+        let from = place_of(swb, a + i);
+        b[i] = mem[from];
         i += 1;
     }
 }
