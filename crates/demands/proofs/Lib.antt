@@ -1,0 +1,3 @@
+-- Theorems over the unit's definitions.
+pub mod Residuals
+pub mod ReadBack
