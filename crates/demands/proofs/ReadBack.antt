@@ -6,14 +6,15 @@ use Prim.Native.Nat.{ℕ, _+_, _-_, _*_, _≤_, _<_}
 use native.Mathlib.Omega.{arith}
 use borrow.Author.Tests.{eq-eqb, le-ltb}
 use lib.ListN.{length, drop, take}
-use lib.Seq.{sets, take-all}
+use lib.Seq.{length-sets, sets, take-all}
 use Rattle.lists.specs.Pick.{pick}
 use Rattle.lists.specs.Places.{gathered, placed}
+use Rattle.lists.proofs.Cases.{pick-told}
 use Rattle.lists.proofs.Placed.{length-gathered}
 use Rattle.tape.specs.Bytes.{movedBytes, movedTo, readInto, recordBytes}
 use Rattle.tape.specs.Meeting.{metAs}
 use Rattle.tape.specs.Numbers.{blockBytes, piecesOf, recordLimit}
-use Rattle.tape.specs.Objects.{Allowed, StandsAt, blocksIn, imageOf, imagesOf, record-of}
+use Rattle.tape.specs.Objects.{Allowed, StandsAt, blocksIn, gap, imageOf, imagesOf, record-of}
 use Rattle.tape.specs.Pass.{passed}
 use Rattle.tape.specs.declared.Met.the-variants as met
 use Rattle.tape.proofs.Passes.{pass-forward, pass-reverse}
@@ -23,15 +24,17 @@ use Rattle.signals.specs.Residuals.{residualWord}
 use Rattle.moves.specs.Seeking.{sought, soughtOn}
 use Rattle.moves.specs.declared.seeking.Sought.the-variants as sought-as
 use Rattle.moves.proofs.Seeks.{seek-turn}
-use Rattle.motions.specs.Parts.{standing}
+use Rattle.motions.specs.Parts.{laidBlocks, objectBlocks, standing}
 use Rattle.motions.specs.Reads.{firstBlock, readEnd, readMotion, readOne, readOneBy, stageBy, stageOf}
 use Rattle.motions.specs.declared.parts.Laid.{Laid}
 use Rattle.motions.specs.declared.parts.Motion.{Motion}
 use Rattle.motions.specs.declared.parts.Motion.the-variants as motion
 use Rattle.motions.specs.declared.parts.Moving.{Moving}
+use Rattle.motions.specs.declared.parts.Object.{Object as Kind}
 use Rattle.motions.specs.declared.parts.Object.the-variants as kind
 use Rattle.motions.specs.declared.reads.Reading.{Reading}
 use Rattle.storing.specs.Stored.{laidObject, laidObjects, laidOn, movedOn}
+use Rattle.storing.proofs.Ways.{blocks-after-gap, blocks-alone, laid-after-gap, laid-alone}
 
 -- a record met at once is what the search finds
 pub found-at-once : (s : List ℕ) (reverse : Bool) (p e n q : ℕ) → 0 < e → passed s reverse p e ≡ met.Record n q → sought s reverse p e ≡ sought-as.Record n q
@@ -90,3 +93,61 @@ module _ (s d : List ℕ) (p e : ℕ) (r : Reading) (a : Allowed (record-of d)) 
   stands-reverse =
       let q : ℕ = p + piecesOf (length d) in
       rw (read-found s true q e (length d) p r (found-at-once s true q e (length d) p (omega (arith, a .0)) (pass-reverse s p e (record-of d) a h))) (gave true p refl)
+
+-- a record as a Write lays it: alone, or behind a gap for a retry
+module _ (s m : List ℕ) (l : Laid) (o : l .object ≡ kind.Record) (some : 1 ≤ l .length) (most : l .length ≤ recordLimit) (room : blockBytes * (l .at + laidBlocks l) ≤ length s) where
+  -- its bytes as they lay in memory, its first block, and the recorded end that the Write leaves
+  abbrev pub written : List ℕ
+  written = gathered (l .swb) m (l .pointer) (l .length)
+
+  abbrev pub writtenAtBlock : ℕ
+  writtenAtBlock = pick (l .«gap_first») (l .at + 1) (l .at)
+
+  abbrev pub writtenEnd : ℕ
+  writtenEnd = l .at + laidBlocks l
+
+  long : length written ≡ l .length
+  long = length-gathered (l .swb) m (l .pointer) (l .length)
+
+  allowed : Allowed (record-of written)
+  allowed = (omega (arith, long), omega (arith, long))
+
+  abbrev Stands : ℕ → Type 0
+  Stands p = StandsAt (laidOn s m l) p (record-of written) × (p + piecesOf (length written) ≡ writtenEnd)
+
+  one-image : imagesOf (laidObject m l (l .object)) ≡ imageOf (record-of written)
+  unfolding laidObject imagesOf
+  one-image = ap (λ (k : Kind). imagesOf (laidObject m l k)) o ∙ append-nil (imageOf (record-of written))
+
+  its-blocks : objectBlocks (l .object) (l .length) ≡ piecesOf (length written)
+  unfolding objectBlocks
+  its-blocks = ap (λ (k : Kind). objectBlocks k (l .length)) o ∙ ap piecesOf (sym long)
+
+  -- the record over any reel of the same length
+  stands-over : (s₀ : List ℕ) (p : ℕ) → length s₀ ≡ length s → sets s₀ (blockBytes * p) (imagesOf (laidObject m l (l .object))) ≡ laidOn s m l → p + piecesOf (length written) ≡ writtenEnd → Stands p
+  unfolding blocksIn
+  stands-over s₀ p k e at =
+      let r : sets s₀ (blockBytes * p) (imageOf (record-of written)) ≡ laidOn s m l = ap (sets s₀ (blockBytes * p)) (sym one-image) ∙ e in
+      (rw r at (laid-stands s₀ p (record-of written) (omega (arith, k, at, room))), at)
+
+  record-laid : Stands writtenAtBlock
+  record-laid =
+      pick-told Stands (l .«gap_first») (l .at + 1) (l .at)
+      (λ g.
+        stands-over (sets s (blockBytes * l .at) (imageOf gap)) (l .at + 1) (length-sets s (blockBytes * l .at) (imageOf gap))
+        (laid-after-gap l s _ _ m g refl refl)
+        (omega (arith, its-blocks, blocks-after-gap l g)))
+      (λ g. stands-over s (l .at) refl (laid-alone l s _ m g refl) (omega (arith, its-blocks, blocks-alone l g)))
+
+  module _ (r : Reading) (asks : r .count ≡ l .length) where
+    -- read forward from its first block
+    pub written-forward : Gives (laidOn s m l) r written writtenEnd (readOne (laidOn s m l) (standing writtenAtBlock writtenEnd) r false)
+    written-forward =
+        let w = record-laid in
+        rw (w .1) at (stands-forward (laidOn s m l) written writtenAtBlock writtenEnd r allowed (w .0) (omega (arith, w .1)) (asks ∙ sym long))
+
+    -- read in reverse from where the Write left the tape
+    pub written-reverse : Gives (laidOn s m l) r written writtenAtBlock (readOne (laidOn s m l) (standing writtenEnd writtenEnd) r true)
+    written-reverse =
+        let w = record-laid in
+        rw (w .1) at (stands-reverse (laidOn s m l) written writtenAtBlock writtenEnd r allowed (w .0) (omega (arith, w .1)) (asks ∙ sym long))
