@@ -1,17 +1,17 @@
 -- A record that was written is read back: its bytes come to memory as they were gathered from it, either way.
 use mathlib.Core.Bool.{Bool, true, false}
-use mathlib.Core.List.{List, [], _∷_, append-nil}
+use mathlib.Core.List.{List, append-nil}
 use mathlib.Core.Path.{_≡_, refl, sym, ap, _∙_}
 use Prim.Native.Nat.{ℕ, _+_, _-_, _*_, _≤_, _<_}
 use native.Mathlib.Omega.{arith}
 use borrow.Author.Tests.{eq-eqb, le-ltb}
-use lib.ListN.{length, drop, take}
+use lib.ListN.{length}
 use lib.Seq.{length-sets, sets, take-all}
 use Rattle.lists.specs.Pick.{pick}
 use Rattle.lists.specs.Places.{gathered, placed}
 use Rattle.lists.proofs.Cases.{pick-told}
 use Rattle.lists.proofs.Placed.{length-gathered}
-use Rattle.tape.specs.Bytes.{movedBytes, movedTo, readInto, recordBytes}
+use Rattle.tape.specs.Bytes.{movedBytes, movedTo, readInto}
 use Rattle.tape.specs.Meeting.{metAs}
 use Rattle.tape.specs.Numbers.{blockBytes, piecesOf, recordLimit}
 use Rattle.tape.specs.Objects.{Allowed, StandsAt, blocksIn, gap, imageOf, imagesOf, record-of}
@@ -33,7 +33,7 @@ use Rattle.motions.specs.declared.parts.Moving.{Moving}
 use Rattle.motions.specs.declared.parts.Object.{Object as Kind}
 use Rattle.motions.specs.declared.parts.Object.the-variants as kind
 use Rattle.motions.specs.declared.reads.Reading.{Reading}
-use Rattle.storing.specs.Stored.{laidObject, laidObjects, laidOn, movedOn}
+use Rattle.storing.specs.Stored.{laidObject, laidOn, movedOn}
 use Rattle.storing.proofs.Ways.{blocks-after-gap, blocks-alone, laid-after-gap, laid-alone}
 
 -- a record met at once is what the search finds
@@ -69,18 +69,17 @@ Gives s r d q a = (x : Moving) × (a ≡ motion.Ended x) × GaveAll s r d q x
 module _ (s d : List ℕ) (p e : ℕ) (r : Reading) (a : Allowed (record-of d)) (h : StandsAt s p (record-of d)) (room : p + piecesOf (length d) ≤ e) (asks : r .count ≡ length d) where
   gave : (reverse : Bool) (q : ℕ) → firstBlock reverse (length d) q ≡ p → Gives s r d q (readMotion r reverse (length d) q (standing q e) reverse)
   unfolding readMotion readEnd movedOn
-  gave reverse q first =
-      (
-        _,
-        refl,
-        record {
-          class = rw (asks) (simp (eq-eqb (length d) (length d) refl));
-          found = rw (asks) (simp (le-ltb (length d) (length d) (omega arith)));
-          residual = omega (arith, asks);
-          place = refl;
-          bytes = λ m. rw (first, record-stands s p d h (a .0) (a .1), asks) (whole-moved reverse (r .swb) m d (r .pointer));
-        }
-      )
+  gave reverse q first = (
+    _,
+    refl,
+    record {
+      class = rw (asks) (simp (eq-eqb (length d) (length d) refl));
+      found = rw (asks) (simp (le-ltb (length d) (length d) (omega arith)));
+      residual = omega (arith, asks);
+      place = refl;
+      bytes = λ m. rw (first, record-stands s p d h (a .0) (a .1), asks) (whole-moved reverse (r .swb) m d (r .pointer));
+    },
+  )
 
   pub stands-forward : Gives s r d (p + piecesOf (length d)) (readOne s (standing p e) r false)
   unfolding metAs blocksIn firstBlock
@@ -134,9 +133,9 @@ module _ (s m : List ℕ) (l : Laid) (o : l .object ≡ kind.Record) (some : 1 �
   record-laid =
       pick-told Stands (l .«gap_first») (l .at + 1) (l .at)
       (λ g.
-        stands-over (sets s (blockBytes * l .at) (imageOf gap)) (l .at + 1) (length-sets s (blockBytes * l .at) (imageOf gap))
-        (laid-after-gap l s _ _ m g refl refl)
-        (omega (arith, its-blocks, blocks-after-gap l g)))
+      stands-over (sets s (blockBytes * l .at) (imageOf gap)) (l .at + 1) (length-sets s (blockBytes * l .at) (imageOf gap))
+      (laid-after-gap l s _ _ m g refl refl)
+      (omega (arith, its-blocks, blocks-after-gap l g)))
       (λ g. stands-over s (l .at) refl (laid-alone l s _ m g refl) (omega (arith, its-blocks, blocks-alone l g)))
 
   module _ (r : Reading) (asks : r .count ≡ l .length) where
