@@ -1,1 +1,3 @@
+pub mod ShortReads
+pub mod Places
 pub mod Examples

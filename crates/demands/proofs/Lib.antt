@@ -1,0 +1,5 @@
+-- Theorems over the unit's definitions.
+pub mod Residuals
+pub mod ReadBack
+pub mod Kept
+pub mod Rereads

@@ -1,0 +1,195 @@
+-- "The residual counts bytes for Read, records or marks for Position modes 0 to 3" (01): what was done and the residual make up the count.
+-- A unit that "invents a residual", or passes the first object of a space "and feigns the rest", breaks this.
+use mathlib.Core.Bool.{Bool, true, false, not}
+use mathlib.Core.List.{List, []}
+use mathlib.Core.Path.{_≡_, refl, _∙_}
+use Prim.Native.Nat.{ℕ, _+_}
+use native.Mathlib.Omega.{arith}
+use borrow.Author.Tests.{eqb-true}
+use lib.Dec.{eqb}
+use Rattle.lists.proofs.Cases.{pick-told}
+use Rattle.tape.specs.Objects.{Holds, Object}
+use Rattle.signals.specs.Residuals.{residualWord}
+use Rattle.signals.specs.declared.message.End.{End}
+use Rattle.state.specs.declared.Tape.{Tape}
+use Rattle.state.proofs.Tests.{either}
+use Rattle.moves.specs.Between.{Between, Bound, countIn}
+use Rattle.moves.specs.Spacing.{spaced}
+use Rattle.moves.specs.declared.seeking.Sought.{Sought}
+use Rattle.moves.specs.declared.seeking.Sought.the-variants as sought-as
+use Rattle.moves.specs.declared.spacing.Rule.{Rule}
+use Rattle.moves.specs.declared.spacing.Span.{Span}
+use Rattle.moves.specs.declared.spacing.Spaced.{Spaced}
+use Rattle.moves.specs.declared.spacing.Stop.{Stop}
+use Rattle.moves.specs.declared.spacing.Stop.the-variants as stop-as
+use Rattle.moves.proofs.Bounds.{bound-below, stays}
+use Rattle.moves.proofs.Counts.{spaced-between, spaced-sound, spaced-why}
+use Rattle.motions.specs.Parts.{end, movedLength, standing, stops}
+use Rattle.motions.specs.Reads.{markEnd, nothingEnd, readEnd, readMotion, readOne, readOneBy, readThenSpace, readThenSpaceBy, reread, spaceBack, spaceBackBy, spaceThenRead, spaceThenReadBy, stageBy, stageOf, stopMotion}
+use Rattle.motions.specs.Spaces.{positioned, residualOf, spaceEnd, spaceMotion, spaceMotionBy, startSpan}
+use Rattle.motions.specs.declared.parts.Motion.the-variants as motion
+use Rattle.motions.specs.declared.parts.Moving.{Moving}
+use Rattle.motions.specs.declared.reads.Reading.{Reading}
+use Rattle.motions.specs.declared.reads.Stage.{Stage}
+use Rattle.motions.specs.declared.reads.Stage.the-variants as stage
+use Rattle.motions.proofs.Ends.{Has}
+
+-- the bytes that a Read moved and its residual
+module _ (r : Reading) where
+  abbrev Adds : Moving → Type 0
+  Adds x = movedLength (x .moved) + residualWord (x .end .residual) ≡ r .count
+
+  record-adds : (reverse : Bool) (n q : ℕ) (t : Tape) (rev : Bool) → Has Adds (readMotion r reverse n q t rev)
+  unfolding readMotion readEnd movedLength
+  record-adds reverse n q t rev = omega arith
+
+  mark-adds : (reverse : Bool) (q e : ℕ) → Has Adds (stopMotion (markEnd (r .count) reverse) q e)
+  unfolding stopMotion markEnd movedLength
+  mark-adds reverse q e = omega arith
+
+  nothing-adds : (reverse : Bool) (q e : ℕ) → Has Adds (stopMotion (nothingEnd (r .count) reverse) q e)
+  unfolding stopMotion nothingEnd movedLength
+  nothing-adds true q e = omega arith
+  nothing-adds false q e = omega arith
+
+  -- a stage that is over
+  abbrev StageAdds : Stage → Type 0
+  StageAdds (stage.Record n q) = Unit {0}
+  StageAdds (stage.Over m) = Has Adds m
+
+  stage-by : (t : Tape) (reverse : Bool) (f : Sought) → StageAdds (stageBy t (r .count) reverse f)
+  unfolding stageBy
+  stage-by t reverse (sought-as.Record n q) = tt
+  stage-by t reverse (sought-as.Mark q) = mark-adds reverse q (t .end)
+  stage-by t reverse (sought-as.Nothing q) = nothing-adds reverse q (t .end)
+  stage-by t reverse (sought-as.Bad k) = tt
+
+  module _ (s : List ℕ) where
+    stage-adds : (t : Tape) (reverse : Bool) → StageAdds (stageOf s t (r .count) reverse)
+    unfolding stageOf
+    stage-adds t reverse = stage-by t reverse _
+
+    one-by : (t : Tape) (reverse : Bool) (f : Stage) → StageAdds f → Has Adds (readOneBy t r reverse f)
+    unfolding readOneBy
+    one-by t reverse (stage.Record n q) i = record-adds reverse n q _ reverse
+    one-by t reverse (stage.Over m) i = i
+
+    one-adds : (t : Tape) (reverse : Bool) → Has Adds (readOne s t r reverse)
+    unfolding readOne
+    one-adds t reverse = one-by t reverse _ (stage-adds t reverse)
+
+    then-read-by : (t : Tape) (reverse : Bool) (f : Stage) → StageAdds f → Has Adds (spaceThenReadBy s t r reverse f)
+    unfolding spaceThenReadBy
+    then-read-by t reverse (stage.Record n q) i = one-adds _ (not reverse)
+    then-read-by t reverse (stage.Over m) i = i
+
+    back-by : (e : ℕ) (reverse : Bool) (n q : ℕ) (f : Stage) → StageAdds f → Has Adds (spaceBackBy e r reverse n q f)
+    unfolding spaceBackBy
+    back-by e reverse n q (stage.Record n′ b) i = record-adds reverse n q _ (not reverse)
+    back-by e reverse n q (stage.Over m) i = i
+
+    then-space-by : (t : Tape) (reverse : Bool) (f : Stage) → StageAdds f → Has Adds (readThenSpaceBy s t r reverse f)
+    unfolding readThenSpaceBy spaceBack
+    then-space-by t reverse (stage.Record n q) i = back-by (t .end) reverse n q _ (stage-adds _ (not reverse))
+    then-space-by t reverse (stage.Over m) i = i
+
+    reread-adds : (t : Tape) (reverse opp : Bool) → Has Adds (reread s t r reverse opp)
+    unfolding reread readThenSpace spaceThenRead
+    reread-adds t reverse opp =
+        either (Has Adds) opp _ _ (then-space-by t reverse _ (stage-adds t reverse)) (then-read-by t reverse _ (stage-adds t reverse))
+
+module _ (s : List ℕ) (t : Tape) (r : Reading) (reverse : Bool) {x : Moving} where
+  -- "The residual counts bytes for Read"
+  pub read-residual : readOne s t r reverse ≡ motion.Ended x → movedLength (x .moved) + residualWord (x .end .residual) ≡ r .count
+  read-residual y = rw y at (one-adds r s t reverse)
+
+  -- "A mark, BOT or end in the first stage ends it, residual as if nothing moved."
+  pub reread-residual : (opp : Bool) → reread s t r reverse opp ≡ motion.Ended x → movedLength (x .moved) + residualWord (x .end .residual) ≡ r .count
+  reread-residual opp y = rw y at (reread-adds r s t reverse opp)
+
+-- the number in a Position's residual
+residual-word : (marks : Bool) (n : ℕ) → residualWord (residualOf marks n) ≡ n
+unfolding residualOf
+residual-word true n = refl
+residual-word false n = refl
+
+-- every end of a space tells what is left, and class 0 only where the count is exhausted
+module _ (r : Rule) (x : Span) where
+  left-told : (stop : Stop) → residualWord (spaceEnd r x stop .residual) ≡ x .left
+  unfolding spaceEnd
+  left-told stop-as.Count = residual-word (r .marks) (x .left)
+  left-told stop-as.Mark = residual-word (r .marks) (x .left)
+  left-told stop-as.LogicalEnd = residual-word (r .marks) (x .left)
+  left-told stop-as.Nothing =
+      either (λ (y : End). residualWord (y .residual) ≡ x .left) (r .reverse) _ _ (residual-word (r .marks) (x .left)) (residual-word (r .marks) (x .left))
+  left-told (stop-as.Bad k) = residual-word (r .marks) (x .left)
+
+  class-told : (stop : Stop) → ((k : ℕ) → stop ≡ stop-as.Bad k → ⊥) → spaceEnd r x stop .class ≡ 0 → stop ≡ stop-as.Count
+  unfolding spaceEnd
+  class-told stop-as.Count n c = refl
+  class-told stop-as.Mark n c = absurd (omega arith)
+  class-told stop-as.LogicalEnd n c = absurd (omega arith)
+  class-told stop-as.Nothing n c = absurd (either (λ (y : End). y .class ≡ 0 → ⊥) (r .reverse) _ _ (λ z. omega arith) (λ z. omega arith) c)
+  class-told (stop-as.Bad k) n c = absurd (n k refl)
+
+-- the objects passed, with the residual; and class 0 leaves none
+pub record Passed (os : List Object) (r : Rule) (p count : ℕ) (x : Moving) : Type 0 where
+  pub mid : List Object
+  pub between : Between os (r .reverse) p (x .tape .position) mid
+  pub counted : countIn (r .marks) mid + residualWord (x .end .residual) ≡ count
+  pub whole : x .end .class ≡ 0 → residualWord (x .end .residual) ≡ 0
+
+module _ {s : List ℕ} {os : List Object} (t : Tape) (h : Holds s (t .end) os) (b : Bound os (t .position)) (r : Rule) (count : ℕ) where
+  -- "A Position count of 0 moves nothing, class 0"
+  none-asked : eqb count 0 ≡ true → Has (Passed os r (t .position) count) (stops (end 0 0 0 (residualOf (r .marks) 0)) t)
+  unfolding countIn
+  none-asked e =
+      record {
+        mid = [];
+        between = stays (r .reverse) b;
+        counted = omega (arith, residual-word (r .marks) 0, eqb-true count 0 e);
+        whole = λ c. residual-word (r .marks) 0;
+      }
+
+  module _ (enb : Bool) where
+    abbrev from : Span
+    from = startSpan t count enb
+
+    abbrev spaces : Spaced
+    spaces = spaced s r (t .end) from
+
+    stopped-as : (stop : Stop) → spaces .stop ≡ stop → Has (Passed os r (t .position) count) (stops (spaceEnd r (spaces .span) stop) (standing (spaces .span .position) (t .end)))
+    stopped-as stop e =
+        let done = spaced-between h r from b in
+        record {
+          mid = done .0;
+          between = done .1;
+          counted = rw (left-told r (spaces .span) stop) (done .2);
+          whole =
+              λ c. left-told r (spaces .span) stop
+              ∙ spaced-why s r (t .end) from (bound-below h b) (e ∙ class-told r (spaces .span) stop (λ k z. spaced-sound h r from b k (e ∙ z)) c);
+        }
+
+    motion-by : (stop : Stop) → spaces .stop ≡ stop → Has (Passed os r (t .position) count) (spaceMotionBy r (spaces .span) (t .end) stop)
+    unfolding spaceMotionBy
+    motion-by stop-as.Count e = stopped-as stop-as.Count e
+    motion-by stop-as.Mark e = stopped-as stop-as.Mark e
+    motion-by stop-as.LogicalEnd e = stopped-as stop-as.LogicalEnd e
+    motion-by stop-as.Nothing e = stopped-as stop-as.Nothing e
+    motion-by (stop-as.Bad k) e = tt
+
+    passes : Has (Passed os r (t .position) count) (positioned s t r count enb)
+    unfolding positioned spaceMotion
+    passes = pick-told (Has (Passed os r (t .position) count)) (eqb count 0) _ _ none-asked (λ e. motion-by (spaces .stop) refl)
+
+    module _ {x : Moving} (y : positioned s t r count enb ≡ motion.Ended x) where
+      passed-as : Passed os r (t .position) count x
+      passed-as = rw y at passes
+
+      -- "records or marks for Position modes 0 to 3": those between the two positions and the residual make up the count asked
+      pub space-residual : (mid : List Object) × Between os (r .reverse) (t .position) (x .tape .position) mid × (countIn (r .marks) mid + residualWord (x .end .residual) ≡ count)
+      space-residual = (passed-as .mid, passed-as .between, passed-as .counted)
+
+      -- a space that ends with class 0 passed all that was asked
+      pub space-whole : x .end .class ≡ 0 → (mid : List Object) × Between os (r .reverse) (t .position) (x .tape .position) mid × (countIn (r .marks) mid ≡ count)
+      space-whole c = (passed-as .mid, passed-as .between, omega (arith, passed-as .counted, passed-as .whole c))
