@@ -1,2 +1,3 @@
 -- The laws of advance.
 pub mod Extents
+pub mod Sound
