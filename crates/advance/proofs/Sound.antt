@@ -50,10 +50,14 @@ pub record SoundEffect (n : Lengths) (pointer : ℕ) (x : Effect) : Type 0 where
   pub moved : MoveFits n (x .moved)
   pub laid : LayFits n (x .laid)
 
--- a run from the state u; a fault changes nothing
+-- a run; a fault changes nothing
+abbrev SoundOn : Lengths → ℕ → Ran → Type 0
+SoundOn n pointer (ran.Ended x) = SoundEffect n pointer x
+SoundOn n pointer (ran.Fault k) = Unit {0}
+
+-- a run from the state u; switches and attention are no part of it
 abbrev pub SoundRan : State → Ran → Type 0
-SoundRan u (ran.Ended x) = SoundEffect (u .lengths) (u .registers .pointer) x
-SoundRan u (ran.Fault k) = Unit {0}
+SoundRan u r = SoundOn (u .lengths) (u .registers .pointer) r
 
 -- an end that moves and lays nothing
 pub effect-sound : (u : State) → Legal u → (x : End) (told : Notice) (ie : Bool) → x .class ≤ lastClass → SoundRan u (ran.Ended (effectOf u x told ie))
