@@ -3,3 +3,4 @@ pub mod Extents
 pub mod Sound
 pub mod Carrying
 pub mod Stepping
+pub mod Kept
