@@ -26,6 +26,7 @@ use Rattle.advance.proofs.Stepping.{attended-sound, header-sound}
 -- a plan made in the state u
 pub record SoundPlan (u : Unit) (p : Plan) : Type 0 where
   pub legal : Legal (p .unit)
+  pub lengths : p .unit .lengths ≡ u .lengths
   pub moved : MoveFits (u .lengths) (p .moved)
   pub laid : LayFits (u .lengths) (p .laid)
   pub message : p .sends ≡ true → BufferFits (p .unit .characteristics) (u .lengths .memory)
@@ -35,6 +36,7 @@ unfolding still
 still-sound u l a =
     record {
       legal = l;
+      lengths = refl;
       moved = no-move-fits (u .lengths);
       laid = no-lay-fits (u .lengths);
       message = λ e. absurd (true≢false (sym e));
@@ -54,6 +56,7 @@ finished-sound : (u : Unit) → Legal u → (x : Effect) (start : ℕ) → Sound
 finished-sound u l x start f =
     record {
       legal = finished-legal u l x start f;
+      lengths = finished-ends x start .lengths ∙ f .lengths;
       moved = finished-moved x start (MoveFits (u .lengths)) (f .moved) (no-move-fits (u .lengths));
       laid = finished-laid x start (LayFits (u .lengths)) (f .laid) (no-lay-fits (u .lengths));
       message = λ e. rw (finished-ends x start .characteristics) (f .buffer (finished-sends x start e));
@@ -75,6 +78,9 @@ advanced-sound u m s l e =
 
 pub advanced-legal : (u : Unit) (m s : List ℕ) → Legal u → length m ≡ u .lengths .memory → length s ≡ blockBytes * u .lengths .blocks → Legal (advanced u m s .unit)
 advanced-legal u m s l e f = advanced-sound u m s l e .legal
+
+pub advanced-lengths : (u : Unit) (m s : List ℕ) → Legal u → length m ≡ u .lengths .memory → advanced u m s .unit .lengths ≡ u .lengths
+advanced-lengths u m s l e = advanced-sound u m s l e .lengths
 
 -- what is moved begins inside memory, and so in a small number
 pub advanced-moved-small : (u : Unit) (m s : List ℕ) → Legal u → length m ≡ u .lengths .memory → advanced u m s .moved .pointer ≤ memoryLimit
