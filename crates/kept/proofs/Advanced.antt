@@ -1,5 +1,5 @@
 -- An advance keeps the reel well formed and the position a bound, and on such a reel it never names a block at fault.
-use mathlib.Core.Bool.{Bool, true, false, _&&_}
+use mathlib.Core.Bool.{Bool, false, _&&_}
 use mathlib.Core.List.{List}
 use mathlib.Core.Path.{_≡_, refl}
 use Prim.Native.Nat.{ℕ, _*_}
@@ -20,7 +20,7 @@ use Rattle.commands.specs.declared.plans.Answer.{Answer}
 use Rattle.commands.specs.declared.plans.Answer.the-variants as answer
 use Rattle.commands.specs.declared.plans.Plan.{Plan}
 use Rattle.motions.specs.Parts.{noLay}
-use Rattle.storing.specs.Stored.{laidOn, reelAfter}
+use Rattle.storing.specs.Stored.{reelAfter}
 use Rattle.advance.specs.Steps.{advanced}
 use Rattle.kept.proofs.Standing.{Kept, unlaid}
 use Rattle.kept.proofs.Carrying.{KeptEffect, KeptRan}

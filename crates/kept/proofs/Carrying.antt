@@ -18,7 +18,6 @@ use Rattle.state.specs.Checks.{bufferWrong, pointerLimit}
 use Rattle.state.specs.declared.Tape.{Tape}
 use Rattle.state.specs.declared.Unit.{Unit as State}
 use Rattle.state.proofs.Tests.{either}
-use Rattle.moves.specs.Between.{Bound}
 use Rattle.motions.specs.Parts.{noLay, standing}
 use Rattle.motions.specs.Writes.{retried, writtenAt}
 use Rattle.motions.specs.declared.parts.Motion.{Motion}

@@ -1,5 +1,5 @@
 -- Step 9 shows that a Write asks for a record of an allowed length: only code 5 gives a Write.
-use mathlib.Core.Bool.{Bool, true, false, _||_, _&&_}
+use mathlib.Core.Bool.{true, false}
 use mathlib.Core.Path.{_≡_}
 use Prim.Native.Nat.{ℕ, _≤_}
 use native.Mathlib.Omega.{arith}

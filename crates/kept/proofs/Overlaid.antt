@@ -1,6 +1,6 @@
 -- Objects laid at a bound: what stands below stays, the new ones stand behind it, and all beyond is forgotten.
 use mathlib.Core.List.{List, [], _++_, append-nil}
-use mathlib.Core.Path.{_≡_, refl, sym, ap, _∙_}
+use mathlib.Core.Path.{_≡_, sym}
 use Prim.Native.Nat.{ℕ, _+_, _*_, _≤_}
 use native.Mathlib.Omega.{arith}
 use lib.ListN.{length, take, drop}
@@ -9,7 +9,7 @@ use Rattle.lists.proofs.Stores.{sets-part, take-sets}
 use Rattle.tape.specs.Numbers.{blockBytes}
 use Rattle.tape.specs.Objects.{AllAllowed, Holds, Object, blocksOf, imagesOf}
 use Rattle.tape.proofs.Images.{allowed-both, blocks-append, images-append, length-images}
-use Rattle.tape.proofs.Written.{below-only, holds-front}
+use Rattle.tape.proofs.Written.{holds-front}
 use Rattle.moves.specs.Between.{Bound}
 
 module _ {s : List ℕ} {e : ℕ} {os : List Object} (h : Holds s e os) {p : ℕ} (b : Bound os p) where

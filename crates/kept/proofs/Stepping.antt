@@ -1,14 +1,14 @@
 -- Each step of an advance, from the last to the first: it rejects and leaves tape and reel as they are, or goes on to the next.
-use mathlib.Core.Bool.{Bool, true, false, _||_, _&&_, not}
+use mathlib.Core.Bool.{Bool, false, _||_, _&&_, not}
 use mathlib.Core.List.{List}
-use mathlib.Core.Path.{_≡_, refl}
+use mathlib.Core.Path.{_≡_}
 use Prim.Native.Nat.{ℕ, _+_, _*_, _%_}
 use lib.Dec.{eqb, ltb}
 use lib.ListN.{length}
 use Rattle.lists.proofs.Cases.{pick-told}
 use Rattle.tape.specs.Numbers.{blockBytes}
 use Rattle.signals.specs.Codes.{commandOf}
-use Rattle.signals.specs.Header.{headerOf, packetOf, wordsOf}
+use Rattle.signals.specs.Header.{packetOf, wordsOf}
 use Rattle.signals.specs.declared.packet.Header.{Header}
 use Rattle.signals.specs.declared.packet.Packet.{Packet}
 use Rattle.signals.specs.declared.counts.Residual.{Residual}

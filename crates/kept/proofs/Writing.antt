@@ -1,5 +1,5 @@
 -- A write on a well formed reel, at a bound or behind a retry's gap, leaves a well formed reel that ends where the tape stands.
-use mathlib.Core.Bool.{Bool, true, false}
+use mathlib.Core.Bool.{Bool, true}
 use mathlib.Core.List.{List, _++_}
 use mathlib.Core.Path.{_≡_, refl}
 use Prim.Native.Nat.{ℕ, _+_, _*_, _≤_}
