@@ -1,0 +1,10 @@
+-- What an advance keeps: a well formed reel, and a position that is a bound of it.
+pub mod Standing
+pub mod Overlaid
+pub mod Reading
+pub mod Spacing
+pub mod Writing
+pub mod Carrying
+pub mod Lengths
+pub mod Stepping
+pub mod Advanced

@@ -1,0 +1,1 @@
+// Laws only: an advance keeps the reel well formed and the position a bound.
