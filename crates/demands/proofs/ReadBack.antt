@@ -93,7 +93,7 @@ module _ (s d : List ℕ) (p e : ℕ) (r : Reading) (a : Allowed (record-of d)) 
       let q : ℕ = p + piecesOf (length d) in
       rw (read-found s true q e (length d) p r (found-at-once s true q e (length d) p (omega (arith, a .0)) (pass-reverse s p e (record-of d) a h))) (gave true p refl)
 
--- a record as a Write lays it: alone, or behind a gap for a retry
+-- "Write 5 / 0, 2 retry": a record as a Write lays it, alone, or behind a gap for a retry
 module _ (s m : List ℕ) (l : Laid) (o : l .object ≡ kind.Record) (some : 1 ≤ l .length) (most : l .length ≤ recordLimit) (room : blockBytes * (l .at + laidBlocks l) ≤ length s) where
   -- its bytes as they lay in memory, its first block, and the recorded end that the Write leaves
   abbrev pub written : List ℕ
@@ -139,13 +139,13 @@ module _ (s m : List ℕ) (l : Laid) (o : l .object ≡ kind.Record) (some : 1 �
       (λ g. stands-over s (l .at) refl (laid-alone l s _ m g refl) (omega (arith, its-blocks, blocks-alone l g)))
 
   module _ (r : Reading) (asks : r .count ≡ l .length) where
-    -- read forward from its first block
+    -- "Read 1 / 0 next": forward from its first block, with either SWB and to any address
     pub written-forward : Gives (laidOn s m l) r written writtenEnd (readOne (laidOn s m l) (standing writtenAtBlock writtenEnd) r false)
     written-forward =
         let w = record-laid in
         rw (w .1) at (stands-forward (laidOn s m l) written writtenAtBlock writtenEnd r allowed (w .0) (omega (arith, w .1)) (asks ∙ sym long))
 
-    -- read in reverse from where the Write left the tape
+    -- "1 previous": in reverse from where the Write left the tape ("moves the end to just after them")
     pub written-reverse : Gives (laidOn s m l) r written writtenAtBlock (readOne (laidOn s m l) (standing writtenEnd writtenEnd) r true)
     written-reverse =
         let w = record-laid in
