@@ -86,12 +86,12 @@ module _ (s m : List ℕ) where
         (λ j h. ap (λ (r : List ℕ). getD r j 0) none-laid)
         (λ j h. reel-kept-below m s l j h)
 
-    -- "The reel below the position stays": a Write or a Format lays from the position on
+    -- "Writing stores only the new object's blocks": a Write or a Format lays from the position on, and the reel below it stays
     pub write-keeps-below : (l : Laid) (mark : Bool) {x : Moving} → l .at ≡ t .position → writtenAt t blocks l mark ≡ motion.Ended x → KeptBelow (t .position) x
     write-keeps-below l mark e y = rw (← e) (rw y at (write-has l mark))
 
-    -- where a search of this answer stopped
-    abbrev StopsAt : ℕ → Sought → Type 0
+    -- a search with this answer stopped at q, if it found anything
+    abbrev pub StopsAt : ℕ → Sought → Type 0
     StopsAt q (sought-as.Record n q′) = q ≡ q′
     StopsAt q (sought-as.Mark q′) = q ≡ q′
     StopsAt q (sought-as.Nothing q′) = Unit {0}

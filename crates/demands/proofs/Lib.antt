@@ -2,4 +2,6 @@
 pub mod Residuals
 pub mod ReadBack
 pub mod Kept
+pub mod ReadEnds
+pub mod Nearest
 pub mod Rereads

@@ -93,43 +93,43 @@ module _ (s d : List ℕ) (p e : ℕ) (r : Reading) (a : Allowed (record-of d)) 
       let q : ℕ = p + piecesOf (length d) in
       rw (read-found s true q e (length d) p r (found-at-once s true q e (length d) p (omega (arith, a .0)) (pass-reverse s p e (record-of d) a h))) (gave true p refl)
 
--- a record as a Write lays it: alone, or behind a gap for a retry
+-- what a Write lays: its bytes as they lay in memory, its first block, and the recorded end that it leaves
+abbrev pub written : List ℕ → Laid → List ℕ
+written m l = gathered (l .swb) m (l .pointer) (l .length)
+
+abbrev pub writtenAtBlock : Laid → ℕ
+writtenAtBlock l = pick (l .«gap_first») (l .at + 1) (l .at)
+
+abbrev pub writtenEnd : Laid → ℕ
+writtenEnd l = l .at + laidBlocks l
+
+-- "Write 5 / 0, 2 retry": a record as a Write lays it, alone, or behind a gap for a retry
 module _ (s m : List ℕ) (l : Laid) (o : l .object ≡ kind.Record) (some : 1 ≤ l .length) (most : l .length ≤ recordLimit) (room : blockBytes * (l .at + laidBlocks l) ≤ length s) where
-  -- its bytes as they lay in memory, its first block, and the recorded end that the Write leaves
-  abbrev pub written : List ℕ
-  written = gathered (l .swb) m (l .pointer) (l .length)
-
-  abbrev pub writtenAtBlock : ℕ
-  writtenAtBlock = pick (l .«gap_first») (l .at + 1) (l .at)
-
-  abbrev pub writtenEnd : ℕ
-  writtenEnd = l .at + laidBlocks l
-
-  long : length written ≡ l .length
+  long : length (written m l) ≡ l .length
   long = length-gathered (l .swb) m (l .pointer) (l .length)
 
-  allowed : Allowed (record-of written)
+  allowed : Allowed (record-of (written m l))
   allowed = (omega (arith, long), omega (arith, long))
 
   abbrev Stands : ℕ → Type 0
-  Stands p = StandsAt (laidOn s m l) p (record-of written) × (p + piecesOf (length written) ≡ writtenEnd)
+  Stands p = StandsAt (laidOn s m l) p (record-of (written m l)) × (p + piecesOf (length (written m l)) ≡ writtenEnd l)
 
-  one-image : imagesOf (laidObject m l (l .object)) ≡ imageOf (record-of written)
+  one-image : imagesOf (laidObject m l (l .object)) ≡ imageOf (record-of (written m l))
   unfolding laidObject imagesOf
-  one-image = ap (λ (k : Kind). imagesOf (laidObject m l k)) o ∙ append-nil (imageOf (record-of written))
+  one-image = ap (λ (k : Kind). imagesOf (laidObject m l k)) o ∙ append-nil (imageOf (record-of (written m l)))
 
-  its-blocks : objectBlocks (l .object) (l .length) ≡ piecesOf (length written)
+  its-blocks : objectBlocks (l .object) (l .length) ≡ piecesOf (length (written m l))
   unfolding objectBlocks
   its-blocks = ap (λ (k : Kind). objectBlocks k (l .length)) o ∙ ap piecesOf (sym long)
 
   -- the record over any reel of the same length
-  stands-over : (s₀ : List ℕ) (p : ℕ) → length s₀ ≡ length s → sets s₀ (blockBytes * p) (imagesOf (laidObject m l (l .object))) ≡ laidOn s m l → p + piecesOf (length written) ≡ writtenEnd → Stands p
+  stands-over : (s₀ : List ℕ) (p : ℕ) → length s₀ ≡ length s → sets s₀ (blockBytes * p) (imagesOf (laidObject m l (l .object))) ≡ laidOn s m l → p + piecesOf (length (written m l)) ≡ writtenEnd l → Stands p
   unfolding blocksIn
   stands-over s₀ p k e at =
-      let r : sets s₀ (blockBytes * p) (imageOf (record-of written)) ≡ laidOn s m l = ap (sets s₀ (blockBytes * p)) (sym one-image) ∙ e in
-      (rw r at (laid-stands s₀ p (record-of written) (omega (arith, k, at, room))), at)
+      let r : sets s₀ (blockBytes * p) (imageOf (record-of (written m l))) ≡ laidOn s m l = ap (sets s₀ (blockBytes * p)) (sym one-image) ∙ e in
+      (rw r at (laid-stands s₀ p (record-of (written m l)) (omega (arith, k, at, room))), at)
 
-  record-laid : Stands writtenAtBlock
+  record-laid : Stands (writtenAtBlock l)
   record-laid =
       pick-told Stands (l .«gap_first») (l .at + 1) (l .at)
       (λ g.
@@ -139,14 +139,14 @@ module _ (s m : List ℕ) (l : Laid) (o : l .object ≡ kind.Record) (some : 1 �
       (λ g. stands-over s (l .at) refl (laid-alone l s _ m g refl) (omega (arith, its-blocks, blocks-alone l g)))
 
   module _ (r : Reading) (asks : r .count ≡ l .length) where
-    -- read forward from its first block
-    pub written-forward : Gives (laidOn s m l) r written writtenEnd (readOne (laidOn s m l) (standing writtenAtBlock writtenEnd) r false)
+    -- "Read 1 / 0 next": forward from its first block, with either SWB and to any address
+    pub written-forward : Gives (laidOn s m l) r (written m l) (writtenEnd l) (readOne (laidOn s m l) (standing (writtenAtBlock l) (writtenEnd l)) r false)
     written-forward =
         let w = record-laid in
-        rw (w .1) at (stands-forward (laidOn s m l) written writtenAtBlock writtenEnd r allowed (w .0) (omega (arith, w .1)) (asks ∙ sym long))
+        rw (w .1) at (stands-forward (laidOn s m l) (written m l) (writtenAtBlock l) (writtenEnd l) r allowed (w .0) (omega (arith, w .1)) (asks ∙ sym long))
 
-    -- read in reverse from where the Write left the tape
-    pub written-reverse : Gives (laidOn s m l) r written writtenAtBlock (readOne (laidOn s m l) (standing writtenEnd writtenEnd) r true)
+    -- "1 previous": in reverse from where the Write left the tape ("moves the end to just after them")
+    pub written-reverse : Gives (laidOn s m l) r (written m l) (writtenAtBlock l) (readOne (laidOn s m l) (standing (writtenEnd l) (writtenEnd l)) r true)
     written-reverse =
         let w = record-laid in
-        rw (w .1) at (stands-reverse (laidOn s m l) written writtenAtBlock writtenEnd r allowed (w .0) (omega (arith, w .1)) (asks ∙ sym long))
+        rw (w .1) at (stands-reverse (laidOn s m l) (written m l) (writtenAtBlock l) (writtenEnd l) r allowed (w .0) (omega (arith, w .1)) (asks ∙ sym long))
