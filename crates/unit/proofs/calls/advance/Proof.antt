@@ -3,6 +3,7 @@ use borrow.Author.Needs.{needs}
 use native.Mathlib.Omega.{arith}
 use mathlib.Core.Path.{sym, _∙_}
 use Rattle.state.proofs.Legal.{accepted}
+use Rattle.unit.proofs.Storing.{advanced-storable}
 use Rattle.unit.proofs.Still.{called-done, called-refused}
 use Rattle.unit.proofs.calls.advance.Statement.{statement}
 use Rattle.unit.proofs.calls.advance.Tie as tie
@@ -19,7 +20,10 @@ plan-advance-requires c κs =
     (omega (arith, a .0 .capacity, a .0 .blocks-most), a .0 .pointer)
 
 store-requires : tie.Need-store-requires
-store-requires c κs = ?
+store-requires c κs =
+    let t = c .before .before .before .before .before in
+    let a = accepted _ _ _ (sym (t .before .refusal .ensures) ∙ t .if1 .left) in
+    rw (c .before .before .plan-advance .ensures) (advanced-storable _ _ _ (a .0) (a .1) (a .2))
 
 same-length : tie.Need-same-length
 same-length c = search needs
