@@ -1,5 +1,6 @@
 -- `store_refusal` meets its contract: the length and then the place are tested, which says what the definition's sum does.
 use borrow.Author.Needs.{needs}
+use native.Mathlib.Omega.{arith}
 use borrow.Author.Tests.{eq-eqb, ne-eqb}
 use lib.Dec.{ltb}
 use Rattle.unit.specs.Calls.{storeRefusal}
@@ -23,19 +24,19 @@ returns-2 c =
 sub-if3 : tie.Need-sub-if3
 sub-if3 c =
     let a = c .before .before .before .args in
-    short-enough (a .memory) 0 (a .n) (ltb 65535 (a .n)) (c .if2 .left)
+    omega (arith, short-enough (a .memory) 0 (a .n) (ltb 65535 (a .n)) (c .if2 .left))
 
 returns-3 : tie.Need-returns-3
 unfolding storeRefusal
 returns-3 c =
     let a = c .before .before .before .before .args in
-    rw (← c .before .before .before .refusal .ensures, eq-eqb _ _ (c .before .before .if1 .left), outside (a .memory) (a .place) (a .n) _ (c .before .if2 .left) (c .if3 .taken))
+    rw (← c .before .before .before .refusal .ensures, eq-eqb _ _ (c .before .before .if1 .left), outside (a .memory) (a .place) (a .n) _ (c .before .if2 .left) (omega (arith, c .if3 .taken)))
 
 returns-4 : tie.Need-returns-4
 unfolding storeRefusal
 returns-4 c =
     let a = c .before .before .before .before .args in
-    rw (← c .before .before .before .refusal .ensures, eq-eqb _ _ (c .before .before .if1 .left), inside (a .memory) (a .place) (a .n) _ (c .before .if2 .left) (c .if3 .left))
+    rw (← c .before .before .before .refusal .ensures, eq-eqb _ _ (c .before .before .if1 .left), inside (a .memory) (a .place) (a .n) _ (c .before .if2 .left) (omega (arith, c .if3 .left)))
 
 pub store-refusal-spec : {M : Type 1} → statement M
 store-refusal-spec =
