@@ -6,5 +6,5 @@ pub mod Saved
 pub mod Newest
 pub mod Outs
 pub mod Backs
-pub mod Stills
+pub mod Readies
 pub mod Hosts

@@ -1,3 +1,4 @@
+use Rattle.journal.proofs.Readies.{advance-ready}
 use Rattle.journal.proofs.Outs.{advance-rests, advance-steps, guarded-goes, guarded-stops}
 use Rattle.journal.proofs.Passed.{passed, plannable}
 use Rattle.journal.specs.Calls.{advanceBy, advanceOn}
@@ -23,7 +24,7 @@ enum-told : tie.Need-enum-told
 enum-told c = search needs
 
 step-requires : tie.Need-step-requires
-step-requires c κs = ?
+step-requires c κs = advance-ready _ _ (c .before .before .before .before .before .before .before .before .before .before .before .before .before .before .args .mem .now) (c .before .before .before .before .before .before .before .before .before .before .before .before .before .before .args .reel .now) _ _ (c .before .before .before .before .before .before .before .before .before .before .check .ensures) (c .before .before .before .before .before .before .before .before .before .if1 .left) (c .before .before .before .before .before .plan-advance .ensures)
 
 enum-told-2 : tie.Need-enum-told-2
 enum-told-2 c = search needs

@@ -1,5 +1,5 @@
 use Rattle.journal.proofs.Outs.{step-as}
-use Rattle.journal.proofs.Stills.{still-ready}
+use Rattle.journal.proofs.Readies.{still-ready}
 use borrow.Author.Needs.{needs}
 use Rattle.journal.proofs.calls.change.Statement.{statement}
 use Rattle.journal.proofs.calls.change.Tie as tie
