@@ -1,3 +1,4 @@
+-- `host_step` meets its contract: refusal 9, or the entry first and then the bytes.
 use Rattle.journal.proofs.Outs.{host-goes, host-stops}
 use Rattle.journal.proofs.Fits.{host-in}
 use Rattle.journal.proofs.Passed.{passed, room, sizes}
@@ -22,11 +23,10 @@ returns : tie.Need-returns
 returns c = host-stops _ _ _ _ _ _ _ _ (c .before .before .before .before .host-entry .ensures) (c .before .before .before .entry-length .ensures) _ (c .before .if1 .taken) (c .refused .ensures .0) (c .refused .ensures .1)
 
 enter-requires : tie.Need-enter-requires
-enter-requires c κs =
-    (
-      room _ _ _ _ (passed _ _ _ _ (c .before .before .before .before .before .before .before .before .before .before .before .pre .sound .right)) _ _ (c .before .before .before .before .entry-length .ensures) (c .before .before .if1 .left),
-      host-in _ _ _ _ _ _ (c .before .before .before .before .before .host-entry .ensures) (sizes _ _ _ _ (passed _ _ _ _ (c .before .before .before .before .before .before .before .before .before .before .before .pre .sound .right))) (c .before .before .before .before .before .before .before .before .before .before .before .pre .inside),
-    )
+enter-requires c κs = (
+  room _ _ _ _ (passed _ _ _ _ (c .before .before .before .before .before .before .before .before .before .before .before .pre .sound .right)) _ _ (c .before .before .before .before .entry-length .ensures) (c .before .before .if1 .left),
+  host-in _ _ _ _ _ _ (c .before .before .before .before .before .host-entry .ensures) (sizes _ _ _ _ (passed _ _ _ _ (c .before .before .before .before .before .before .before .before .before .before .before .pre .sound .right))) (c .before .before .before .before .before .before .before .before .before .before .before .pre .inside),
+)
 
 scatter-requires : tie.Need-scatter-requires
 scatter-requires c κs = (c .before .before .before .before .before .before .before .before .before .before .before .before .before .before .before .pre .inside, sizes _ _ _ _ (passed _ _ _ _ (c .before .before .before .before .before .before .before .before .before .before .before .before .before .before .before .pre .sound .right)) .even)
