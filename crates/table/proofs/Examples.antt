@@ -6,13 +6,18 @@ use Rattle.tape.specs.Layout.{blockOf, bodyOf, checkOf}
 use Rattle.tape.specs.Objects.{blocksIn, imageOf, pieceOf, piecesTo}
 use Rattle.state.specs.Changes.{mountedAs, tsdbWritten}
 use Rattle.state.specs.Readings.{tssrOf}
+use Rattle.motions.specs.Parts.{laidBlocks, movedLength, objectBlocks}
 use Rattle.motions.specs.Reads.{readEnd}
+use Rattle.tape.specs.Bytes.{movedTo}
+use Rattle.commands.specs.Commands.{released}
+use Rattle.commands.specs.Effects.{effectOf, endedUnit, finished, finishedBy, planned, silenced, still}
+use Rattle.journal.specs.Entries.{entryFor, entryLength, movedPlace}
 use Rattle.table.specs.Table.{Table}
 use Rattle.table.proofs.Places.{after-first, before-last, first, last}
 use Rattle.table.proofs.ShortReads.{high-end, short-residual, short-status, short-stored, short-tssr}
 
 pub table : Table
-unfolding blocksIn imageOf piecesTo pieceOf blockOf bodyOf checkOf wordSum tssrOf mountedAs tsdbWritten readEnd
+unfolding blocksIn imageOf piecesTo pieceOf blockOf bodyOf checkOf wordSum tssrOf mountedAs tsdbWritten readEnd released effectOf planned finished finishedBy silenced endedUnit still entryFor entryLength movedPlace movedTo movedLength laidBlocks objectBlocks
 table =
     record {
       p1 = λ e locked lengths. refl;
@@ -34,4 +39,5 @@ table =
       p10-one = λ d h. omega arith;
       p10-two = λ d h. omega arith;
       p11 = λ d h. omega arith;
+      p12 = λ u ie. refl;
     }

@@ -1,4 +1,4 @@
--- "Proved together, as one table" (01): P1 to P7 of the unit, P8 to P11 of the reel.
+-- "Proved together, as one table" (01): P1 to P7 of the unit, P8 to P11 of the reel, P12 of the journal.
 use mathlib.Core.Path.{_≡_}
 use mathlib.Core.Bool.{Bool, true, false}
 use mathlib.Core.List.{List, [], _∷_}
@@ -19,10 +19,11 @@ use Rattle.state.specs.declared.Unit.{Unit}
 use Rattle.moves.specs.Seeking.{sought}
 use Rattle.moves.specs.declared.seeking.Sought.the-variants as sought-as
 use Rattle.motions.specs.Reads.{bytes, readEnd}
-use Rattle.commands.specs.Commands.{readBy}
+use Rattle.commands.specs.Commands.{readBy, released}
 use Rattle.commands.specs.Effects.{planned}
 use Rattle.commands.specs.declared.plans.Plan.{Plan}
 use Rattle.storing.specs.Stored.{movedOn}
+use Rattle.journal.specs.Entries.{entryFor, entryLength}
 
 -- "count 10, record 7": a Read of 10 bytes that meets a record of 7, beyond which the position is q
 pub record ShortRead (u : Unit) (s : List ℕ) (p : Packet) (reverse : Bool) (q : ℕ) : Type 0 where
@@ -91,3 +92,5 @@ pub record Table : Type 0 where
   pub p10-two : (d : List ℕ) → length d ≡ 505 → blocksIn (record-of d) ≡ 2
   -- "P11 16,384 bytes, 33."
   pub p11 : (d : List ℕ) → length d ≡ 16384 → blocksIn (record-of d) ≡ 33
+  -- "P12 release: entry 128."
+  pub p12 : (u : Unit) (ie : Bool) → entryLength (entryFor u (planned u (released u ie))) ≡ 128
