@@ -1,0 +1,4 @@
+-- Laws of the journal's definitions and of sessions.
+pub mod EntryParts
+pub mod Checked
+pub mod Undone

@@ -1,0 +1,2 @@
+-- Sessions of calls.
+pub mod Session
