@@ -2,3 +2,4 @@
 pub mod EntryParts
 pub mod Checked
 pub mod Undone
+pub mod Taken

@@ -16,7 +16,7 @@ pub record State (W E : Type 0) : Type 0 where
   pub world : W
   pub entries : List E
 
--- the machine: what a call does in a world, and how its entry is undone
+-- the machine: what a call does in a world, and how its entry is undone; `Fit` is what every world of a session has, from its first on
 pub record Machine : Type 1 where
   pub W : Type 0
   pub E : Type 0
@@ -27,8 +27,10 @@ pub record Machine : Type 1 where
   pub entry : C → W → E
   pub answer : C → State W E → A
   pub undo : E → W → W
+  pub Fit : W → Type 0
+  pub keeps : (c : C) (s : State W E) → Fit (s .world) → kind c s ≡ stepped → Fit (next c (s .world))
   -- a step taken is undone by its entry
-  pub undoes : (c : C) (s : State W E) → kind c s ≡ stepped → undo (entry c (s .world)) (next c (s .world)) ≡ s .world
+  pub undoes : (c : C) (s : State W E) → Fit (s .world) → kind c s ≡ stepped → undo (entry c (s .world)) (next c (s .world)) ≡ s .world
 
 module _ (M : Machine) where
   abbrev pub St : Type 0
@@ -56,8 +58,8 @@ module _ (M : Machine) where
   backs zero s = s
   backs (suc k) s = backs k (back s)
 
-  pub back-step : (c : M .C) (s : St) → M .kind c s ≡ stepped → back (after stepped c s) ≡ s
-  back-step c s k = λ i. record { world = M .undoes c s k i; entries = s .entries }
+  pub back-step : (c : M .C) (s : St) → M .Fit (s .world) → M .kind c s ≡ stepped → back (after stepped c s) ≡ s
+  back-step c s f k = λ i. record { world = M .undoes c s f k i; entries = s .entries }
 
   -- k + j back is k back and then j
   pub backs-add : (k j : ℕ) (s : St) → backs (k + j) s ≡ backs j (backs k s)
@@ -124,21 +126,31 @@ module _ (M : Machine) where
   nil-cons : {l es : List (M .E)} {e : M .E} → l ≡ [] → l ≡ e ∷ es → ⊥
   nil-cons p q = let z : _≡_ {A = ℕ} 0 1 = cc in omega arith
 
+  -- every world of a clean log is fit
+  pub fit-clean : {s₀ s : St} {l : List Done} → M .Fit (s₀ .world) → Clean l → Ran s₀ l s → M .Fit (s .world)
+  fit-clean f k start = f
+  fit-clean f (one-did k) (and-did {c = c} {s = s} r kd an st) = subst⁻¹ (λ x. M .Fit (x .world)) st (M .keeps c s (fit-clean f k r) kd)
+  fit-clean f (one-saw k) (and-saw r kd an) = fit-clean f k r
+
   -- from a state with no entry, a step back over a clean log is a run of the log with its newest step gone
-  pub popped : {s₀ s : St} {l : List Done} {e : M .E} {es : List (M .E)} → s₀ .entries ≡ [] → Clean l → Ran s₀ l s
+  pub popped : {s₀ s : St} {l : List Done} {e : M .E} {es : List (M .E)} → M .Fit (s₀ .world) → s₀ .entries ≡ [] → Clean l → Ran s₀ l s
       → s .entries ≡ e ∷ es → Ran s₀ (pop l) (backFrom (e ∷ es) (s .world))
-  popped h k start q = absurd (nil-cons h q)
-  popped {s₀} h (one-did {l = l} k) (and-did {c = c} {s = s} {s′ = s′} r kd an st) q =
-      subst (λ x. Ran s₀ l x) (sym (back-step c s kd) ∙ sym (ap back st) ∙ ap (λ x. backFrom x (s′ .world)) q) r
-  popped h (one-saw k) (and-saw r kd an) q = popped h k r q
+  popped f h k start q = absurd (nil-cons h q)
+  popped {s₀} f h (one-did {l = l} k) (and-did {c = c} {s = s} {s′ = s′} r kd an st) q =
+      subst (λ x. Ran s₀ l x) (sym (back-step c s (fit-clean f k r) kd) ∙ sym (ap back st) ∙ ap (λ x. backFrom x (s′ .world)) q) r
+  popped f h (one-saw k) (and-saw r kd an) q = popped f h k r q
 
   -- what was undone never was
-  pub struck : {s₀ s : St} {l : List Done} → s₀ .entries ≡ [] → Ran s₀ l s → Ran s₀ (strike l) s
-  struck h start = start
-  struck h (and-did r kd an st) = and-did (struck h r) kd an st
-  struck h (and-saw r kd an) = and-saw (struck h r) kd an
-  struck h (and-not r kd an) = struck h r
-  struck {s₀} h (and-undid {l = l} r q st) = subst⁻¹ (λ x. Ran s₀ (pop (strike l)) x) st (popped h (strike-clean l) (struck h r) q)
+  pub struck : {s₀ s : St} {l : List Done} → M .Fit (s₀ .world) → s₀ .entries ≡ [] → Ran s₀ l s → Ran s₀ (strike l) s
+  struck f h start = start
+  struck f h (and-did r kd an st) = and-did (struck f h r) kd an st
+  struck f h (and-saw r kd an) = and-saw (struck f h r) kd an
+  struck f h (and-not r kd an) = struck f h r
+  struck {s₀} f h (and-undid {l = l} r q st) = subst⁻¹ (λ x. Ran s₀ (pop (strike l)) x) st (popped f h (strike-clean l) (struck f h r) q)
+
+  -- and every world of any log
+  pub fit-ran : {s₀ s : St} {l : List Done} → M .Fit (s₀ .world) → s₀ .entries ≡ [] → Ran s₀ l s → M .Fit (s .world)
+  fit-ran {l = l} f h r = fit-clean f (strike-clean l) (struck f h r)
 
   -- how many steps stand in a log with no step back
   abbrev pub standing : List Done → ℕ
@@ -164,13 +176,13 @@ module _ (M : Machine) where
   pop-standing (one-saw k) = pop-standing k
 
   -- going back once over a clean log, with the entry found
-  back-once : {s₀ s : St} {l : List Done} (es : List (M .E)) → s₀ .entries ≡ [] → Clean l → Ran s₀ l s → s .entries ≡ es → 0 < length es
+  back-once : {s₀ s : St} {l : List Done} (es : List (M .E)) → M .Fit (s₀ .world) → s₀ .entries ≡ [] → Clean l → Ran s₀ l s → s .entries ≡ es → 0 < length es
       → Ran s₀ (pop l) (backFrom es (s .world))
-  back-once [] h k r q z = absurd (omega arith)
-  back-once (e ∷ es) h k r q z = popped h k r q
+  back-once [] f h k r q z = absurd (omega arith)
+  back-once (e ∷ es) f h k r q z = popped f h k r q
 
   -- going back k gives the state that the log without its k newest steps leads to: the state before the earliest of the k
-  pub went-back : (n : ℕ) {s₀ s : St} {l : List Done} → s₀ .entries ≡ [] → Clean l → Ran s₀ l s → n ≤ standing l → Ran s₀ (pops n l) (backs n s)
-  went-back zero h k r z = r
-  went-back (suc n) {s = s} {l = l} h k r z =
-      went-back n h (pop-clean k) (back-once (s .entries) h k r refl (rw (entries-stand h k r) (omega arith))) (omega (arith, pop-standing k))
+  pub went-back : (n : ℕ) {s₀ s : St} {l : List Done} → M .Fit (s₀ .world) → s₀ .entries ≡ [] → Clean l → Ran s₀ l s → n ≤ standing l → Ran s₀ (pops n l) (backs n s)
+  went-back zero f h k r z = r
+  went-back (suc n) {s = s} {l = l} f h k r z =
+      went-back n f h (pop-clean k) (back-once (s .entries) f h k r refl (rw (entries-stand h k r) (omega arith))) (omega (arith, pop-standing k))
