@@ -3,3 +3,5 @@ pub mod EntryParts
 pub mod Checked
 pub mod Undone
 pub mod Taken
+pub mod Stays
+pub mod Calls

@@ -1,0 +1,102 @@
+-- The calls as a machine of the session, and what holds of any session of them from a mounted reel on.
+use mathlib.Core.Path.{_≡_, refl, sym, ap, _∙_}
+use mathlib.Core.Bool.{false}
+use mathlib.Core.List.{List, [], _∷_, _++_}
+use Prim.Native.Nat.{ℕ, _+_, _≤_}
+use native.Mathlib.Omega.{arith}
+use lib.ListN.{length}
+use Rattle.commands.specs.declared.plans.Answer.the-variants as answer
+use Rattle.jspecs.specs.Worlds.{Answered, World, answered}
+use Rattle.jspecs.specs.Entries.{entryBytes, entryLength}
+use Rattle.jspecs.specs.Calls.{backOn, guarded, refusedAs}
+use Rattle.sessions.specs.Session.{Clean, Done, Kind, Machine, Ran, State, and-did, and-saw, backs, entries-stand, fit-clean, fit-ran, looked, one-did, one-saw, pops, refused, standing, start, stepped, strike, strike-clean, struck, went-back}
+use Rattle.sessions.specs.Calling.{Call, Kept, Said, entryAt, journalOf, keptAt, kindOf, lengthOf, onCall, wordOf}
+use Rattle.sessions.proofs.Undone.{Fit}
+use Rattle.sessions.proofs.Taken.{AdvanceSound, Taken, taken, taken-fit, taken-journal, taken-undone, taken-used}
+
+abbrev pub Now : Type 0
+Now = State World Kept
+
+abbrev pub kindNow : ℕ → Call → Now → Kind
+kindNow n c s = kindOf c (onCall n c (s .world) .answer)
+
+module _ (sound : AdvanceSound) (n : ℕ) where
+  step : (c : Call) (s : Now) → Fit n (s .world) → kindNow n c s ≡ stepped → Taken (s .world) (onCall n c (s .world) .world) (entryAt c (s .world))
+  step c s f k = taken sound n c (s .world) f k
+
+  pub kept-fit : (c : Call) (s : Now) → Fit n (s .world) → kindNow n c s ≡ stepped → Fit n (onCall n c (s .world) .world)
+  kept-fit c s f k = taken-fit n (s .world) (onCall n c (s .world) .world) (entryAt c (s .world)) f (step c s f k)
+
+  pub undone : (c : Call) (s : Now) → Fit n (s .world) → kindNow n c s ≡ stepped → backOn (onCall n c (s .world) .world) n ≡ answered (answer.Done false) (s .world)
+  undone c s f k = taken-undone n (s .world) (onCall n c (s .world) .world) (entryAt c (s .world)) f (step c s f k)
+
+  pub went : (c : Call) (s : Now) → Fit n (s .world) → kindNow n c s ≡ stepped → backOn (onCall n c (s .world) .world) n .world ≡ s .world
+  went c s f k = ap (λ (x : Answered). x .world) (undone c s f k)
+
+  -- the step back is the call's own: nothing but the bytes of the journal tells it what to do
+  abbrev pub calls : Machine
+  calls =
+      record {
+        W = World;
+        E = Kept;
+        C = Call;
+        A = Said;
+        kind = kindNow n;
+        next = λ c w. onCall n c w .world;
+        entry = keptAt;
+        answer = λ c s. record { answer = onCall n c (s .world) .answer; word = wordOf c (s .world) };
+        undo = λ k w. backOn w n .world;
+        Fit = Fit n;
+        keeps = kept-fit;
+        undoes = went;
+      }
+
+  -- a session begins with no entry
+  pub record Fresh (s : Now) : Type 0 where
+    pub fit : Fit n (s .world)
+    pub none : s .entries ≡ []
+    pub empty : s .world .journal ≡ []
+
+  -- the journal is the entries of the steps that stand, newest last, and nothing else
+  pub record JournalIs (s : Now) : Type 0 where
+    pub bytes : s .world .journal ≡ journalOf (s .entries)
+    pub used : s .world .session .used ≡ lengthOf (s .entries)
+
+  fresh-is : (s : Now) → Fresh s → JournalIs s
+  unfolding journalOf lengthOf
+  fresh-is s f = record { bytes = rw (f .empty, f .none); used = rw (f .none) (sym (f .fit .kept) ∙ ap length (f .empty)) }
+
+  step-is : (c : Call) (s : Now) → Fit n (s .world) → kindNow n c s ≡ stepped → JournalIs s → JournalIs (record { world = onCall n c (s .world) .world; entries = keptAt c (s .world) ∷ s .entries })
+  unfolding journalOf lengthOf keptAt
+  step-is c s f k x =
+      let t = step c s f k in
+      record {
+        bytes = taken-journal n (s .world) (onCall n c (s .world) .world) (entryAt c (s .world)) f t ∙ ap (λ (j : List ℕ). j ++ entryBytes (entryAt c (s .world)) (s .world .memory) (s .world .reel)) (x .bytes);
+        used = taken-used n (s .world) (onCall n c (s .world) .world) (entryAt c (s .world)) f t ∙ ap (λ (j : ℕ). j + entryLength (entryAt c (s .world))) (x .used);
+      }
+
+  clean-is : {s₀ s : Now} {l : List (Done calls)} → Fresh s₀ → Clean calls l → Ran calls s₀ l s → JournalIs s
+  clean-is {s₀} f k start = fresh-is s₀ f
+  clean-is f (one-did k) (and-did {c = c} {s = s} r kd an st) = rw st (step-is c s (fit-clean calls (f .fit) k r) kd (clean-is f k r))
+  clean-is f (one-saw k) (and-saw r kd an) = clean-is f k r
+
+  -- Any session from its beginning on.
+  module _ {s₀ s : Now} {l : List (Done calls)} (f : Fresh s₀) (r : Ran calls s₀ l s) where
+    -- refusal 1 to 4 never comes up, and the journal lent is the one mounted
+    pub always-fit : Fit n (s .world)
+    always-fit = fit-ran calls (f .fit) (f .none) r
+
+    -- what was undone never was
+    pub never-was : Ran calls s₀ (strike calls l) s
+    never-was = struck calls (f .fit) (f .none) r
+
+    -- "the journal holds one entry per step taken and still standing (128 bytes plus the memory and reel bytes stored)"
+    pub one-each : length (s .entries) ≡ standing calls (strike calls l)
+    one-each = entries-stand calls (f .none) (strike-clean calls l) never-was
+
+    pub journal-is : JournalIs s
+    journal-is = clean-is f (strike-clean calls l) never-was
+
+    -- "going back k gives the state, memory and reel before the earliest of those k"
+    pub back-to : (k : ℕ) → k ≤ standing calls (strike calls l) → Ran calls s₀ (pops calls k (strike calls l)) (backs calls k s)
+    back-to k h = went-back calls k (f .fit) (f .none) (strike-clean calls l) never-was h
