@@ -80,6 +80,11 @@ module _ (sound : AdvanceSound) (n : ℕ) where
   clean-is f (one-did k) (and-did {c = c} {s = s} r kd an st) = rw st (step-is c s (fit-clean calls (f .fit) k r) kd (clean-is f k r))
   clean-is f (one-saw k) (and-saw r kd an) = clean-is f k r
 
+  clean-back : {s₀ s : Now} {l : List (Done calls)} {k : Kept} {ks : List Kept} → Fresh s₀ → Clean calls l → Ran calls s₀ l s → s .entries ≡ k ∷ ks → backOn (s .world) n .answer ≡ answer.Done false
+  clean-back f k start e = absurd (let z : _≡_ {A = ℕ} 0 1 = cc (f .none) in omega arith)
+  clean-back f (one-did k) (and-did {c = c} {s = s} r kd an st) e = rw st (ap (λ (x : Answered). x .answer) (undone c s (fit-clean calls (f .fit) k r) kd))
+  clean-back f (one-saw k) (and-saw r kd an) e = clean-back f k r e
+
   -- Any session from its beginning on.
   module _ {s₀ s : Now} {l : List (Done calls)} (f : Fresh s₀) (r : Ran calls s₀ l s) where
     -- refusal 1 to 4 never comes up, and the journal lent is the one mounted
@@ -100,3 +105,13 @@ module _ (sound : AdvanceSound) (n : ℕ) where
     -- "going back k gives the state, memory and reel before the earliest of those k"
     pub back-to : (k : ℕ) → k ≤ standing calls (strike calls l) → Ran calls s₀ (pops calls k (strike calls l)) (backs calls k s)
     back-to k h = went-back calls k (f .fit) (f .none) (strike-clean calls l) never-was h
+
+    -- "6 step back with no entry", and no other refusal of a step back: with an entry it is done
+    pub back-none : s .entries ≡ [] → backOn (s .world) n ≡ refusedAs 6 (s .world)
+    unfolding backOn guarded lengthOf
+    back-none e =
+        let used : s .world .session .used ≡ 0 = journal-is .used ∙ ap lengthOf e in
+        rw (always-fit .sound, used)
+
+    pub back-done : {k : Kept} {ks : List Kept} → s .entries ≡ k ∷ ks → backOn (s .world) n .answer ≡ answer.Done false
+    back-done e = clean-back f (strike-clean calls l) never-was e

@@ -5,3 +5,5 @@ pub mod Undone
 pub mod Taken
 pub mod Stays
 pub mod Calls
+pub mod Room
+pub mod Mounting
