@@ -1,0 +1,2 @@
+-- The laws of the unit.
+pub mod Storing
