@@ -12,7 +12,8 @@ use Rattle.jspecs.specs.Calls.{backOn, guarded, refusedAs}
 use Rattle.sessions.specs.Session.{Clean, Done, Kind, Machine, Ran, State, and-did, and-saw, backs, entries-stand, fit-clean, fit-ran, looked, one-did, one-saw, pops, refused, standing, start, stepped, strike, strike-clean, struck, went-back}
 use Rattle.sessions.specs.Calling.{Call, Kept, Said, entryAt, journalOf, keptAt, kindOf, lengthOf, onCall, wordOf}
 use Rattle.sessions.proofs.Undone.{Fit}
-use Rattle.sessions.proofs.Taken.{AdvanceSound, Taken, taken, taken-fit, taken-journal, taken-undone, taken-used}
+use Rattle.sessions.proofs.Advancing.{advance-sound}
+use Rattle.sessions.proofs.Taken.{Taken, taken, taken-fit, taken-journal, taken-undone, taken-used}
 
 abbrev pub Now : Type 0
 Now = State World Kept
@@ -20,9 +21,9 @@ Now = State World Kept
 abbrev pub kindNow : ℕ → Call → Now → Kind
 kindNow n c s = kindOf c (onCall n c (s .world) .answer)
 
-module _ (sound : AdvanceSound) (n : ℕ) where
+module _ (n : ℕ) where
   step : (c : Call) (s : Now) → Fit n (s .world) → kindNow n c s ≡ stepped → Taken (s .world) (onCall n c (s .world) .world) (entryAt c (s .world))
-  step c s f k = taken sound n c (s .world) f k
+  step c s f k = taken advance-sound n c (s .world) f k
 
   pub kept-fit : (c : Call) (s : Now) → Fit n (s .world) → kindNow n c s ≡ stepped → Fit n (onCall n c (s .world) .world)
   kept-fit c s f k = taken-fit n (s .world) (onCall n c (s .world) .world) (entryAt c (s .world)) f (step c s f k)

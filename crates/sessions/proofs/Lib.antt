@@ -7,3 +7,6 @@ pub mod Stays
 pub mod Calls
 pub mod Room
 pub mod Mounting
+pub mod Walk
+pub mod Buffers
+pub mod Advancing
