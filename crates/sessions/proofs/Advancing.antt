@@ -31,10 +31,12 @@ advance-sound n w fit =
     let was = passes (w .session) (length (w .memory)) (length (w .reel)) n (fit .sound) in
     let u : Unit = w .session .unit in
     let f = advanced-sound u (w .memory) (w .reel) (was .legal) (was .in-memory) in
-    let small : length (w .memory) ≤ memoryLimit = omega (arith, was .in-memory, was .legal .memory-most) in
-    (record {
-      storable = rw (was .in-memory, was .in-reel) (sound-storable u (was .legal) (plan w) f);
-      seven = advanced-seven u (w .memory) (w .reel);
-      legal = f .legal;
-      lengths = f .lengths;
-    }, advanced-short u (w .memory) (w .reel) small (record { address = fit .address; extent = fit .extent }))
+    let small : length (w .memory) ≤ memoryLimit = omega (arith, was .in-memory, was .legal .memory-most) in (
+      record {
+        storable = rw (was .in-memory, was .in-reel) (sound-storable u (was .legal) (plan w) f);
+        seven = advanced-seven u (w .memory) (w .reel);
+        legal = f .legal;
+        lengths = f .lengths;
+      },
+      advanced-short u (w .memory) (w .reel) small (record { address = fit .address; extent = fit .extent }),
+    )

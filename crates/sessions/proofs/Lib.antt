@@ -10,3 +10,5 @@ pub mod Mounting
 pub mod Walk
 pub mod Buffers
 pub mod Advancing
+pub mod Formed
+pub mod WellFormed
