@@ -16,6 +16,7 @@ use Rattle.jspecs.specs.Worlds.{World}
 use Rattle.sessions.proofs.Checked.{passes}
 use Rattle.sessions.proofs.Undone.{Fit, Steps}
 use Rattle.sessions.proofs.Taken.{AdvanceSound, Short, plan}
+use Rattle.sessions.proofs.WellFormed.{advanced-kept}
 use Rattle.sessions.proofs.Buffers.{advanced-short}
 
 sound-storable : (u : Unit) → Legal u → (p : Plan) → SoundPlan u p → Storable p (u .lengths .memory) (blockBytes * u .lengths .blocks)
@@ -39,4 +40,5 @@ advance-sound n w fit =
         lengths = f .lengths;
       },
       advanced-short u (w .memory) (w .reel) small (record { address = fit .address; extent = fit .extent }),
+      advanced-kept u (w .memory) (w .reel) (was .in-reel),
     )

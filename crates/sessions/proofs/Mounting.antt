@@ -8,9 +8,11 @@ use borrow.Author.Tests.{eqb-true, ltb-false, not-false}
 use lib.Dec.{eqb, ltb}
 use lib.ListN.{length}
 use Rattle.lists.specs.Pick.{pick}
+use Rattle.lists.specs.Words.{Bytes}
 use Rattle.lists.proofs.Cases.{by-test}
 use Rattle.tape.specs.Numbers.{blockBytes}
 use Rattle.tape.specs.Sweep.{sweptBelow}
+use Rattle.tape.proofs.Sweeps.{whole-swept}
 use Rattle.tape.specs.declared.Swept.{Swept}
 use Rattle.tape.specs.declared.Swept.the-variants as swept
 use Rattle.state.specs.Changes.{mountedAs}
@@ -30,6 +32,8 @@ use Rattle.sessions.specs.Session.{Kind, refused, stepped}
 use Rattle.sessions.specs.Calling.{stepKind}
 use Rattle.sessions.proofs.Checked.{let-pass}
 use Rattle.sessions.proofs.Undone.{Fit}
+use Rattle.sessions.proofs.Formed.{Formed, first-bound}
+use Rattle.sessions.proofs.Calls.{Fresh, Good}
 
 -- a mount that is not refused
 pub record Accepts (memory reel e : ℕ) : Type 0 where
@@ -130,3 +134,20 @@ mounted-fit old m r journal e online locked k =
       address = omega arith;
       extent = omega arith;
     })
+
+-- the reel of a mount is well formed, and the tape stands at its first block
+pub mounted-formed : (old : Session) (m r : List ℕ) (journal e : ℕ) (online locked : Bool) → Bytes r → mountOn old (length m) r journal e online locked .answer ≡ answer.Done false → Formed r (mountOn old (length m) r journal e online locked .session .unit .tape)
+unfolding mountedAs
+mounted-formed old m r journal e online locked bytes k =
+    let x = mount-done old (length m) r journal e online locked k in
+    let f = whole-swept r e bytes (x .swept) in
+    rw (x .is) (record { objects = f .0; holds = f .1; bound = first-bound (f .0) })
+
+-- a mount begins a session
+pub mounted : (old : Session) (m r : List ℕ) (journal e : ℕ) (online locked : Bool) → Bytes r → mountOn old (length m) r journal e online locked .answer ≡ answer.Done false → Fresh journal (record { world = mountWorld old m r journal e online locked; entries = [] })
+mounted old m r journal e online locked bytes k =
+    record {
+      good = record { fit = mounted-fit old m r journal e online locked k; formed = mounted-formed old m r journal e online locked bytes k };
+      none = refl;
+      empty = refl;
+    }

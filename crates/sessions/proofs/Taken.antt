@@ -18,7 +18,7 @@ use Rattle.state.specs.declared.act.Act.{Act}
 use Rattle.state.specs.declared.act.Act.the-variants as act
 use Rattle.state.proofs.Legal.{legal-initialized, legal-operated, legal-tsdb}
 use Rattle.state.proofs.Tests.{either, neither}
-use Rattle.motions.specs.Parts.{laidBlocks, objectBlocks}
+use Rattle.motions.specs.Parts.{laidBlocks, objectBlocks, standing}
 use Rattle.commands.specs.Effects.{still}
 use Rattle.commands.specs.declared.plans.Answer.{Answer}
 use Rattle.commands.specs.declared.plans.Answer.the-variants as answer
@@ -35,6 +35,8 @@ use Rattle.sessions.specs.Session.{Kind, looked, refused, stepped}
 use Rattle.sessions.specs.Calling.{Call, advance, entryAt, host-store, kindOf, onCall, operate, read-register, readKind, stepKind, write-tsdb, write-tssr}
 use Rattle.sessions.proofs.Checked.{Passes, passes}
 use Rattle.sessions.proofs.EntryParts.{length-entry}
+use Rattle.sessions.proofs.Formed.{Formed, first-bound}
+use Rattle.sessions.proofs.WellFormed.{still-kept}
 use Rattle.sessions.proofs.Undone.{Entered, Fit, Steps, entered-undone, host-entered, passes-after, step-entered}
 
 -- the buffer's numbers have at most four bytes each
@@ -50,6 +52,7 @@ pub record Taken (w next : World) (e : Entry) : Type 0 where
   pub is : next ≡ entered w e unit memory reel
   pub facts : Entered w e unit memory reel
   pub short : Short unit
+  pub formed : Formed (w .reel) (w .session .unit .tape) → Formed reel (unit .tape)
 
 module _ (n : ℕ) (w next : World) (e : Entry) (fit : Fit n w) (t : Taken w next e) where
   abbrev there : World
@@ -113,6 +116,27 @@ operated-same u act.OffLine = either (Same u) (u .panel .online) (switchedLine u
 operated-same u act.Lock = alike u (switchedLock u true) refl refl
 operated-same u act.Unlock = alike u (switchedLock u false) refl refl
 
+-- storing the plan keeps the reel well formed
+abbrev pub PlanForms : World → Plan → Type 0
+PlanForms w p = Formed (w .reel) (w .session .unit .tape) → Formed (reelAfter p (w .memory) (w .reel)) (p .unit .tape)
+
+tsdb-forms : (u : Unit) (word : ℕ) (r : List ℕ) → Formed r (u .tape) → Formed r (tsdbWritten u word .tape)
+unfolding tsdbWritten
+tsdb-forms u word r f = f
+
+initialized-forms : (u : Unit) (r : List ℕ) → Formed r (u .tape) → Formed r (initialized u .tape)
+unfolding initialized
+initialized-forms u r f =
+    let start : Formed r (standing 0 (u .tape .end)) = record { objects = f .objects; holds = f .holds; bound = first-bound (f .objects) } in
+    either (λ (p : ℕ). Formed r (standing p (u .tape .end))) (u .panel .online) 0 (u .tape .position) start f
+
+operated-forms : (u : Unit) (a : Act) (r : List ℕ) → Formed r (u .tape) → Formed r (operated u a .tape)
+unfolding operated switchedLine switchedLock
+operated-forms u act.OnLine r f = either (λ (v : Unit). Formed r (v .tape)) (u .panel .online) u (switchedLine u true) f f
+operated-forms u act.OffLine r f = either (λ (v : Unit). Formed r (v .tape)) (u .panel .online) (switchedLine u false) u f f
+operated-forms u act.Lock r f = f
+operated-forms u act.Unlock r f = f
+
 -- the plan of an advance
 abbrev pub plan : World → Plan
 plan w = advanced (w .session .unit) (w .memory) (w .reel)
@@ -125,9 +149,9 @@ module _ (n : ℕ) (w : World) (fit : Fit n w) where
   unfolding guarded
   let-through x = rw (fit .sound)
 
-  pub step-taken : (p : Plan) → Steps w p → Short (p .unit) → stepKind (stepOn w p .answer) ≡ stepped → Taken w (stepOn w p .world) (entryFor (w .session .unit) p)
+  pub step-taken : (p : Plan) → Steps w p → Short (p .unit) → PlanForms w p → stepKind (stepOn w p .answer) ≡ stepped → Taken w (stepOn w p .world) (entryFor (w .session .unit) p)
   unfolding stepOn stepKind
-  step-taken p x short k =
+  step-taken p x short forms k =
       by-test (noRoom w (entryFor (w .session .unit) p))
       (λ t. let z : refused ≡ stepped = rw t at k in apart-refused z)
       (λ t. record {
@@ -137,6 +161,7 @@ module _ (n : ℕ) (w : World) (fit : Fit n w) where
         is = rw t;
         facts = step-entered n w p fit x t;
         short = short;
+        formed = forms;
       })
 
   pub host-taken : (place : ℕ) (bytes : List ℕ) → place + length bytes ≤ length (w .memory) → stepKind (hostStepOn w place bytes .answer) ≡ stepped → Taken w (hostStepOn w place bytes .world) (hostEntry (w .session .unit) place (length bytes))
@@ -151,6 +176,7 @@ module _ (n : ℕ) (w : World) (fit : Fit n w) where
         is = rw t;
         facts = host-entered n w place bytes fit inside t;
         short = record { address = fit .address; extent = fit .extent };
+        formed = λ f. f;
       })
 
   -- a change of the state alone
@@ -173,29 +199,30 @@ module _ (n : ℕ) (w : World) (fit : Fit n w) where
   unfolding still
   still-short u a s = s
 
-  change-taken : (u : Unit) → Legal u → u .lengths ≡ w .session .unit .lengths → Short u → stepKind (guarded w n (stepOn w (changed u)) .answer) ≡ stepped → Taken w (guarded w n (stepOn w (changed u)) .world) (entryFor (w .session .unit) (changed u))
-  change-taken u l e short k =
+  change-taken : (u : Unit) → Legal u → u .lengths ≡ w .session .unit .lengths → Short u → (Formed (w .reel) (w .session .unit .tape) → Formed (w .reel) (u .tape)) → stepKind (guarded w n (stepOn w (changed u)) .answer) ≡ stepped → Taken w (guarded w n (stepOn w (changed u)) .world) (entryFor (w .session .unit) (changed u))
+  change-taken u l e short forms k =
       let z : stepKind (stepOn w (changed u) .answer) ≡ stepped = rw (let-through (stepOn w (changed u))) at k in
-      rw (let-through (stepOn w (changed u))) (step-taken (changed u) (still-steps u (answer.Done false) l e) (still-short u (answer.Done false) short) z)
+      rw (let-through (stepOn w (changed u))) (step-taken (changed u) (still-steps u (answer.Done false) l e) (still-short u (answer.Done false) short) (λ f. still-kept (w .memory) (w .reel) u (answer.Done false) (forms f)) z)
 
   tsdb-taken : (word : ℕ) → word < 65536 → stepKind (tsdbOn w n word .answer) ≡ stepped → Taken w (tsdbOn w n word .world) (entryFor (w .session .unit) (changed (tsdbWritten (w .session .unit) word)))
   unfolding tsdbOn
   tsdb-taken word h k =
       change-taken (tsdbWritten (w .session .unit) word) (legal-tsdb (w .session .unit) word (was .legal) h)
-      (tsdb-lengths (w .session .unit) word) (tsdb-short (w .session .unit) word (record { address = fit .address; extent = fit .extent })) k
+      (tsdb-lengths (w .session .unit) word) (tsdb-short (w .session .unit) word (record { address = fit .address; extent = fit .extent }))
+      (tsdb-forms (w .session .unit) word (w .reel)) k
 
   tssr-taken : stepKind (tssrOn w n .answer) ≡ stepped → Taken w (tssrOn w n .world) (entryFor (w .session .unit) (changed (initialized (w .session .unit))))
   unfolding tssrOn
   tssr-taken k =
       change-taken (initialized (w .session .unit)) (legal-initialized (w .session .unit) (was .legal))
-      (initialized-lengths (w .session .unit)) (initialized-short (w .session .unit)) k
+      (initialized-lengths (w .session .unit)) (initialized-short (w .session .unit)) (initialized-forms (w .session .unit) (w .reel)) k
 
   operate-taken : (a : Act) → stepKind (operateOn w n a .answer) ≡ stepped → Taken w (operateOn w n a .world) (entryFor (w .session .unit) (changed (operated (w .session .unit) a)))
   unfolding operateOn
   operate-taken a k =
       let same = operated-same (w .session .unit) a in
       change-taken (operated (w .session .unit) a) (legal-operated (w .session .unit) (was .legal) a)
-      (same .0) (same .1 (record { address = fit .address; extent = fit .extent })) k
+      (same .0) (same .1 (record { address = fit .address; extent = fit .extent })) (operated-forms (w .session .unit) a (w .reel)) k
 
   hosted-taken : (place : ℕ) (bytes : List ℕ) → stepKind (hostOn w n place bytes .answer) ≡ stepped → Taken w (hostOn w n place bytes .world) (hostEntry (w .session .unit) place (length bytes))
   unfolding hostOn stepKind
@@ -210,23 +237,23 @@ module _ (n : ℕ) (w : World) (fit : Fit n w) where
       let y : stepKind (hostStepOn w place bytes .answer) ≡ stepped = rw t at z in
       rw (let-through asked, t) (host-taken place bytes (ltb-false (length (w .memory)) (place + length bytes) (neither long past t .1)) y))
 
-  advance-by : (p : Plan) → Steps w p → Short (p .unit) → (a : Answer) → stepKind (advanceBy w p a .answer) ≡ stepped → Taken w (advanceBy w p a .world) (entryFor (w .session .unit) p)
+  advance-by : (p : Plan) → Steps w p → Short (p .unit) → PlanForms w p → (a : Answer) → stepKind (advanceBy w p a .answer) ≡ stepped → Taken w (advanceBy w p a .world) (entryFor (w .session .unit) p)
   unfolding advanceBy stepKind
-  advance-by p x short (answer.Done i) k = step-taken p x short k
-  advance-by p x short answer.Idle k = apart-looked k
-  advance-by p x short (answer.Refused j) k = apart-refused k
-  advance-by p x short (answer.BadBlock j) k = apart-refused k
+  advance-by p x short forms (answer.Done i) k = step-taken p x short forms k
+  advance-by p x short forms answer.Idle k = apart-looked k
+  advance-by p x short forms (answer.Refused j) k = apart-refused k
+  advance-by p x short forms (answer.BadBlock j) k = apart-refused k
 
-  advance-taken : Steps w (plan w) → Short (plan w .unit) → stepKind (advanceOn w n .answer) ≡ stepped → Taken w (advanceOn w n .world) (entryFor (w .session .unit) (plan w))
+  advance-taken : Steps w (plan w) → Short (plan w .unit) → PlanForms w (plan w) → stepKind (advanceOn w n .answer) ≡ stepped → Taken w (advanceOn w n .world) (entryFor (w .session .unit) (plan w))
   unfolding advanceOn
-  advance-taken x short k =
+  advance-taken x short forms k =
       let asked : Answered = advanceBy w (plan w) (plan w .answer) in
       let z : stepKind (asked .answer) ≡ stepped = rw (let-through asked) at k in
-      rw (let-through asked) (advance-by (plan w) x short (plan w .answer) z)
+      rw (let-through asked) (advance-by (plan w) x short forms (plan w .answer) z)
 
 -- what every plan of an advance is: `advance` proves it
 abbrev pub AdvanceSound : Type 0
-AdvanceSound = (n : ℕ) (w : World) → Fit n w → Steps w (plan w) × Short (plan w .unit)
+AdvanceSound = (n : ℕ) (w : World) → Fit n w → Steps w (plan w) × Short (plan w .unit) × PlanForms w (plan w)
 
 never-read : {P : Type 0} (a : Answer) → readKind a ≡ stepped → P
 unfolding readKind
@@ -242,5 +269,5 @@ taken sound n (write-tsdb word h) w fit k = tsdb-taken n w fit word h k
 taken sound n write-tssr w fit k = tssr-taken n w fit k
 taken sound n (operate a) w fit k = operate-taken n w fit a k
 taken sound n (host-store place bytes) w fit k = hosted-taken n w fit place bytes k
-taken sound n advance w fit k = let x = sound n w fit in advance-taken n w fit (x .0) (x .1) k
+taken sound n advance w fit k = let x = sound n w fit in advance-taken n w fit (x .0) (x .1) (x .2) k
 taken sound n (read-register r) w fit k = never-read _ k
