@@ -10,10 +10,11 @@ use Rattle.entries.specs.declared.Entry.{Entry}
 use Rattle.jspecs.specs.Worlds.{Answered, World, answered}
 use Rattle.jspecs.specs.Entries.{entryBytes, entryLength}
 use Rattle.jspecs.specs.Calls.{backOn, guarded, refusedAs}
-use Rattle.sessions.specs.Session.{Clean, Done, Kind, Machine, Ran, State, and-did, and-saw, backs, entries-stand, fit-clean, fit-ran, looked, one-did, one-saw, pops, refused, standing, start, stepped, strike, strike-clean, struck, went-back}
+use Rattle.sessions.specs.Session.{Clean, Done, Kind, Machine, Ran, State, after, and-did, and-saw, backs, does, entries-stand, fit-clean, fit-ran, looked, one-did, one-end, one-saw, pops, refused, standing, start, stepped, strike, strike-clean, struck, went-back}
 use Rattle.sessions.specs.Calling.{Call, Kept, Said, entryAt, journalOf, keptAt, kindOf, lengthOf, onCall, wordOf}
 use Rattle.sessions.proofs.Formed.{Formed}
 use Rattle.sessions.proofs.Undone.{Fit}
+use Rattle.sessions.proofs.Stays.{stays}
 use Rattle.sessions.proofs.Advancing.{advance-sound}
 use Rattle.sessions.proofs.Taken.{Taken, taken, taken-fit, taken-journal, taken-undone, taken-used}
 
@@ -102,7 +103,7 @@ module _ (n : ℕ) where
 
   -- Any session from its beginning on.
   module _ {s₀ s : Now} {l : List (Done calls)} (f : Fresh s₀) (r : Ran calls s₀ l s) where
-    -- refusal 1 to 4 never comes up, and the journal lent is the one mounted
+    -- no check refuses; "the reel is well formed, the position is 0 or just after an object"
     pub always-good : Good n (s .world)
     always-good = fit-ran calls (f .good) (f .none) r
 
@@ -130,3 +131,16 @@ module _ (n : ℕ) where
 
     pub back-done : {k : Kept} {ks : List Kept} → s .entries ≡ k ∷ ks → backOn (s .world) n .answer ≡ answer.Done false
     back-done e = clean-back f (strike-clean calls l) never-was e
+
+    -- the log without its k newest steps leads to one state, and that is where going back k leads
+    pub back-exactly : (k : ℕ) {s′ : Now} → k ≤ standing calls (strike calls l) → Ran calls s₀ (pops calls k (strike calls l)) s′ → backs calls k s ≡ s′
+    back-exactly k h q = one-end calls (back-to k h) q
+
+  -- what the model does with the world is what the call does
+  does-by : (c : Call) (s : Now) (k : Kind) → kindNow n c s ≡ k → after calls k c s .world ≡ onCall n c (s .world) .world
+  does-by c s stepped e = refl
+  does-by c s refused e = sym (stays n c (s .world) (λ z. let y : refused ≡ stepped = sym e ∙ z in absurd (let x : _≡_ {A = ℕ} 0 1 = cc in omega arith)))
+  does-by c s looked e = sym (stays n c (s .world) (λ z. let y : looked ≡ stepped = sym e ∙ z in absurd (let x : _≡_ {A = ℕ} 0 1 = cc in omega arith)))
+
+  pub does-that : (c : Call) (s : Now) → does calls c s .world ≡ onCall n c (s .world) .world
+  does-that c s = does-by c s (kindNow n c s) refl

@@ -186,3 +186,25 @@ module _ (M : Machine) where
   went-back zero f h k r z = r
   went-back (suc n) {s = s} {l = l} f h k r z =
       went-back n f h (pop-clean k) (back-once (s .entries) f h k r refl (rw (entries-stand h k r) (omega arith))) (omega (arith, pop-standing k))
+
+  -- a log leads to one state
+  pub one-end : {s₀ s s′ : St} {l : List Done} → Ran s₀ l s → Ran s₀ l s′ → s ≡ s′
+  one-end start start = refl
+  one-end (and-did {c = c} r kd an st) (and-did r′ kd′ an′ st′) = st ∙ ap (after stepped c) (one-end r r′) ∙ sym st′
+  one-end (and-saw r kd an) (and-saw r′ kd′ an′) = one-end r r′
+  one-end (and-not r kd an) (and-not r′ kd′ an′) = one-end r r′
+  one-end (and-undid {s = s} r q st) (and-undid {s = s′} r′ q′ st′) =
+      st ∙ ap (λ x. backFrom x (s .world)) (sym q) ∙ ap back (one-end r r′) ∙ ap (λ x. backFrom x (s′ .world)) q′ ∙ sym st′
+
+  -- every call goes on with the log
+  on-by : {s₀ s : St} {l : List Done} (c : M .C) (k : Kind) → M .kind c s ≡ k → Ran s₀ l s → (d : Done) × Ran s₀ (d ∷ l) (after k c s)
+  on-by {s = s} c stepped e r = (did c (M .answer c s), and-did r e refl refl)
+  on-by {s = s} c refused e r = (not c (M .answer c s), and-not r e refl)
+  on-by {s = s} c looked e r = (saw c (M .answer c s), and-saw r e refl)
+
+  pub goes-on : {s₀ s : St} {l : List Done} (c : M .C) → Ran s₀ l s → (d : Done) × Ran s₀ (d ∷ l) (does c s)
+  goes-on {s = s} c r = on-by c (M .kind c s) refl r
+
+  -- and so does every step back, where there is an entry
+  pub goes-back : {s₀ s : St} {l : List Done} {e : M .E} {es : List (M .E)} → s .entries ≡ e ∷ es → Ran s₀ l s → Ran s₀ (undid ∷ l) (back s)
+  goes-back {s = s} q r = and-undid r q (ap (λ x. backFrom x (s .world)) q)
