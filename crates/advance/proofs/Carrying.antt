@@ -19,12 +19,9 @@ use Rattle.state.specs.declared.Characteristics.{Characteristics}
 use Rattle.state.specs.declared.Unit.{Unit as State}
 use Rattle.state.proofs.Legal.{buffer-right, legal-panel, legal-with}
 use Rattle.state.proofs.Tests.{either, neither}
-use Rattle.motions.specs.Parts.{end, noLay, noMove, standing}
-use Rattle.motions.specs.Reads.{readOne, reread}
-use Rattle.motions.specs.Spaces.{positioned}
+use Rattle.motions.specs.Parts.{end, standing}
 use Rattle.motions.specs.Writes.{retried, writtenAt}
 use Rattle.motions.specs.declared.parts.Laid.{Laid}
-use Rattle.motions.specs.declared.parts.Motion.{Motion}
 use Rattle.motions.specs.declared.parts.Motion.the-variants as motion
 use Rattle.motions.specs.declared.parts.Moving.{Moving}
 use Rattle.motions.specs.declared.parts.Object.{Object}
@@ -35,7 +32,7 @@ use Rattle.commands.specs.Commands.{asked, carriedOut, characteristicsAt, chara
 use Rattle.commands.specs.Effects.{withTape}
 use Rattle.commands.specs.declared.effects.Notice.the-variants as notice
 use Rattle.advance.proofs.Extents.{hasData}
-use Rattle.advance.proofs.Sound.{LayFits, MoveFits, MovingFits, SoundRan, effect-sound, motion-sound, no-lay-fits, no-move-fits}
+use Rattle.advance.proofs.Sound.{MovingFits, SoundRan, effect-sound, motion-sound, no-lay-fits, no-move-fits}
 
 module _ (u : State) (l : Legal u) where
   -- a Read inside the recorded end is inside the reel
@@ -86,19 +83,19 @@ module _ (u : State) (l : Legal u) where
         motion-sound u l _ (h .ie) (λ x y. space-moves x (space-fits s (u .tape) (l .place) _ (p .count) (u .characteristics .enb) y))
 
   -- a write, or a retry
-  lay-sound : (s : List ℕ) (ie : Bool) (n : Laid) (mark again : Bool) → n .pointer + n .length ≤ u .lengths .memory → (x : Moving) → pick again (retried s (u .tape) (u .lengths .blocks) n mark) (writtenAt (u .tape) (u .lengths .blocks) n mark) ≡ motion.Ended x → MovingFits (u .lengths) x
-  lay-sound s ie n mark true k x y = write-moves n k x (retry-fits (u .tape) (u .lengths .blocks) (l .place) (l .capacity) n mark s y)
-  lay-sound s ie n mark false k x y = write-moves n k x (write-fits (u .tape) (u .lengths .blocks) (l .place) (l .capacity) n mark y)
+  lay-moves : (s : List ℕ) (n : Laid) (mark again : Bool) → n .pointer + n .length ≤ u .lengths .memory → (x : Moving) → pick again (retried s (u .tape) (u .lengths .blocks) n mark) (writtenAt (u .tape) (u .lengths .blocks) n mark) ≡ motion.Ended x → MovingFits (u .lengths) x
+  lay-moves s n mark true k x y = write-moves n k x (retry-fits (u .tape) (u .lengths .blocks) (l .place) (l .capacity) n mark s y)
+  lay-moves s n mark false k x y = write-moves n k x (write-fits (u .tape) (u .lengths .blocks) (l .place) (l .capacity) n mark y)
 
   write-sound : (s : List ℕ) (h : Header) (p : Packet) (again : Bool) → p .pointer + p .count ≤ u .lengths .memory → SoundRan u (writtenBy u s h p again)
   unfolding writtenBy
   write-sound s h p again k =
-      motion-sound u l _ (h .ie) (lay-sound s (h .ie) (laidHere u object.Record (p .pointer) (p .count) (h .swb)) false again k)
+      motion-sound u l _ (h .ie) (lay-moves s (laidHere u object.Record (p .pointer) (p .count) (h .swb)) false again k)
 
   format-sound : (s : List ℕ) (h : Header) (o : Object) (mark again : Bool) → SoundRan u (formatted u s h o mark again)
   unfolding formatted
   format-sound s h o mark again =
-      motion-sound u l _ (h .ie) (lay-sound s (h .ie) (laidHere u o 0 0 false) mark again (omega arith))
+      motion-sound u l _ (h .ie) (lay-moves s (laidHere u o 0 0 false) mark again (omega arith))
 
   module _ (ie : Bool) where
     plain-sound : SoundRan u (plainEffect u ie)

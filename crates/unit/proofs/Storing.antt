@@ -1,7 +1,7 @@
 -- What an advance from a legal state plans can be stored.
 use mathlib.Core.List.{List}
 use mathlib.Core.Path.{_≡_}
-use Prim.Native.Nat.{ℕ, _*_, _%_}
+use Prim.Native.Nat.{ℕ, _*_}
 use native.Mathlib.Omega.{arith}
 use lib.ListN.{length}
 use Rattle.tape.specs.Numbers.{blockBytes}
