@@ -12,7 +12,7 @@ use Rattle.commands.specs.declared.plans.Plan.{Plan}
 use Rattle.storing.specs.Stored.{Storable}
 use Rattle.advance.specs.Steps.{advanced}
 use Rattle.advance.proofs.Kept.{SoundPlan, advanced-seven, advanced-sound}
-use Rattle.jspecs.specs.Worlds.{World}
+use Rattle.journal.specs.Worlds.{World}
 use Rattle.sessions.proofs.Checked.{passes}
 use Rattle.sessions.proofs.Undone.{Fit, Steps}
 use Rattle.sessions.proofs.Taken.{AdvanceSound, Short, plan}

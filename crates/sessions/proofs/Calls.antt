@@ -7,9 +7,9 @@ use native.Mathlib.Omega.{arith}
 use lib.ListN.{length}
 use Rattle.commands.specs.declared.plans.Answer.the-variants as answer
 use Rattle.entries.specs.declared.Entry.{Entry}
-use Rattle.jspecs.specs.Worlds.{Answered, World, answered}
-use Rattle.jspecs.specs.Entries.{entryBytes, entryLength}
-use Rattle.jspecs.specs.Calls.{backOn, guarded, refusedAs}
+use Rattle.journal.specs.Worlds.{Answered, World, answered}
+use Rattle.journal.specs.Entries.{entryBytes, entryLength}
+use Rattle.journal.specs.Calls.{backOn, guarded, refusedAs}
 use Rattle.sessions.specs.Session.{Clean, Done, Kind, Machine, Ran, State, after, and-did, and-saw, backs, does, entries-stand, fit-clean, fit-ran, looked, one-did, one-end, one-saw, pops, refused, standing, start, stepped, strike, strike-clean, struck, went-back}
 use Rattle.sessions.specs.Calling.{Call, Kept, Said, entryAt, journalOf, keptAt, kindOf, lengthOf, onCall, wordOf}
 use Rattle.sessions.proofs.Formed.{Formed}

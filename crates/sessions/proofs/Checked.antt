@@ -13,8 +13,8 @@ use Rattle.state.specs.Legal.{Legal}
 use Rattle.state.specs.declared.Unit.{Unit}
 use Rattle.state.proofs.Legal.{accepted, legal, right}
 use Rattle.state.proofs.Tests.{neither, past}
-use Rattle.jspecs.specs.declared.Session.{Session}
-use Rattle.jspecs.specs.Refusals.{checked, journalLimit, sessionWrong}
+use Rattle.journal.specs.declared.Session.{Session}
+use Rattle.journal.specs.Refusals.{checked, journalLimit, sessionWrong}
 
 pub record Passes (s : Session) (memory reel journal : ℕ) : Type 0 where
   pub legal : Legal (s .unit)

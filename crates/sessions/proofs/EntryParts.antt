@@ -14,8 +14,8 @@ use Rattle.entries.specs.Numbers.{Small, numbersOf}
 use Rattle.entries.specs.Bytes.{headBytes}
 use Rattle.entries.proofs.Back.{length-numbers}
 use Rattle.entries.proofs.HeadBytes.{head-entry, length-head}
-use Rattle.jspecs.specs.Entries.{entryBytes, entryHead, entryLength}
-use Rattle.jspecs.specs.Restoring.{newestEntry, savedBlocks, savedData, savedMessage}
+use Rattle.journal.specs.Entries.{entryBytes, entryHead, entryLength}
+use Rattle.journal.specs.Restoring.{newestEntry, savedBlocks, savedData, savedMessage}
 
 module _ (e : Entry) (m r : List ℕ) where
   abbrev oldData : List ℕ

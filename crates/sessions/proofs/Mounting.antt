@@ -23,11 +23,11 @@ use Rattle.state.proofs.Tests.{neither, past}
 use Rattle.commands.specs.declared.plans.Answer.{Answer}
 use Rattle.commands.specs.declared.plans.Answer.the-variants as answer
 use Rattle.entries.specs.Numbers.{numberLimit}
-use Rattle.jspecs.specs.declared.Session.{Session}
-use Rattle.jspecs.specs.Worlds.{World}
-use Rattle.jspecs.specs.UnitCalls.{mountRefusal}
-use Rattle.jspecs.specs.Refusals.{journalLimit}
-use Rattle.jspecs.specs.Calls.{mountOn, mountSweptOn, outcome, session}
+use Rattle.journal.specs.declared.Session.{Session}
+use Rattle.journal.specs.Worlds.{World}
+use Rattle.unit.specs.Calls.{mountRefusal}
+use Rattle.journal.specs.Refusals.{journalLimit}
+use Rattle.journal.specs.Calls.{mountOn, mountSweptOn, outcome, session}
 use Rattle.sessions.specs.Session.{Kind, refused, stepped}
 use Rattle.sessions.specs.Calling.{stepKind}
 use Rattle.sessions.proofs.Checked.{let-pass}

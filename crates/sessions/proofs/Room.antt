@@ -15,10 +15,10 @@ use Rattle.commands.specs.declared.plans.Answer.{Answer}
 use Rattle.commands.specs.declared.plans.Answer.the-variants as answer
 use Rattle.commands.specs.declared.plans.Plan.{Plan}
 use Rattle.entries.specs.declared.Entry.{Entry}
-use Rattle.jspecs.specs.Worlds.{Answered, World}
-use Rattle.jspecs.specs.UnitCalls.{hostLimit}
-use Rattle.jspecs.specs.Entries.{entryFor, entryLength, hostEntry}
-use Rattle.jspecs.specs.Calls.{advanceBy, advanceOn, changed, guarded, hostOn, hostStepOn, noRoom, operateOn, refusedAs, stepOn, tsdbOn, tssrOn}
+use Rattle.journal.specs.Worlds.{Answered, World}
+use Rattle.unit.specs.Calls.{hostLimit}
+use Rattle.journal.specs.Entries.{entryFor, entryLength, hostEntry}
+use Rattle.journal.specs.Calls.{advanceBy, advanceOn, changed, guarded, hostOn, hostStepOn, noRoom, operateOn, refusedAs, stepOn, tsdbOn, tssrOn}
 use Rattle.sessions.specs.Session.{Kind, refused, stepped}
 use Rattle.sessions.specs.Calling.{Call, advance, entryAt, host-store, onCall, operate, read-register, stepKind, write-tsdb, write-tssr}
 use Rattle.sessions.proofs.Undone.{Fit}

@@ -11,11 +11,11 @@ use Rattle.commands.specs.Effects.{still}
 use Rattle.commands.specs.declared.plans.Answer.{Answer}
 use Rattle.commands.specs.declared.plans.Answer.the-variants as answer
 use Rattle.commands.specs.declared.plans.Plan.{Plan}
-use Rattle.jspecs.specs.Worlds.{Answered, World, answered}
-use Rattle.jspecs.specs.UnitCalls.{hostLimit}
-use Rattle.jspecs.specs.Refusals.{checked}
-use Rattle.jspecs.specs.Entries.{entryFor, hostEntry}
-use Rattle.jspecs.specs.Calls.{advanceBy, advanceOn, changed, guarded, hostOn, hostStepOn, noRoom, operateOn, refusedAs, stepOn, tsdbOn, tssrOn}
+use Rattle.journal.specs.Worlds.{Answered, World, answered}
+use Rattle.unit.specs.Calls.{hostLimit}
+use Rattle.journal.specs.Refusals.{checked}
+use Rattle.journal.specs.Entries.{entryFor, hostEntry}
+use Rattle.journal.specs.Calls.{advanceBy, advanceOn, changed, guarded, hostOn, hostStepOn, noRoom, operateOn, refusedAs, stepOn, tsdbOn, tssrOn}
 use Rattle.sessions.specs.Session.{Kind, looked, refused, stepped}
 use Rattle.sessions.specs.Calling.{Call, advance, host-store, kindOf, onCall, operate, read-register, stepKind, write-tsdb, write-tssr}
 use Rattle.sessions.proofs.Taken.{plan}

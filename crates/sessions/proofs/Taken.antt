@@ -27,10 +27,10 @@ use Rattle.storing.specs.Stored.{Storable, memoryAfter, reelAfter}
 use Rattle.advance.specs.Steps.{advanced}
 use Rattle.entries.specs.declared.Entry.{Entry}
 use Rattle.entries.specs.Numbers.{numberLimit}
-use Rattle.jspecs.specs.Worlds.{Answered, World, answered}
-use Rattle.jspecs.specs.UnitCalls.{hostLimit}
-use Rattle.jspecs.specs.Entries.{entryBytes, entryFor, entryLength, hostEntry}
-use Rattle.jspecs.specs.Calls.{advanceBy, advanceOn, backOn, changed, entered, guarded, hostOn, hostStepOn, noRoom, operateOn, refusedAs, stepOn, tsdbOn, tssrOn}
+use Rattle.journal.specs.Worlds.{Answered, World, answered}
+use Rattle.unit.specs.Calls.{hostLimit}
+use Rattle.journal.specs.Entries.{entryBytes, entryFor, entryLength, hostEntry}
+use Rattle.journal.specs.Calls.{advanceBy, advanceOn, backOn, changed, entered, guarded, hostOn, hostStepOn, noRoom, operateOn, refusedAs, stepOn, tsdbOn, tssrOn}
 use Rattle.sessions.specs.Session.{Kind, looked, refused, stepped}
 use Rattle.sessions.specs.Calling.{Call, advance, entryAt, host-store, kindOf, onCall, operate, read-register, readKind, stepKind, write-tsdb, write-tssr}
 use Rattle.sessions.proofs.Checked.{Passes, passes}

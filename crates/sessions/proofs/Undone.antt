@@ -27,12 +27,12 @@ use Rattle.storing.proofs.Lengths.{length-memory, length-reel}
 use Rattle.storing.proofs.Undone.{memory-undone, reel-undone, unsent}
 use Rattle.entries.specs.declared.Entry.{Entry}
 use Rattle.entries.specs.Numbers.{Small, numberLimit}
-use Rattle.jspecs.specs.declared.Session.{Session}
-use Rattle.jspecs.specs.Worlds.{Answered, World, answered}
-use Rattle.jspecs.specs.Refusals.{checked}
-use Rattle.jspecs.specs.Entries.{entryBytes, entryFor, entryHead, entryLength, hostEntry, movedPlace}
-use Rattle.jspecs.specs.Restoring.{entryFits, memoryBack, newestEntry, reelBack}
-use Rattle.jspecs.specs.Calls.{backOn, broughtBack, entered, guarded, hostStepOn, noRoom, refusedAs, session, stepOn, undoBy, undoOn}
+use Rattle.journal.specs.declared.Session.{Session}
+use Rattle.journal.specs.Worlds.{Answered, World, answered}
+use Rattle.journal.specs.Refusals.{checked}
+use Rattle.journal.specs.Entries.{entryBytes, entryFor, entryHead, entryLength, hostEntry, movedPlace}
+use Rattle.journal.specs.Restoring.{entryFits, memoryBack, newestEntry, reelBack}
+use Rattle.journal.specs.Calls.{backOn, broughtBack, entered, guarded, hostStepOn, noRoom, refusedAs, session, stepOn, undoBy, undoOn}
 use Rattle.sessions.proofs.Checked.{Passes, let-pass, passes}
 use Rattle.sessions.proofs.EntryParts.{length-entry, newest-entry, saved-blocks, saved-data, saved-message}
 

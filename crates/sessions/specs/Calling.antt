@@ -12,10 +12,10 @@ use Rattle.commands.specs.declared.plans.Answer.the-variants as answer
 use Rattle.commands.specs.declared.plans.Plan.{Plan}
 use Rattle.advance.specs.Steps.{advanced}
 use Rattle.entries.specs.declared.Entry.{Entry}
-use Rattle.jspecs.specs.declared.calls.Register.{Register}
-use Rattle.jspecs.specs.Worlds.{Answered, World, answered}
-use Rattle.jspecs.specs.Entries.{entryBytes, entryFor, entryLength, hostEntry}
-use Rattle.jspecs.specs.Calls.{advanceOn, changed, hostOn, operateOn, registerOn, tsdbOn, tssrOn}
+use Rattle.unit.specs.declared.calls.Register.{Register}
+use Rattle.journal.specs.Worlds.{Answered, World, answered}
+use Rattle.journal.specs.Entries.{entryBytes, entryFor, entryLength, hostEntry}
+use Rattle.journal.specs.Calls.{advanceOn, changed, hostOn, operateOn, registerOn, tsdbOn, tssrOn}
 use Rattle.sessions.specs.Session.{Kind, looked, refused, stepped}
 
 -- a call of a session; a word of TSDB has 16 bits
