@@ -1,5 +1,5 @@
 -- What a step back brings back: the saved bytes, read from the used journal or from all of it.
-use mathlib.Core.Path.{_≡_, refl, sym, ap, _∙_}
+use mathlib.Core.Path.{_≡_, refl, sym, _∙_}
 use mathlib.Core.Bool.{Bool, true, false, _&&_, not, and-eq-true-iff}
 use mathlib.Core.List.{List}
 use Prim.Native.Nat.{ℕ, _+_, _-_, _*_, _≤_, _<_}
@@ -14,34 +14,26 @@ use Rattle.state.specs.Checks.{stateWrong}
 use Rattle.commands.specs.declared.plans.Answer.the-variants as answer
 use Rattle.entries.specs.declared.Entry.{Entry}
 use Rattle.journal.specs.Worlds.{Leaves, worldOf}
-use Rattle.journal.specs.Entries.{EntryIn, Sizes, entryHead, entryLength}
+use Rattle.journal.specs.Entries.{EntryIn, entryHead, entryLength}
 use Rattle.journal.specs.Refusals.{checked}
 use Rattle.journal.specs.Restoring.{Restored, entryFits, memoryBack, newestEntry, reelBack}
 use Rattle.journal.specs.Calls.{backOn, broughtBack, outcome, session, undoBy, undoOn}
 use Rattle.journal.specs.declared.Session.{Session}
 use Rattle.journal.specs.declared.calls.Outcome.{Outcome}
-use Rattle.journal.proofs.EntryBytes.{entry-whole}
+use Rattle.journal.proofs.EntryBytes.{blocksFrom, entry-whole, headFrom, messageFrom}
+use Rattle.journal.proofs.Passed.{passed, sizes}
 use Rattle.journal.proofs.Fits.{fits-in}
 use Rattle.journal.proofs.Outs.{guarded-goes, left-alone}
 
 -- the three scatters
 module _ (e : Entry) (j m r m₁ m′ r′ : List ℕ) (start : ℕ) where
-  abbrev toMessage : ℕ
-  toMessage = start + e .«data_length»
-
-  abbrev toBlocks : ℕ
-  toBlocks = toMessage + e .«message_length»
-
-  abbrev toHead : ℕ
-  toHead = toBlocks + blockBytes * e .«reel_blocks»
-
-  pub brought : r′ ≡ placed false r (blockBytes * e .«reel_at») (take (toHead - toBlocks) (drop toBlocks j)) → m₁ ≡ placed false m (e .«message_at») (take (toBlocks - toMessage) (drop toMessage j)) → m′ ≡ placed (e .swb) m₁ (e .«data_at») (take (toMessage - start) (drop start j)) → Restored (drop start j) e m r m′ r′
+  pub brought : r′ ≡ placed false r (blockBytes * e .«reel_at») (take (headFrom e start - blocksFrom e start) (drop (blocksFrom e start) j)) → m₁ ≡ placed false m (e .«message_at») (take (blocksFrom e start - messageFrom e start) (drop (messageFrom e start) j)) → m′ ≡ placed (e .swb) m₁ (e .«data_at») (take (messageFrom e start - start) (drop start j)) → Restored (drop start j) e m r m′ r′
   unfolding memoryBack reelBack
   brought pr p₁ p′ =
-      let a : toMessage - start ≡ e .«data_length» = omega arith in
-      let b : toBlocks - toMessage ≡ e .«message_length» = omega arith in
-      let c : toHead - toBlocks ≡ blockBytes * e .«reel_blocks» = omega arith in
-      let d : start + (e .«data_length» + e .«message_length») ≡ toBlocks = omega arith in
+      let a : messageFrom e start - start ≡ e .«data_length» = omega arith in
+      let b : blocksFrom e start - messageFrom e start ≡ e .«message_length» = omega arith in
+      let c : headFrom e start - blocksFrom e start ≡ blockBytes * e .«reel_blocks» = omega arith in
+      let d : start + (e .«data_length» + e .«message_length») ≡ blocksFrom e start = omega arith in
       record {
         memory = p′ ∙ rw (p₁, a, b, drop-drop (e .«data_length») start j);
         reel = pr ∙ rw (c, drop-drop (e .«data_length» + e .«message_length») start j, d);
@@ -63,8 +55,10 @@ module _ (e : Entry) (j : List ℕ) (a used : ℕ) (h : a + entryLength e ≤ us
 
 -- the step back: refusal 8, or brought back
 module _ (s : Session) (m r j : List ℕ) (e : Entry) (f w : Bool) (de : e ≡ newestEntry (take (s .used) j)) (df : f ≡ entryFits e (s .used) (length m) (length r)) (dw : w ≡ stateWrong (e .unit)) where
-  pub undo-ready : Sizes (length m) (length r) → not (f && not w) ≡ false → (entryLength e ≤ s .used) × EntryIn e (length m) (length r)
-  undo-ready z t = fits-in e (length m) (length r) (s .used) z (sym df ∙ and-eq-true-iff f (not w) .0 (not-false (f && not w) t) .0)
+  pub undo-ready : checked s (length m) (length r) (length j) ≡ 0 → not (f && not w) ≡ false → (entryLength e ≤ s .used) × EntryIn e (length m) (length r)
+  undo-ready h t =
+      let z = sizes s (length m) (length r) (length j) (passed s (length m) (length r) (length j) h) in
+      fits-in e (length m) (length r) (s .used) z (sym df ∙ and-eq-true-iff f (not w) .0 (not-false (f && not w) t) .0)
 
   pub undo-stops : (o : Outcome) → not (f && not w) ≡ true → o .answer ≡ answer.Refused 8 → o .session ≡ s → Leaves (undoOn (worldOf s m r j)) o m r j
   unfolding undoOn undoBy

@@ -1,16 +1,12 @@
 -- The bytes of an entry: how many, and the used journal once they stand there.
-use mathlib.Core.Path.{_≡_, refl, sym, ap, _∙_}
-use mathlib.Core.Bool.{Bool, false}
-use mathlib.Core.List.{List, _++_, append-assoc}
-use Prim.Native.Nat.{ℕ, _+_, _-_, _*_, _≤_}
+use mathlib.Core.Path.{_≡_, refl, ap, _∙_}
+use mathlib.Core.List.{List, _++_}
+use Prim.Native.Nat.{ℕ, _+_, _*_, _≤_}
 use native.Mathlib.Omega.{arith}
 use lib.ListN.{length, take, drop, length-append}
 use lib.Seq.{length-take-le, sets, sets-eq, take-at}
-use Rattle.lists.specs.Places.{gathered}
 use Rattle.lists.proofs.Placed.{length-gathered}
 use Rattle.tape.specs.Numbers.{blockBytes}
-use Rattle.entries.specs.Numbers.{numbersOf}
-use Rattle.entries.specs.Bytes.{headBytes}
 use Rattle.entries.specs.declared.Entry.{Entry}
 use Rattle.entries.proofs.Back.{length-numbers}
 use Rattle.entries.proofs.HeadBytes.{length-head}
@@ -20,6 +16,16 @@ use Rattle.journal.specs.Entries.{entryBytes, entryHead, entryLength}
 pub entry-whole : (e : Entry) → entryLength e ≡ entryHead + e .«data_length» + e .«message_length» + blockBytes * e .«reel_blocks»
 unfolding entryLength
 entry-whole e = refl
+
+-- where the entry's message, blocks and head stand in a journal, if its bytes begin at `start`
+abbrev pub messageFrom : Entry → ℕ → ℕ
+messageFrom e start = start + e .«data_length»
+
+abbrev pub blocksFrom : Entry → ℕ → ℕ
+blocksFrom e start = messageFrom e start + e .«message_length»
+
+abbrev pub headFrom : Entry → ℕ → ℕ
+headFrom e start = blocksFrom e start + blockBytes * e .«reel_blocks»
 
 pub length-entry : (e : Entry) (m r : List ℕ) → length (entryBytes e m r) ≡ entryLength e
 unfolding entryBytes entryLength

@@ -1,14 +1,12 @@
 -- What each way out of a step leaves is what the definitions say.
 use mathlib.Core.Path.{_≡_, refl, sym, ap, subst, _∙_}
-use mathlib.Core.Bool.{Bool, true, false, _||_, not}
-use mathlib.Core.List.{List, _++_}
+use mathlib.Core.Bool.{Bool, false}
+use mathlib.Core.List.{List}
 use Prim.Native.Nat.{ℕ, _+_, _-_, _≤_, _<_}
 use native.Mathlib.Omega.{arith}
 use borrow.Author.Tests.{eq-eqb, le-ltb, lt-ltb, ne-eqb}
-use lib.Dec.{eqb, ltb}
 use lib.ListN.{length, take}
 use lib.Seq.{sets}
-use Rattle.lists.specs.Pick.{pick}
 use Rattle.lists.specs.Places.{placed}
 use Rattle.lists.proofs.Placed.{placed-plain}
 use Rattle.state.specs.declared.Unit.{Unit}
@@ -21,7 +19,7 @@ use Rattle.entries.specs.declared.Entry.{Entry}
 use Rattle.journal.specs.Worlds.{Answered, Leaves, answered, worldOf}
 use Rattle.journal.specs.Refusals.{checked}
 use Rattle.journal.specs.Entries.{entryBytes, entryFor, entryLength, hostEntry}
-use Rattle.journal.specs.Calls.{advanceBy, changed, entered, guarded, hostStepOn, outcome, refusedAs, session, stepOn}
+use Rattle.journal.specs.Calls.{advanceBy, changed, entered, guarded, hostStepOn, outcome, session, stepOn}
 use Rattle.journal.specs.declared.Session.{Session}
 use Rattle.journal.specs.declared.calls.Outcome.{Outcome}
 use Rattle.journal.proofs.EntryBytes.{length-entry, take-stored}

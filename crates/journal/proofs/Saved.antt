@@ -1,5 +1,5 @@
 -- The stores that make an entry join into one run: three lent parts, each filled by a gather, and the head behind them.
-use mathlib.Core.Path.{_≡_, sym, _∙_}
+use mathlib.Core.Path.{_≡_, _∙_}
 use mathlib.Core.Bool.{Bool, false}
 use mathlib.Core.List.{List, _++_, append-assoc}
 use Prim.Native.Nat.{ℕ, _+_, _-_, _*_, _%_, _≤_}
@@ -15,7 +15,7 @@ use Rattle.entries.specs.Numbers.{numbersOf}
 use Rattle.entries.specs.Bytes.{headBytes}
 use Rattle.entries.specs.declared.Entry.{Entry}
 use Rattle.journal.specs.Entries.{entryBytes, entryLength}
-use Rattle.journal.proofs.EntryBytes.{entry-whole}
+use Rattle.journal.proofs.EntryBytes.{blocksFrom, entry-whole, headFrom, messageFrom}
 
 -- a lent part of x bytes that a gather fills
 module _ (w : Bool) (m b g : List ℕ) (at a x : ℕ) where
@@ -40,31 +40,22 @@ four-join b p q r h a x y z k l n =
     (rw (append-assoc, append-assoc))))
 
 module _ (e : Entry) (m r j g₁ g₂ g₃ : List ℕ) (used : ℕ) where
-  abbrev toMessage : ℕ
-  toMessage = used + e .«data_length»
-
-  abbrev toBlocks : ℕ
-  toBlocks = toMessage + e .«message_length»
-
-  abbrev toHead : ℕ
-  toHead = toBlocks + blockBytes * e .«reel_blocks»
-
   abbrev first : List ℕ
-  first = putMid used (toMessage - used) j g₁
+  first = putMid used (messageFrom e used - used) j g₁
 
   abbrev second : List ℕ
-  second = putMid toMessage (toBlocks - toMessage) first g₂
+  second = putMid (messageFrom e used) (blocksFrom e used - messageFrom e used) first g₂
 
   abbrev third : List ℕ
-  third = putMid toBlocks (toHead - toBlocks) second g₃
+  third = putMid (blocksFrom e used) (headFrom e used - blocksFrom e used) second g₃
 
-  pub entry-saved : (j′ ns : List ℕ) → used + entryLength e ≤ length j → g₁ ≡ gathered (e .swb) m (e .«data_at») (length (take (toMessage - used) (drop used j))) → g₂ ≡ gathered false m (e .«message_at») (length (take (toBlocks - toMessage) (drop toMessage first))) → g₃ ≡ gathered false r (blockBytes * e .«reel_at») (length (take (toHead - toBlocks) (drop toBlocks second))) → ns ≡ numbersOf e → j′ ≡ sets third toHead (headBytes ns) → j′ ≡ sets j used (entryBytes e m r)
+  pub entry-saved : (j′ ns : List ℕ) → used + entryLength e ≤ length j → g₁ ≡ gathered (e .swb) m (e .«data_at») (length (take (messageFrom e used - used) (drop used j))) → g₂ ≡ gathered false m (e .«message_at») (length (take (blocksFrom e used - messageFrom e used) (drop (messageFrom e used) first))) → g₃ ≡ gathered false r (blockBytes * e .«reel_at») (length (take (headFrom e used - blocksFrom e used) (drop (blocksFrom e used) second))) → ns ≡ numbersOf e → j′ ≡ sets third (headFrom e used) (headBytes ns) → j′ ≡ sets j used (entryBytes e m r)
   unfolding entryBytes
   entry-saved j′ ns h p₁ p₂ p₃ pn pj =
       let whole = entry-whole e in
       let f₁ : first ≡ sets j used (gathered (e .swb) m (e .«data_at») (e .«data_length»)) = part-filled (e .swb) m j g₁ (e .«data_at») used (e .«data_length») (omega arith) p₁ in
       let l₁ : length first ≡ length j = rw f₁ (length-sets j used (gathered (e .swb) m (e .«data_at») (e .«data_length»))) in
-      let f₂ : second ≡ sets first toMessage (gathered false m (e .«message_at») (e .«message_length»)) = part-filled false m first g₂ (e .«message_at») toMessage (e .«message_length») (omega arith) p₂ in
-      let l₂ : length second ≡ length first = rw f₂ (length-sets first toMessage (gathered false m (e .«message_at») (e .«message_length»))) in
-      let f₃ : third ≡ sets second toBlocks (gathered false r (blockBytes * e .«reel_at») (blockBytes * e .«reel_blocks»)) = part-filled false r second g₃ (blockBytes * e .«reel_at») toBlocks (blockBytes * e .«reel_blocks») (omega arith) p₃ in
+      let f₂ : second ≡ sets first (messageFrom e used) (gathered false m (e .«message_at») (e .«message_length»)) = part-filled false m first g₂ (e .«message_at») (messageFrom e used) (e .«message_length») (omega arith) p₂ in
+      let l₂ : length second ≡ length first = rw f₂ (length-sets first (messageFrom e used) (gathered false m (e .«message_at») (e .«message_length»))) in
+      let f₃ : third ≡ sets second (blocksFrom e used) (gathered false r (blockBytes * e .«reel_at») (blockBytes * e .«reel_blocks»)) = part-filled false r second g₃ (blockBytes * e .«reel_at») (blocksFrom e used) (blockBytes * e .«reel_blocks») (omega arith) p₃ in
       pj ∙ rw (f₃, f₂, f₁, pn) (four-join j (gathered (e .swb) m (e .«data_at») (e .«data_length»)) (gathered false m (e .«message_at») (e .«message_length»)) (gathered false r (blockBytes * e .«reel_at») (blockBytes * e .«reel_blocks»)) (headBytes (numbersOf e)) used (e .«data_length») (e .«message_length») (blockBytes * e .«reel_blocks») (length-gathered _ _ _ _) (length-gathered _ _ _ _) (length-gathered _ _ _ _))

@@ -1,8 +1,8 @@
 -- The eight calls as functions of the world. (01, "Calls" and the table of refusals)
-use mathlib.Core.Bool.{Bool, true, false, _||_, _&&_, not}
-use mathlib.Core.List.{List, [], _++_}
+use mathlib.Core.Bool.{Bool, false, _||_, _&&_, not}
+use mathlib.Core.List.{List, _++_}
 use mathlib.Core.Path.{_≡_}
-use Prim.Native.Nat.{ℕ, _+_, _-_, _*_, _/_, _≤_}
+use Prim.Native.Nat.{ℕ, _+_, _-_, _/_, _≤_}
 use lib.Dec.{eqb, ltb}
 use lib.ListN.{drop, length, take}
 use lib.Seq.{sets}
@@ -26,7 +26,7 @@ use Rattle.unit.specs.declared.calls.Register.{Register}
 use Rattle.entries.specs.declared.Entry.{Entry}
 use Rattle.journal.specs.Worlds.{Answered, World, answered}
 use Rattle.journal.specs.Refusals.{checked, journalLimit, sessionWrong}
-use Rattle.journal.specs.Entries.{EntryIn, entryBytes, entryFor, entryHead, entryLength, hostEntry}
+use Rattle.journal.specs.Entries.{entryBytes, entryFor, entryHead, entryLength, hostEntry}
 use Rattle.journal.specs.Restoring.{entryFits, memoryBack, newestEntry, reelBack}
 use Rattle.journal.specs.declared.Session.{Session}
 use Rattle.journal.specs.declared.calls.Outcome.{Outcome}

@@ -1,5 +1,5 @@
 -- "Entry length is 128 + stored memory bytes + stored reel bytes, data and message counted separately even if they overlap." (01, Calls)
-use mathlib.Core.Bool.{Bool, true, false}
+use mathlib.Core.Bool.{false}
 use mathlib.Core.List.{List, _++_}
 use mathlib.Core.Path.{_≡_}
 use Prim.Native.Nat.{ℕ, _+_, _*_, _%_, _≤_}

@@ -1,6 +1,6 @@
 -- The newest entry and what bringing it back does. "8 newest entry's own numbers don't fit journal, memory or reel, or it would restore a
 -- state that 1 refuses" (01, the table)
-use mathlib.Core.Bool.{Bool, true, false, _&&_}
+use mathlib.Core.Bool.{Bool, false, _&&_}
 use mathlib.Core.List.{List}
 use mathlib.Core.Path.{_≡_}
 use Prim.Native.Nat.{ℕ, _+_, _-_, _*_, _/_}

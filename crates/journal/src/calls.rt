@@ -157,8 +157,8 @@ fn host_step(
 {
     let u = s.unit;
     let e = host_entry(u, place, bytes.len());
-    let n = entry_length(e, mem.len(), reel.len());
-    if s.journal - s.used < n {
+    let size = entry_length(e, mem.len(), reel.len());
+    if s.journal - s.used < size {
         return refused(s, 9);
     }
     enter(jrnl, s.used, e, mem, reel);
@@ -167,7 +167,7 @@ fn host_step(
         answer: Answer::Done(false),
         session: Session {
             unit: u,
-            used: s.used + n,
+            used: s.used + size,
             journal: s.journal,
         },
     }

@@ -1,3 +1,4 @@
+-- `advance` meets its contract: a step for an answer of 0, else nothing changes.
 use Rattle.journal.proofs.Readies.{advance-ready}
 use Rattle.journal.proofs.Outs.{advance-rests, advance-steps, guarded-goes, guarded-stops}
 use Rattle.journal.proofs.Passed.{passed, plannable}

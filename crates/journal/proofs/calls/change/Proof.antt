@@ -1,3 +1,4 @@
+-- `change` is a step whose plan stores nothing.
 use Rattle.journal.proofs.Outs.{step-as}
 use Rattle.journal.proofs.Readies.{still-ready}
 use borrow.Author.Needs.{needs}

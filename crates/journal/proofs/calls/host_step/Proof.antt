@@ -1,3 +1,4 @@
+-- `host_step` meets its contract: refusal 9, or the entry first and then the bytes.
 use Rattle.journal.proofs.Outs.{host-goes, host-stops}
 use Rattle.journal.proofs.Fits.{host-in}
 use Rattle.journal.proofs.Passed.{passed, room, sizes}

@@ -1,7 +1,7 @@
+-- `host_store` meets its contract: refusals 1 to 5, else the step.
 use Rattle.journal.proofs.Hosts.{host-ready, host-steps, host-too-far, host-too-long, no-longer}
 use Rattle.journal.proofs.Outs.{guarded-stops}
 use Rattle.journal.specs.Calls.{hostOn}
-use native.Mathlib.Omega.{arith}
 use borrow.Author.Needs.{needs}
 use Rattle.journal.proofs.calls.host_store.Statement.{statement}
 use Rattle.journal.proofs.calls.host_store.Tie as tie

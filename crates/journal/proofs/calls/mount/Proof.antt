@@ -1,3 +1,4 @@
+-- `mount` is its definition.
 use Rattle.journal.proofs.Outs.{same-outcome}
 use Rattle.journal.specs.Calls.{mountOn, mountSweptOn}
 use borrow.Author.Tests.{eq-eqb, le-ltb, lt-ltb, ne-eqb}

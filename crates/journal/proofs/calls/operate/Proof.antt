@@ -1,3 +1,4 @@
+-- `operate` meets its contract: refusals 1 to 4, else the change.
 use Rattle.journal.proofs.Outs.{changed-goes, guarded-stops}
 use Rattle.journal.specs.Calls.{operateOn}
 use borrow.Author.Needs.{needs}

@@ -1,3 +1,4 @@
+-- `read_register` is its definition.
 use Rattle.journal.specs.Calls.{registerOn}
 use Rattle.unit.specs.Calls.{registerWord}
 use borrow.Author.Needs.{needs}

@@ -1,3 +1,4 @@
+-- `step` meets its contract: refusal 9, or the entry first and then the stores.
 use Rattle.journal.proofs.Outs.{step-goes, step-stops}
 use Rattle.journal.proofs.Fits.{step-in}
 use Rattle.journal.proofs.Passed.{passed, room, sizes}

@@ -1,3 +1,4 @@
+-- `step_back` meets its contract: refusals 1 to 4, 6 and 8, else the undoing.
 use Rattle.journal.proofs.Backs.{back-goes, back-none, back-short}
 use Rattle.journal.proofs.Outs.{guarded-stops}
 use Rattle.journal.specs.Calls.{backOn}

@@ -1,3 +1,4 @@
+-- `check` meets its contract: one line for each refusal, in number order.
 use Rattle.journal.specs.Refusals.{checked}
 use borrow.Author.Tests.{eq-eqb, ne-eqb}
 use borrow.Author.Needs.{needs}

@@ -1,3 +1,4 @@
+-- `session_wrong` is its definition, by the call that looks at the state.
 use Rattle.journal.specs.Refusals.{sessionWrong}
 use borrow.Author.Needs.{needs}
 use Rattle.journal.proofs.checks.session_wrong.Statement.{statement}

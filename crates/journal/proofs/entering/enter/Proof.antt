@@ -1,3 +1,4 @@
+-- `enter` meets its contract: each lent part lies inside the journal, and the four stores join.
 use Rattle.journal.proofs.Fits.{blocks-in}
 use Rattle.journal.proofs.Saved.{entry-saved, part-in}
 use Rattle.journal.proofs.EntryBytes.{entry-whole}

@@ -1,3 +1,4 @@
+-- `entry_for` is its definition, with or without a message.
 use Rattle.journal.specs.Entries.{entryFor}
 use borrow.Author.Needs.{needs}
 use Rattle.journal.proofs.entering.entry_for.Statement.{statement}

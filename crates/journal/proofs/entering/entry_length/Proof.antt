@@ -1,3 +1,4 @@
+-- `entry_length` is its definition: an entry whose places fit passes no limit.
 use Rattle.journal.specs.Entries.{entryLength}
 use mathlib.Core.Path.{refl}
 use borrow.Author.Needs.{needs}

@@ -1,7 +1,6 @@
+-- `host_entry` is its definition.
 use Rattle.journal.specs.Entries.{hostEntry}
 use mathlib.Core.Path.{refl}
-use borrow.Author.Needs.{needs}
-use native.Mathlib.Omega.{arith}
 use Rattle.journal.proofs.entering.host_entry.Statement.{statement}
 use Rattle.journal.proofs.entering.host_entry.Tie as tie
 

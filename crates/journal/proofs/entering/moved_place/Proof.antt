@@ -1,3 +1,4 @@
+-- `moved_place`: a short record read in reverse lies at the high end.
 use Rattle.journal.proofs.Fits.{place-high, place-low, short}
 use native.Mathlib.Omega.{arith}
 use borrow.Author.Needs.{needs}

@@ -1,3 +1,4 @@
+-- `bring_back` meets its contract: each part lies inside the journal, and its places inside memory or reel.
 use Rattle.journal.proofs.Fits.{blocks-in}
 use Rattle.journal.proofs.Backs.{brought}
 use Rattle.journal.proofs.Saved.{part-in}

@@ -1,3 +1,4 @@
+-- `entry_fits` is its definition, its tests made in another order.
 use Rattle.journal.proofs.Fits.{fit-by, parts-in, unfit}
 use borrow.Author.Needs.{needs}
 use Rattle.journal.proofs.restoring.entry_fits.Statement.{statement}

@@ -1,3 +1,4 @@
+-- `newest_entry` reads what stands in the used journal alone.
 use Rattle.journal.proofs.Newest.{newest-read}
 use borrow.Author.Needs.{needs}
 use Rattle.journal.proofs.restoring.newest_entry.Statement.{statement}

@@ -1,8 +1,8 @@
+-- `run_fits`: a difference says what the sum says.
 use Rattle.journal.proofs.Fits.{run-difference}
 use Prim.Native.Nat.{_+_}
 use borrow.Author.Tests.{lt-leb}
 use mathlib.Core.Path.{sym}
-use borrow.Author.Needs.{needs}
 use native.Mathlib.Omega.{arith}
 use Rattle.journal.proofs.restoring.run_fits.Statement.{statement}
 use Rattle.journal.proofs.restoring.run_fits.Tie as tie
