@@ -14,7 +14,7 @@ use Rattle.entries.specs.Numbers.{Small, numbersOf}
 use Rattle.entries.specs.Bytes.{headBytes}
 use Rattle.entries.proofs.Back.{length-numbers}
 use Rattle.entries.proofs.HeadBytes.{head-entry, length-head}
-use Rattle.journal.specs.Entries.{entryBytes, entryHead, entryLength}
+use Rattle.journal.specs.Entries.{entryBytes, entryHead}
 use Rattle.journal.specs.Restoring.{newestEntry, savedBlocks, savedData, savedMessage}
 
 module _ (e : Entry) (m r : List ℕ) where
@@ -41,19 +41,6 @@ module _ (e : Entry) (m r : List ℕ) where
 
   long-head : length head ≡ entryHead
   long-head = rw (length-head (numbersOf e), length-numbers e)
-
-  pub length-entry : length (entryBytes e m r) ≡ entryLength e
-  unfolding entryBytes entryLength
-  length-entry =
-      rw (
-        length-append oldData (oldMessage ++ (oldBlocks ++ head)),
-        length-append oldMessage (oldBlocks ++ head),
-        length-append oldBlocks head,
-        long-data,
-        long-message,
-        long-blocks,
-        long-head,
-      ) (omega arith)
 
   pub saved-data : savedData e (entryBytes e m r) ≡ oldData
   unfolding entryBytes

@@ -124,11 +124,11 @@ mounted-fit old m r journal e online locked k =
       sound = let-pass (mountSession (length m) (length r) journal e online locked) (length m) (length r) journal
           (record {
             legal = legal-mounted (length m) (length r / blockBytes) e online locked (a .memory-right) (a .blocks-right) (a .below);
-            in-memory = refl;
-            in-reel = a .whole;
+            memory-is = refl;
+            reel-is = a .whole;
             used = omega arith;
             limit = x .limit;
-            lent = refl;
+            journal-is = refl;
           });
       kept = refl;
       address = omega arith;

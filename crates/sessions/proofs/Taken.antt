@@ -18,12 +18,12 @@ use Rattle.state.specs.declared.act.Act.{Act}
 use Rattle.state.specs.declared.act.Act.the-variants as act
 use Rattle.state.proofs.Legal.{legal-initialized, legal-operated, legal-tsdb}
 use Rattle.state.proofs.Tests.{either, neither}
-use Rattle.motions.specs.Parts.{laidBlocks, objectBlocks, standing}
+use Rattle.motions.specs.Parts.{standing}
 use Rattle.commands.specs.Effects.{still}
 use Rattle.commands.specs.declared.plans.Answer.{Answer}
 use Rattle.commands.specs.declared.plans.Answer.the-variants as answer
 use Rattle.commands.specs.declared.plans.Plan.{Plan}
-use Rattle.storing.specs.Stored.{Storable, memoryAfter, reelAfter}
+use Rattle.storing.specs.Stored.{memoryAfter, reelAfter}
 use Rattle.advance.specs.Steps.{advanced}
 use Rattle.entries.specs.declared.Entry.{Entry}
 use Rattle.entries.specs.Numbers.{numberLimit}
@@ -33,8 +33,9 @@ use Rattle.journal.specs.Entries.{entryBytes, entryFor, entryLength, hostEntry}
 use Rattle.journal.specs.Calls.{advanceBy, advanceOn, backOn, changed, entered, guarded, hostOn, hostStepOn, noRoom, operateOn, refusedAs, stepOn, tsdbOn, tssrOn}
 use Rattle.sessions.specs.Session.{Kind, looked, refused, stepped}
 use Rattle.sessions.specs.Calling.{Call, advance, entryAt, host-store, kindOf, onCall, operate, read-register, readKind, stepKind, write-tsdb, write-tssr}
-use Rattle.sessions.proofs.Checked.{Passes, passes}
-use Rattle.sessions.proofs.EntryParts.{length-entry}
+use Rattle.journal.proofs.Readies.{still-ready}
+use Rattle.journal.proofs.Passed.{Passed, passed}
+use Rattle.journal.proofs.EntryBytes.{length-entry}
 use Rattle.sessions.proofs.Formed.{Formed, first-bound}
 use Rattle.sessions.proofs.WellFormed.{still-kept}
 use Rattle.sessions.proofs.Undone.{Entered, Fit, Steps, entered-undone, host-entered, passes-after, step-entered}
@@ -142,8 +143,8 @@ abbrev pub plan : World → Plan
 plan w = advanced (w .session .unit) (w .memory) (w .reel)
 
 module _ (n : ℕ) (w : World) (fit : Fit n w) where
-  was : Passes (w .session) (length (w .memory)) (length (w .reel)) n
-  was = passes (w .session) (length (w .memory)) (length (w .reel)) n (fit .sound)
+  was : Passed (w .session) (length (w .memory)) (length (w .reel)) n
+  was = passed (w .session) (length (w .memory)) (length (w .reel)) n (fit .sound)
 
   pub let-through : (x : Answered) → guarded w n x ≡ x
   unfolding guarded
@@ -180,19 +181,22 @@ module _ (n : ℕ) (w : World) (fit : Fit n w) where
       })
 
   -- a change of the state alone
-  still-steps : (u : Unit) (a : Answer) → Legal u → u .lengths ≡ w .session .unit .lengths → Steps w (still u a)
-  unfolding still laidBlocks objectBlocks
-  still-steps u a l e =
-      let even : length (w .memory) % 2 ≡ 0 = omega (arith, was .in-memory, was .legal .even) in
+  still-seven : (u : Unit) (a : Answer) → length (still u a .message) ≡ 7
+  unfolding still
+  still-seven u a = refl
+
+  still-unit : (u : Unit) (a : Answer) → still u a .unit ≡ u
+  unfolding still
+  still-unit u a = refl
+
+  change-steps : (u : Unit) → Legal u → u .lengths ≡ w .session .unit .lengths → Steps w (changed u)
+  change-steps u l e =
+      let same = still-unit u (answer.Done false) in
       record {
-        storable = record {
-          laid = record { room = omega arith; source = omega arith; even = even };
-          moved = record { room = omega arith; target = omega arith; even = even };
-          message = λ t. absurd (true≢false (sym t));
-        };
-        seven = refl;
-        legal = l;
-        lengths = e;
+        storable = still-ready (w .session) (changed u) u (length (w .memory)) (length (w .reel)) n (record { right = fit .sound }) refl .storable;
+        seven = still-seven u (answer.Done false);
+        legal = rw same l;
+        lengths = rw same e;
       }
 
   still-short : (u : Unit) (a : Answer) → Short u → Short (still u a .unit)
@@ -202,7 +206,7 @@ module _ (n : ℕ) (w : World) (fit : Fit n w) where
   change-taken : (u : Unit) → Legal u → u .lengths ≡ w .session .unit .lengths → Short u → (Formed (w .reel) (w .session .unit .tape) → Formed (w .reel) (u .tape)) → stepKind (guarded w n (stepOn w (changed u)) .answer) ≡ stepped → Taken w (guarded w n (stepOn w (changed u)) .world) (entryFor (w .session .unit) (changed u))
   change-taken u l e short forms k =
       let z : stepKind (stepOn w (changed u) .answer) ≡ stepped = rw (let-through (stepOn w (changed u))) at k in
-      rw (let-through (stepOn w (changed u))) (step-taken (changed u) (still-steps u (answer.Done false) l e) (still-short u (answer.Done false) short) (λ f. still-kept (w .memory) (w .reel) u (answer.Done false) (forms f)) z)
+      rw (let-through (stepOn w (changed u))) (step-taken (changed u) (change-steps u l e) (still-short u (answer.Done false) short) (λ f. still-kept (w .memory) (w .reel) u (answer.Done false) (forms f)) z)
 
   tsdb-taken : (word : ℕ) → word < 65536 → stepKind (tsdbOn w n word .answer) ≡ stepped → Taken w (tsdbOn w n word .world) (entryFor (w .session .unit) (changed (tsdbWritten (w .session .unit) word)))
   unfolding tsdbOn

@@ -30,11 +30,13 @@ use Rattle.entries.specs.Numbers.{Small, numberLimit}
 use Rattle.journal.specs.declared.Session.{Session}
 use Rattle.journal.specs.Worlds.{Answered, World, answered}
 use Rattle.journal.specs.Refusals.{checked}
-use Rattle.journal.specs.Entries.{entryBytes, entryFor, entryHead, entryLength, hostEntry, movedPlace}
+use Rattle.journal.specs.Entries.{EntryIn, entryBytes, entryFor, entryHead, entryLength, hostEntry, movedPlace}
 use Rattle.journal.specs.Restoring.{entryFits, memoryBack, newestEntry, reelBack}
 use Rattle.journal.specs.Calls.{backOn, broughtBack, entered, guarded, hostStepOn, noRoom, refusedAs, session, stepOn, undoBy, undoOn}
-use Rattle.sessions.proofs.Checked.{Passes, let-pass, passes}
-use Rattle.sessions.proofs.EntryParts.{length-entry, newest-entry, saved-blocks, saved-data, saved-message}
+use Rattle.journal.proofs.Passed.{Passed, passed, sizes}
+use Rattle.journal.proofs.Fits.{host-in, step-in}
+use Rattle.sessions.proofs.Checked.{let-pass}
+use Rattle.sessions.proofs.EntryParts.{newest-entry, saved-blocks, saved-data, saved-message}
 
 -- a world whose session the checks let pass, for a journal of n bytes; its journal is the used part. While NBA is set refusal 1 looks at
 -- no buffer, so the buffer's numbers are asked for: an entry holds four bytes of each.
@@ -44,16 +46,10 @@ pub record Fit (n : ℕ) (w : World) : Type 0 where
   pub address : w .session .unit .characteristics .address < numberLimit
   pub extent : w .session .unit .characteristics .length < numberLimit
 
--- an entry's places, inside memory and reel
-pub record Inside (e : Entry) (memory reel : ℕ) : Type 0 where
-  pub bytes-in : e .«data_at» + e .«data_length» ≤ memory
-  pub message-in : e .«message_at» + e .«message_length» ≤ memory
-  pub blocks-in : blockBytes * (e .«reel_at» + e .«reel_blocks») ≤ reel
-
 -- what a step that was entered has to give for its undoing: the state u, memory m and reel r after it
 pub record Entered (w : World) (e : Entry) (u : Unit) (m r : List ℕ) : Type 0 where
   pub before : e .unit ≡ w .session .unit
-  pub inside : Inside e (length (w .memory)) (length (w .reel))
+  pub inside : EntryIn e (length (w .memory)) (length (w .reel))
   pub room : w .session .used + entryLength e ≤ w .session .journal
   pub legal : Legal u
   pub lengths : u .lengths ≡ w .session .unit .lengths
@@ -69,8 +65,8 @@ module _ (n : ℕ) (w : World) (e : Entry) (u : Unit) (m r : List ℕ) (fit : Fi
   abbrev next : World
   next = entered w e u m r
 
-  was : Passes before (length (w .memory)) (length (w .reel)) n
-  was = passes before (length (w .memory)) (length (w .reel)) n (fit .sound)
+  was : Passed before (length (w .memory)) (length (w .reel)) n
+  was = passed before (length (w .memory)) (length (w .reel)) n (fit .sound)
 
   small : Small e
   small =
@@ -85,12 +81,12 @@ module _ (n : ℕ) (w : World) (e : Entry) (u : Unit) (m r : List ℕ) (fit : Fi
         length = rw (x .before) (fit .extent);
         memory = rw (x .before) (omega (arith, l .memory-most));
         blocks = rw (x .before) (omega (arith, l .blocks-most));
-        data-at = omega (arith, i .bytes-in, was .in-memory, l .memory-most);
-        data-length = omega (arith, i .bytes-in, was .in-memory, l .memory-most);
-        message-at = omega (arith, i .message-in, was .in-memory, l .memory-most);
-        message-length = omega (arith, i .message-in, was .in-memory, l .memory-most);
-        reel-at = omega (arith, i .blocks-in, was .in-reel, l .blocks-most);
-        reel-blocks = omega (arith, i .blocks-in, was .in-reel, l .blocks-most);
+        data-at = omega (arith, i .in-memory, was .memory-is, l .memory-most);
+        data-length = omega (arith, i .in-memory, was .memory-is, l .memory-most);
+        message-at = omega (arith, i .message-in-memory, was .memory-is, l .memory-most);
+        message-length = omega (arith, i .message-in-memory, was .memory-is, l .memory-most);
+        reel-at = omega (arith, i .in-reel, was .reel-is, l .blocks-most);
+        reel-blocks = omega (arith, i .in-reel, was .reel-is, l .blocks-most);
       }
 
   pub passes-after : checked (next .session) (length m) (length r) n ≡ 0
@@ -98,11 +94,11 @@ module _ (n : ℕ) (w : World) (e : Entry) (u : Unit) (m r : List ℕ) (fit : Fi
       let-pass (next .session) (length m) (length r) n
       (record {
         legal = x .legal;
-        in-memory = rw (x .long-memory, x .lengths) (was .in-memory);
-        in-reel = rw (x .long-reel, x .lengths) (was .in-reel);
+        memory-is = rw (x .long-memory, x .lengths) (was .memory-is);
+        reel-is = rw (x .long-reel, x .lengths) (was .reel-is);
         used = x .room;
         limit = was .limit;
-        lent = was .lent;
+        journal-is = was .journal-is;
       })
 
   newest : newestEntry (next .journal) ≡ e
@@ -129,9 +125,9 @@ module _ (n : ℕ) (w : World) (e : Entry) (u : Unit) (m r : List ℕ) (fit : Fi
         le-leb (entryLength e) (next .session .used) (omega arith),
         x .long-memory,
         x .long-reel,
-        le-leb (e .«data_at» + e .«data_length») (length (w .memory)) (i .bytes-in),
-        le-leb (e .«message_at» + e .«message_length») (length (w .memory)) (i .message-in),
-        le-leb (e .«reel_at» + e .«reel_blocks») (length (w .reel) / blockBytes) (omega (arith, i .blocks-in)),
+        le-leb (e .«data_at» + e .«data_length») (length (w .memory)) (i .in-memory),
+        le-leb (e .«message_at» + e .«message_length») (length (w .memory)) (i .message-in-memory),
+        le-leb (e .«reel_at» + e .«reel_blocks») (length (w .reel) / blockBytes) (omega (arith, i .in-reel)),
       )
 
   long-entry : entryHead ≤ next .session .used
@@ -157,10 +153,6 @@ unfolding placed gathered
 message-back true m x a n h = sym (part-placed m x a n (h refl))
 message-back false m x a n h = refl
 
-message-in : (b : Bool) (a n memory : ℕ) → (b ≡ true → a + n ≤ memory) → pick b a 0 + pick b n 0 ≤ memory
-message-in true a n memory h = h refl
-message-in false a n memory h = omega arith
-
 -- what a plan has to be for a step of the unit
 pub record Steps (w : World) (p : Plan) : Type 0 where
   pub storable : Storable p (length (w .memory)) (length (w .reel))
@@ -182,15 +174,6 @@ module _ (n : ℕ) (w : World) (p : Plan) (fit : Fit n w) (x : Steps w p) where
 
   abbrev after-reel : List ℕ
   after-reel = reelAfter p (w .memory) (w .reel)
-
-  fits-places : Inside entry (length (w .memory)) (length (w .reel))
-  unfolding entryFor movedPlace
-  fits-places =
-      record {
-        bytes-in = data-inside (w .reel) (p .moved) (w .memory) (x .storable .moved);
-        message-in = message-in (p .sends) (p .unit .characteristics .address) messageBytes (length (w .memory)) (x .storable .message);
-        blocks-in = x .storable .laid .room;
-      }
 
   memory-back-placed : placed (entry .swb) (placed false after-memory (entry .«message_at») (gathered false (w .memory) (entry .«message_at») (entry .«message_length»))) (entry .«data_at») (gathered (entry .swb) (w .memory) (entry .«data_at») (entry .«data_length»)) ≡ w .memory
   unfolding entryFor movedPlace
@@ -214,10 +197,11 @@ module _ (n : ℕ) (w : World) (p : Plan) (fit : Fit n w) (x : Steps w p) where
 
   pub step-entered : noRoom w entry ≡ false → Entered w entry (p .unit) after-memory after-reel
   step-entered t =
+      let was = passed (w .session) (length (w .memory)) (length (w .reel)) n (fit .sound) in
       record {
         before = step-entered-unit;
-        inside = fits-places;
-        room = has-room w entry (passes (w .session) (length (w .memory)) (length (w .reel)) n (fit .sound) .used) t;
+        inside = step-in (w .session .unit) p (w .memory) (w .reel) entry refl (sizes (w .session) (length (w .memory)) (length (w .reel)) n was) (x .storable);
+        room = has-room w entry (was .used) t;
         legal = x .legal;
         lengths = x .lengths;
         long-memory = length-memory p (w .memory) (w .reel);
@@ -259,16 +243,12 @@ module _ (n : ℕ) (w : World) (place : ℕ) (bytes : List ℕ) (fit : Fit n w) 
   unfolding hostEntry
   host-entered-unit = refl
 
-  host-places : Inside host-entry (length (w .memory)) (length (w .reel))
-  unfolding hostEntry
-  host-places = record { bytes-in = inside; message-in = omega arith; blocks-in = omega arith }
-
   pub host-entered : noRoom w host-entry ≡ false → Entered w host-entry (w .session .unit) host-memory (w .reel)
   host-entered t =
-      let was = passes (w .session) (length (w .memory)) (length (w .reel)) n (fit .sound) in
+      let was = passed (w .session) (length (w .memory)) (length (w .reel)) n (fit .sound) in
       record {
         before = host-entered-unit;
-        inside = host-places;
+        inside = host-in (w .session .unit) place (length bytes) (length (w .memory)) (length (w .reel)) host-entry refl (sizes (w .session) (length (w .memory)) (length (w .reel)) n was) inside;
         room = has-room w host-entry (was .used) t;
         legal = was .legal;
         lengths = refl;
