@@ -1,71 +1,67 @@
--- Step 10 shows what a Write Characteristics asks for: it has code 4, and its extent was looked at.
-use mathlib.Core.Path.{_≡_, refl}
-use mathlib.Core.Bool.{Bool, true, false, _&&_, true≢false}
+-- Step 10 looks at the data's extent of every command that has data.
+use mathlib.Core.Path.{_≡_, refl, sym, _∙_}
+use mathlib.Core.Bool.{Bool, true, false, _||_, _&&_, true≢false}
 use mathlib.Core.List.{List}
-use Prim.Native.Nat.{ℕ, _+_}
-use borrow.Author.Tests.{eqb-true, ltb-false}
+use Prim.Native.Nat.{ℕ, _+_, _≤_}
+use borrow.Author.Tests.{ltb-false}
 use denote.Enum.Declared.{tagOf}
 use lib.Dec.{eqb, ltb}
 use lib.ListN.{length}
-use Rattle.signals.specs.Codes.{commandOf, controlMode, formatMode, positionMode, readMode, singleMode, writeMode}
+use Rattle.signals.specs.Codes.{commandOf, controlMode, formatMode, positionMode, singleMode}
 use Rattle.signals.specs.declared.codes.Command.{Command}
 use Rattle.signals.specs.declared.codes.Command.the-variants as command
 use Rattle.signals.specs.declared.packet.Header.{Header}
 use Rattle.signals.specs.declared.packet.Packet.{Packet}
 use Rattle.signals.proofs.codes.Command as variants
-use Rattle.state.proofs.Tests.{either}
+use Rattle.state.proofs.Tests.{either, neither}
 use Rattle.commands.specs.Commands.{DataFit}
 use Rattle.advance.specs.Rules.{hasExtent}
 
--- a command whose place among the variants is not that of Write Characteristics
-abbrev Other : Command → Type 0
-Other c = eqb (tagOf variants.the-type c) 4 ≡ false
+-- Read, Write Characteristics and Write: the first seven of the variants
+abbrev pub hasData : Command → Bool
+hasData c = ltb (tagOf variants.the-type c) 7
 
-reads : (mode : ℕ) → Other (readMode mode)
-unfolding readMode
-reads mode = either Other (eqb mode 0) _ _ refl (either Other (eqb mode 1) _ _ refl (either Other (eqb mode 2) _ _ refl (either Other (eqb mode 3) _ _ refl refl)))
+abbrev NoData : Command → Type 0
+NoData c = hasData c ≡ false
 
-rewrites : (mode : ℕ) → Other (writeMode mode)
-unfolding writeMode
-rewrites mode = either Other (eqb mode 0) _ _ refl (either Other (eqb mode 2) _ _ refl refl)
-
-positions : (mode : ℕ) → Other (positionMode mode)
+positions : (mode : ℕ) → NoData (positionMode mode)
 unfolding positionMode
-positions mode = either Other (eqb mode 0) _ _ refl (either Other (eqb mode 1) _ _ refl (either Other (eqb mode 2) _ _ refl (either Other (eqb mode 3) _ _ refl (either Other (eqb mode 4) _ _ refl refl))))
+positions mode = either NoData (eqb mode 0) _ _ refl (either NoData (eqb mode 1) _ _ refl (either NoData (eqb mode 2) _ _ refl (either NoData (eqb mode 3) _ _ refl (either NoData (eqb mode 4) _ _ refl refl))))
 
-formats : (mode : ℕ) → Other (formatMode mode)
+formats : (mode : ℕ) → NoData (formatMode mode)
 unfolding formatMode
-formats mode = either Other (eqb mode 0) _ _ refl (either Other (eqb mode 1) _ _ refl (either Other (eqb mode 2) _ _ refl refl))
+formats mode = either NoData (eqb mode 0) _ _ refl (either NoData (eqb mode 1) _ _ refl (either NoData (eqb mode 2) _ _ refl refl))
 
-controls : (mode : ℕ) → Other (controlMode mode)
+controls : (mode : ℕ) → NoData (controlMode mode)
 unfolding controlMode
-controls mode = either Other (eqb mode 0) _ _ refl (either Other (eqb mode 1) _ _ refl (either Other (eqb mode 2) _ _ refl refl))
+controls mode = either NoData (eqb mode 0) _ _ refl (either NoData (eqb mode 1) _ _ refl (either NoData (eqb mode 2) _ _ refl refl))
 
-singles : (c : Command) (mode : ℕ) → Other c → Other (singleMode c mode)
+singles : (c : Command) (mode : ℕ) → NoData c → NoData (singleMode c mode)
 unfolding singleMode
-singles c mode h = either Other (eqb mode 0) c command.Illegal h refl
+singles c mode h = either NoData (eqb mode 0) c command.Illegal h refl
 
-others : (code mode : ℕ) → eqb code 4 ≡ false → Other (commandOf code mode)
+others : (code mode : ℕ) → eqb code 1 ≡ false → eqb code 4 ≡ false → eqb code 5 ≡ false → NoData (commandOf code mode)
 unfolding commandOf
-others code mode h =
-    rw h
-    (either Other (eqb code 1) _ _ (reads mode)
-    (either Other (eqb code 5) _ _ (rewrites mode)
-    (either Other (eqb code 8) _ _ (positions mode)
-    (either Other (eqb code 9) _ _ (formats mode)
-    (either Other (eqb code 10) _ _ (controls mode)
-    (either Other (eqb code 11) _ _ (singles command.Initialize mode refl)
-    (either Other (eqb code 15) _ _ (singles command.GetStatus mode refl) refl)))))))
+others code mode one four five =
+    rw (one, four, five)
+    (either NoData (eqb code 8) _ _ (positions mode)
+    (either NoData (eqb code 9) _ _ (formats mode)
+    (either NoData (eqb code 10) _ _ (controls mode)
+    (either NoData (eqb code 11) _ _ (singles command.Initialize mode refl)
+    (either NoData (eqb code 15) _ _ (singles command.GetStatus mode refl) refl)))))
 
-settled : (code mode : ℕ) (four : Bool) → eqb code 4 ≡ four → commandOf code mode ≡ command.WriteCharacteristics → code ≡ 4
-settled code mode true h e = eqb-true code 4 h
-settled code mode false h e = absurd (true≢false (rw e at (others code mode h)))
+settled : (h : Header) (looked : Bool) → hasExtent h ≡ looked → hasData (commandOf (h .code) (h .mode)) ≡ true → looked ≡ true
+settled h true e d = refl
+settled h false e d =
+    let p = neither (eqb (h .code) 1 || eqb (h .code) 4) (eqb (h .code) 5) e in
+    let q = neither (eqb (h .code) 1) (eqb (h .code) 4) (p .0) in
+    absurd (true≢false (sym d ∙ others (h .code) (h .mode) (q .0) (q .1) (p .1)))
 
-pub only-four : (code mode : ℕ) → commandOf code mode ≡ command.WriteCharacteristics → code ≡ 4
-only-four code mode e = settled code mode (eqb code 4) refl e
+-- where the test of step 10 finds nothing, the data of a command that has any lie inside memory
+pub extent : (h : Header) (p : Packet) (memory : ℕ) (looked : Bool) → looked ≡ hasExtent h → (looked && ltb memory (p .pointer + p .count)) ≡ false → hasData (commandOf (h .code) (h .mode)) ≡ true → p .pointer + p .count ≤ memory
+extent h p memory looked e f d =
+    let yes : looked ≡ true = settled h looked (sym e) d in
+    ltb-false memory (p .pointer + p .count) (rw yes at f)
 
 pub data-fit : (h : Header) (p : Packet) (m : List ℕ) (looked : Bool) → looked ≡ hasExtent h → (looked && ltb (length m) (p .pointer + p .count)) ≡ false → DataFit (commandOf (h .code) (h .mode)) p m
-data-fit h p m looked e f w =
-    let four : h .code ≡ 4 = only-four (h .code) (h .mode) w in
-    let yes : looked ≡ true = rw (e, four) in
-    ltb-false (length m) (p .pointer + p .count) (rw yes at f)
+data-fit h p m looked e f w = extent h p (length m) looked e f (rw w)

@@ -61,12 +61,16 @@ entryBytes e m r =
     ++ (gathered false m (e .«message_at») (e .«message_length»)
     ++ (gathered false r (blockBytes * e .«reel_at») (blockBytes * e .«reel_blocks») ++ headBytes (numbersOf e)))
 
--- the entry's places lie inside memory and reel, whose lengths in bytes these are; both are even
-pub record EntryIn (e : Entry) (memory reel : ℕ) : Type 0 where
-  pub in-memory : e .«data_at» + e .«data_length» ≤ memory
-  pub message-in-memory : e .«message_at» + e .«message_length» ≤ memory
-  pub in-reel : blockBytes * (e .«reel_at» + e .«reel_blocks») ≤ reel
+-- lengths of memory and reel in bytes: even, and so small that no sum of them passes 64 bits
+pub record Sizes (memory reel : ℕ) : Type 0 where
   pub even : memory % 2 ≡ 0
   pub even-reel : reel % 2 ≡ 0
   pub memory-small : memory ≤ 4294967296
   pub reel-small : reel ≤ 4294967296
+
+-- the entry's places lie inside memory and reel
+pub record EntryIn (e : Entry) (memory reel : ℕ) : Type 0 where
+  pub in-memory : e .«data_at» + e .«data_length» ≤ memory
+  pub message-in-memory : e .«message_at» + e .«message_length» ≤ memory
+  pub in-reel : blockBytes * (e .«reel_at» + e .«reel_blocks») ≤ reel
+  pub sizes : Sizes memory reel

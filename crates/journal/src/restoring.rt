@@ -1,4 +1,5 @@
 // Reading the newest entry, whatever bytes stand there, and bringing its old bytes back.
+use crate::entering::entry_length;
 use entries::Entry;
 use entries::HEAD;
 use entries::entry_of;
@@ -9,7 +10,7 @@ ghost use mathlib.Core.Path.{_≡_};
 ghost use Prim.Native.Nat.{_+_, _≤_};
 ghost use lib.Dec.{leb};
 ghost use lib.ListN.{length, drop, take};
-ghost use Rattle.journal.specs.Entries.{EntryIn, entryLength};
+ghost use Rattle.journal.specs.Entries.{EntryIn, Sizes, entryLength};
 ghost use Rattle.journal.specs.Restoring.{Restored, entryFits, newestEntry};
 
 // The entry whose head ends at `used`.
@@ -32,18 +33,16 @@ fn run_fits(a: usize, n: usize, limit: usize) -> bool
 
 // Do the entry's own numbers fit the used journal, memory and reel, in bytes?
 pub fn entry_fits(e: Entry, used: usize, memory: usize, reel: usize) -> bool
+    requires { ⌜ Sizes memory reel ⌝ }
     ensures { λ r. ⌜ r ≡ entryFits e used memory reel ⌝ }
 {
     let data = run_fits(e.data_at, e.data_length, memory);
     let message = run_fits(e.message_at, e.message_length, memory);
     let blocks = run_fits(e.reel_at, e.reel_blocks, reel / Geometry::BLOCK);
-    if !(data & message & blocks) {
+    if !(data & (message & blocks)) {
         return false;
     }
-    if (used < HEAD) | (4294967296 < memory) | (4294967296 < reel) {
-        return false;
-    }
-    HEAD + e.data_length + e.message_length + Geometry::BLOCK * e.reel_blocks <= used
+    entry_length(e, memory, reel) <= used
 }
 
 // The old bytes that stand in the journal from `start` on go back to their places.

@@ -35,7 +35,7 @@ registers-right g h =
     let p = neither (leb pointerLimit (g .pointer)) (ltb lastClass (g .class)) h in
     (leb-false pointerLimit (g .pointer) (p .0), ltb-false lastClass (g .class) (p .1))
 
-buffer-right : (c : Characteristics) (memory : ℕ) → bufferWrong c memory ≡ false → BufferFits c memory
+pub buffer-right : (c : Characteristics) (memory : ℕ) → bufferWrong c memory ≡ false → BufferFits c memory
 unfolding bufferWrong
 buffer-right c memory h =
     let p = neither (eqb (c .address % 2) 1 || ltb (c .length) messageBytes) (ltb memory (c .address + c .length)) h in

@@ -1,7 +1,5 @@
 // The calls, without a journal: each refuses first, in number order, and then does what its plan says.
 use commands::Answer;
-use commands::Plan;
-use commands::still_plan;
 use lists::scatter;
 use state::Act;
 use state::Lengths;
@@ -12,7 +10,7 @@ use tape::Geometry;
 use tape::Swept;
 ghost use mathlib.Core.Path.{_≡_};
 ghost use lib.ListN.{length};
-ghost use Rattle.unit.specs.Calls.{Called, Hosted, advanceCall, answerOf, mountCall, mountRefusal, operateCall, registerCall, storeRefusal, tsdbCall, tssrCall};
+ghost use Rattle.unit.specs.Calls.{Called, Hosted, advanceCall, mountCall, mountRefusal, operateCall, registerCall, storeRefusal, tsdbCall, tssrCall};
 
 // What a call hands back: its answer and the next state.
 pub struct Outcome {
@@ -29,16 +27,6 @@ pub enum Register {
 pub struct Reading {
     pub answer: Answer,
     pub word: u16,
-}
-
-// A refusal's number as an answer; 0 is done.
-fn answer_of(n: usize) -> Answer
-    ensures { λ r. ⌜ r ≡ answerOf n ⌝ }
-{
-    if n == 0 {
-        return Answer::Done(false);
-    }
-    Answer::Refused(n)
 }
 
 // Lengths of memory, in bytes, and of the reel, with the end that is to be taken.
@@ -187,21 +175,18 @@ pub fn host_store(u: Unit, mem: &mut [u8], reel: usize, place: usize, bytes: &[u
     Answer::Done(false)
 }
 
-// What an advance is about to do, refusals 1, 2, 3 and 7 included.
-pub fn plan_call(u: Unit, mem: &[u8], reel: &[u8]) -> Plan
-    ensures { λ r. ⌜ r ≡ advanceCall u (now (mem .entry)) (now (reel .entry)) ⌝ }
-{
-    let n = refusal(u, mem.len(), reel.len());
-    if n != 0 {
-        return still_plan(u, Answer::Refused(n));
-    }
-    advance::plan_advance(u, mem, reel)
-}
-
+// A refused advance stores nothing; else its plan is made whole before any of it is stored.
 pub fn advance(u: Unit, mem: &mut [u8], reel: &mut [u8]) -> Outcome
     ensures { λ r. ⌜ Called (advanceCall u (now (mem .entry)) (now (reel .entry))) (now (mem .entry)) (now (reel .entry)) r (now (mem .exit)) (now (reel .exit)) ⌝ }
 {
-    let p = plan_call(u, mem, reel);
+    let n = refusal(u, mem.len(), reel.len());
+    if n != 0 {
+        return Outcome {
+            answer: Answer::Refused(n),
+            unit: u,
+        };
+    }
+    let p = advance::plan_advance(u, mem, reel);
     store(p, mem, reel);
     let answer = p.answer;
     let unit = p.unit;

@@ -9,7 +9,6 @@ pub use calls::host_store;
 pub use calls::mount;
 pub use calls::mount_refusal;
 pub use calls::operate;
-pub use calls::plan_call;
 pub use calls::read_register;
 pub use calls::store_refusal;
 pub use calls::write_tsdb;

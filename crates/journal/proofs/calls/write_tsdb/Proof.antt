@@ -1,0 +1,48 @@
+use Rattle.journal.proofs.Outs.{changed-goes, guarded-stops}
+use Rattle.journal.specs.Calls.{tsdbOn}
+use borrow.Author.Needs.{needs}
+use Rattle.journal.proofs.calls.write_tsdb.Statement.{statement}
+use Rattle.journal.proofs.calls.write_tsdb.Tie as tie
+
+check-requires : tie.Need-check-requires
+check-requires c κs = search needs
+
+refused-requires : tie.Need-refused-requires
+refused-requires c κs = search needs
+
+returns : tie.Need-returns
+unfolding tsdbOn
+returns c = guarded-stops _ _ _ _ _ _ _ (c .before .before .check .ensures) (c .before .if1 .taken) (c .refused .ensures .0) (c .refused .ensures .1)
+
+write-tsdb-requires : tie.Need-write-tsdb-requires
+write-tsdb-requires c κs = search needs
+
+change-requires : tie.Need-change-requires
+change-requires c κs = search needs
+
+same-length : tie.Need-same-length
+same-length c = search needs
+
+same-length-2 : tie.Need-same-length-2
+same-length-2 c = search needs
+
+same-length-3 : tie.Need-same-length-3
+same-length-3 c = search needs
+
+returns-2 : tie.Need-returns-2
+unfolding tsdbOn
+returns-2 c = changed-goes _ _ _ _ _ _ _ _ _ _ _ (c .before .before .before .before .before .before .before .before .before .before .before .before .before .check .ensures) (c .before .before .before .before .before .before .before .before .before .before .before .before .if1 .left) (c .before .before .before .before .before .before .before .before .before .before .write-tsdb .ensures) (c .before .before .before .before .before .before .change .ensures)
+
+pub write-tsdb-spec : {M : Type 1} → statement M
+write-tsdb-spec =
+    tie.close
+    (tie.spec
+    check-requires
+    refused-requires
+    returns
+    write-tsdb-requires
+    change-requires
+    same-length
+    same-length-2
+    same-length-3
+    returns-2)

@@ -1,0 +1,26 @@
+use Rattle.journal.specs.Entries.{entryFor}
+use borrow.Author.Needs.{needs}
+use Rattle.journal.proofs.entering.entry_for.Statement.{statement}
+use Rattle.journal.proofs.entering.entry_for.Tie as tie
+
+moved-place-requires : tie.Need-moved-place-requires
+moved-place-requires c κs = search needs
+
+moved-bytes-requires : tie.Need-moved-bytes-requires
+moved-bytes-requires c κs = search needs
+
+laid-blocks-requires : tie.Need-laid-blocks-requires
+laid-blocks-requires c κs = search needs
+
+returns : tie.Need-returns
+unfolding entryFor
+returns c = rw (← c .before .before .before .moved-place .ensures, ← c .before .before .moved-bytes .ensures, ← c .before .laid-blocks .ensures .0, c .if1 .taken)
+
+returns-2 : tie.Need-returns-2
+unfolding entryFor
+returns-2 c = rw (← c .before .before .before .moved-place .ensures, ← c .before .before .moved-bytes .ensures, ← c .before .laid-blocks .ensures .0, c .if1 .left)
+
+pub entry-for-spec : {M : Type 1} → statement M
+entry-for-spec =
+    tie.close
+    (tie.spec moved-place-requires moved-bytes-requires laid-blocks-requires returns returns-2)
