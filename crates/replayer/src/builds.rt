@@ -162,8 +162,8 @@ pub fn lay_single(reel: &mut [u8], p: usize, gap: bool) -> Value {
     }
     if gap {
         reel::lay_gap(reel, p);
-    } else {
-        reel::lay_mark(reel, p);
+        return Value::Is(p + 1);
     }
+    reel::lay_mark(reel, p);
     Value::Is(p + 1)
 }

@@ -15,28 +15,20 @@ use script::crc_table;
 ghost use mathlib.Core.Path.{_≡_};
 ghost use lib.ListN.{length};
 
-fn memory() -> [u8; 262146]
-    ensures { λ r. ⌜ 262146 ≡ length r ⌝ }
-{
+fn memory() -> [u8; 262146] {
     [0u8; 262146]
 }
 
-fn reel_space() -> [u8; 131072]
-    ensures { λ r. ⌜ 131072 ≡ length r ⌝ }
-{
+fn reel_space() -> [u8; 131072] {
     [0u8; 131072]
 }
 
-fn journal_space() -> [u8; 1048576]
-    ensures { λ r. ⌜ 1048576 ≡ length r ⌝ }
-{
+fn journal_space() -> [u8; 1048576] {
     [0u8; 1048576]
 }
 
 // The bytes that a line names.
-fn data_space() -> [u8; 131072]
-    ensures { λ r. ⌜ 131072 ≡ length r ⌝ }
-{
+fn data_space() -> [u8; 131072] {
     [0u8; 131072]
 }
 
@@ -47,11 +39,27 @@ fn line_space() -> [u8; 4096]
 }
 
 // The script that a file or a pipe holds, over these buffers.
-fn replay_over(fd: i32, mem: &mut [u8], reel: &mut [u8], jrnl: &mut [u8], data: &mut [u8]) {
+fn replay_over(
+    fd: i32,
+    mem: &mut [u8; 262146],
+    reel: &mut [u8; 131072],
+    jrnl: &mut [u8; 1048576],
+    data: &mut [u8; 131072],
+) {
     let mut chunk = io::large_buffer();
     let mut line = line_space();
     let table = crc_table();
-    read_all(fresh(), fd, &mut chunk, &mut line, mem, reel, jrnl, data, &table);
+    read_all(
+        fresh(),
+        fd,
+        &mut chunk,
+        &mut line,
+        mem,
+        reel,
+        jrnl,
+        data,
+        &table,
+    );
 }
 
 pub fn replay(fd: i32) {

@@ -13,15 +13,24 @@ use script::write_out;
 ghost use mathlib.Core.Path.{_≡_};
 ghost use lib.ListN.{length};
 
+fn put_interrupt(out: &mut [u8], at: usize, t: Told, interrupt: bool) -> usize {
+    if !t.interrupts {
+        return at;
+    }
+    put_labelled(out, at, b" int=", flag(interrupt))
+}
+
+fn put_entry(out: &mut [u8], at: usize, t: Told, entry: usize) -> usize {
+    if !t.step {
+        return at;
+    }
+    put_labelled(out, at, b" entry=", entry)
+}
+
 fn put_done(out: &mut [u8], t: Told, interrupt: bool, entry: usize) -> usize {
-    let mut at = put_bytes(out, 0, b"0");
-    if t.interrupts {
-        at = put_labelled(out, at, b" int=", flag(interrupt));
-    }
-    if t.step {
-        at = put_labelled(out, at, b" entry=", entry);
-    }
-    at
+    let at1 = put_bytes(out, 0, b"0");
+    let at2 = put_interrupt(out, at1, t, interrupt);
+    put_entry(out, at2, t, entry)
 }
 
 fn put_answer(out: &mut [u8], t: Told, entry: usize) -> usize {

@@ -1,7 +1,7 @@
 // One line of the script.
 use crate::asks::Came;
-use crate::asks::ask;
 use crate::asks::Told;
+use crate::asks::ask;
 use crate::desk::Desk;
 use crate::desk::Sizes;
 use crate::desk::handed;
@@ -59,7 +59,15 @@ fn keep(
 ) -> Desk {
     let sizes = d.sizes;
     trim(sizes, handed(d), mem, reel, jrnl);
-    tell(t, d.session.used, mem, sizes.memory, reel, sizes.reel, table);
+    tell(
+        t,
+        d.session.used,
+        mem,
+        sizes.memory,
+        reel,
+        sizes.reel,
+        table,
+    );
     let session = t.session;
     let mut e = d;
     e.session = session;

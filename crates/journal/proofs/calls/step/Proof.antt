@@ -22,11 +22,10 @@ returns : tie.Need-returns
 returns c = step-stops _ _ _ _ _ _ _ (c .before .before .before .before .entry-for .ensures) (c .before .before .before .entry-length .ensures) _ (c .before .if1 .taken) (c .refused .ensures .0) (c .refused .ensures .1)
 
 enter-requires : tie.Need-enter-requires
-enter-requires c κs =
-    (
-      room _ _ _ _ (passed _ _ _ _ (c .before .before .before .before .before .before .before .before .before .before .before .pre .sound .right)) _ _ (c .before .before .before .before .before .entry-length .ensures) (c .before .before .before .if1 .left),
-      step-in _ _ (c .before .before .before .before .before .before .before .before .before .before .before .args .mem .now) (c .before .before .before .before .before .before .before .before .before .before .before .args .reel .now) _ (c .before .before .before .before .before .before .entry-for .ensures) (sizes _ _ _ _ (passed _ _ _ _ (c .before .before .before .before .before .before .before .before .before .before .before .pre .sound .right))) (c .before .before .before .before .before .before .before .before .before .before .before .pre .storable),
-    )
+enter-requires c κs = (
+  room _ _ _ _ (passed _ _ _ _ (c .before .before .before .before .before .before .before .before .before .before .before .pre .sound .right)) _ _ (c .before .before .before .before .before .entry-length .ensures) (c .before .before .before .if1 .left),
+  step-in _ _ (c .before .before .before .before .before .before .before .before .before .before .before .args .mem .now) (c .before .before .before .before .before .before .before .before .before .before .before .args .reel .now) _ (c .before .before .before .before .before .before .entry-for .ensures) (sizes _ _ _ _ (passed _ _ _ _ (c .before .before .before .before .before .before .before .before .before .before .before .pre .sound .right))) (c .before .before .before .before .before .before .before .before .before .before .before .pre .storable),
+)
 
 store-requires : tie.Need-store-requires
 store-requires c κs = search needs
