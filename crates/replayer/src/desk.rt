@@ -1,0 +1,128 @@
+// All that the lines of a script change, besides the bytes of the buffers.
+use journal::Session;
+use state::Attention;
+use state::Characteristics;
+use state::Lengths;
+use state::Panel;
+use state::Registers;
+use state::Tape;
+use state::Unit;
+
+// In bytes.
+pub struct Sizes {
+    pub memory: usize,
+    pub reel: usize,
+    pub journal: usize,
+}
+
+pub struct Desk {
+    pub session: Session,
+    pub sizes: Sizes,
+    // What the calls are handed while `cut`.
+    pub cuts: Sizes,
+    pub cut: bool,
+    // The block that the next object is laid at.
+    pub cursor: usize,
+    // The number of the line, and how many of its bytes are read.
+    pub line: usize,
+    pub filled: usize,
+    pub stopped: bool,
+}
+
+pub fn no_sizes() -> Sizes {
+    Sizes {
+        memory: 0,
+        reel: 0,
+        journal: 0,
+    }
+}
+
+fn no_unit() -> Unit {
+    Unit {
+        tape: Tape {
+            position: 0,
+            end: 0,
+        },
+        registers: Registers {
+            pointer: 0,
+            class: 0,
+            rmr: false,
+            nxm: false,
+            nba: false,
+            ssr: false,
+        },
+        panel: Panel {
+            online: false,
+            locked: false,
+            vck: false,
+        },
+        attention: Attention {
+            unit_owns: false,
+            pending: false,
+            release_ie: false,
+        },
+        characteristics: Characteristics {
+            address: 0,
+            length: 0,
+            eai: false,
+            ess: false,
+            enb: false,
+        },
+        lengths: Lengths {
+            memory: 0,
+            blocks: 0,
+        },
+    }
+}
+
+fn no_session() -> Session {
+    Session {
+        unit: no_unit(),
+        used: 0,
+        journal: 0,
+    }
+}
+
+// As a run starts.
+pub fn fresh() -> Desk {
+    Desk {
+        session: no_session(),
+        sizes: no_sizes(),
+        cuts: no_sizes(),
+        cut: false,
+        cursor: 0,
+        line: 0,
+        filled: 0,
+        stopped: false,
+    }
+}
+
+// As a case starts.
+pub fn cleared(d: Desk) -> Desk {
+    let mut e = fresh();
+    e.line = d.line;
+    e.filled = d.filled;
+    e
+}
+
+// The lengths that the calls are handed.
+pub fn handed(d: Desk) -> Sizes {
+    let cuts = d.cuts;
+    let sizes = d.sizes;
+    if d.cut { cuts } else { sizes }
+}
+
+// Whether sizes are more than these.
+pub fn beyond(s: Sizes, memory: usize, reel: usize, journal: usize) -> bool {
+    (memory < s.memory) | (reel < s.reel) | (journal < s.journal)
+}
+
+// The next line starts.
+pub fn next_line(d: Desk) -> Desk {
+    let mut e = d;
+    e.filled = 0;
+    if e.line < 1000000000000 {
+        e.line += 1;
+    }
+    e
+}

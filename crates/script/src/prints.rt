@@ -1,0 +1,36 @@
+// A line of output, made in a lent slice: each function answers where the next byte goes. What doesn't fit is left out.
+use crate::fills::copy;
+use libc::STDOUT_FILENO;
+use lists::least;
+
+pub fn put_bytes(out: &mut [u8], at: usize, b: &[u8]) -> usize {
+    if out.len() < at {
+        return at;
+    }
+    copy(&mut out[at..], b);
+    at + least(out.len() - at, b.len())
+}
+
+pub fn put_decimal(out: &mut [u8], at: usize, n: usize) -> usize {
+    let mut text = [0u8; 20];
+    let k = io::decimal(n as u64, &mut text);
+    put_bytes(out, at, &text[..k])
+}
+
+pub fn put_hex(out: &mut [u8], at: usize, n: usize, width: usize) -> usize {
+    let mut text = [0u8; 16];
+    let k = io::hex(n as u64, width, &mut text);
+    put_bytes(out, at, &text[..k])
+}
+
+pub fn put_labelled(out: &mut [u8], at: usize, label: &[u8], n: usize) -> usize {
+    let next = put_bytes(out, at, label);
+    put_decimal(out, next, n)
+}
+
+// The first n bytes go to standard output.
+pub fn write_out(out: &[u8], n: usize) {
+    if n <= out.len() {
+        io::write_all(STDOUT_FILENO, &out[0..n]);
+    }
+}
