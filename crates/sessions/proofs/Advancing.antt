@@ -10,7 +10,7 @@ use Rattle.journal.specs.Worlds.{World}
 use Rattle.journal.proofs.Passed.{passed}
 use Rattle.sessions.proofs.Undone.{Fit}
 use Rattle.sessions.proofs.Taken.{AdvanceSound}
-use Rattle.sessions.proofs.WellFormed.{advanced-kept}
+use Rattle.sessions.proofs.Formed.{advanced-kept}
 use Rattle.sessions.proofs.Buffers.{advanced-short}
 
 pub advance-sound : AdvanceSound

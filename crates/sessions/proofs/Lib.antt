@@ -11,4 +11,3 @@ pub mod Walk
 pub mod Buffers
 pub mod Advancing
 pub mod Formed
-pub mod WellFormed

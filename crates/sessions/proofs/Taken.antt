@@ -36,8 +36,7 @@ use Rattle.sessions.specs.Calling.{Call, advance, entryAt, host-store, k
 use Rattle.journal.proofs.Readies.{still-ready}
 use Rattle.journal.proofs.Passed.{Passed, passed}
 use Rattle.journal.proofs.EntryBytes.{length-entry}
-use Rattle.sessions.proofs.Formed.{Formed, first-bound}
-use Rattle.sessions.proofs.WellFormed.{still-kept}
+use Rattle.sessions.proofs.Formed.{Formed, first-bound, still-kept}
 use Rattle.sessions.proofs.Undone.{Entered, Fit, Steps, entered-undone, host-entered, passes-after, step-entered}
 
 -- the buffer's numbers have at most four bytes each
