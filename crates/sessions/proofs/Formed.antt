@@ -1,6 +1,6 @@
 -- Every motion keeps the reel well formed, and leaves the tape at 0 or just after an object.
 use mathlib.Core.Path.{_≡_, refl, sym, ap, _∙_}
-use mathlib.Core.Bool.{Bool, true, false, not}
+use mathlib.Core.Bool.{Bool, true, not}
 use mathlib.Core.List.{List, [], _∷_, _++_, append-assoc, append-nil}
 use Prim.Native.Nat.{ℕ, _+_, _*_, _≤_}
 use native.Mathlib.Nat.{add-zero}
@@ -14,10 +14,9 @@ use Rattle.lists.proofs.Cases.{pick-told}
 use Rattle.lists.proofs.Placed.{length-gathered}
 use Rattle.lists.proofs.Stores.{sets-at}
 use Rattle.tape.specs.Numbers.{blockBytes, recordLimit}
-use Rattle.tape.specs.Objects.{AllAllowed, Allowed, Holds, Object, also, blocksIn, blocksOf, gap, imageOf, imagesOf, none, record-of}
+use Rattle.tape.specs.Objects.{AllAllowed, Holds, Object, also, blocksIn, blocksOf, imageOf, imagesOf, none, record-of}
 use Rattle.tape.proofs.Images.{blocks-append, length-image}
 use Rattle.tape.proofs.Written.{holds-front, laid-holds}
-use Rattle.signals.specs.declared.message.End.{End}
 use Rattle.state.specs.declared.Tape.{Tape}
 use Rattle.state.proofs.Tests.{either}
 use Rattle.moves.specs.Between.{Bound}
@@ -32,7 +31,7 @@ use Rattle.moves.specs.declared.spacing.Stop.the-variants as stop-as
 use Rattle.moves.proofs.Bounds.{bound-to}
 use Rattle.moves.proofs.Counts.{spaced-bound}
 use Rattle.moves.proofs.Finds.{Finds, finds, finds-mark, finds-nothing, finds-record}
-use Rattle.motions.specs.Parts.{laidBlocks, noLay, standing, stops}
+use Rattle.motions.specs.Parts.{laidBlocks, noLay, standing}
 use Rattle.motions.specs.Reads.{readMotion, readOne, readOneBy, readThenSpace, readThenSpaceBy, reread, spaceBack, spaceBackBy, spaceThenRead, spaceThenReadBy, stageBy, stageOf, stopMotion}
 use Rattle.motions.specs.Spaces.{positioned, spaceMotion, spaceMotionBy, startSpan}
 use Rattle.motions.specs.Writes.{behindGap, noRoom, retried, retriedBy, writtenAt, writtenMotion}

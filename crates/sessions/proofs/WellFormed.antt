@@ -1,8 +1,8 @@
 -- An advance keeps the reel well formed, and leaves the tape at 0 or just after an object.
-use mathlib.Core.Path.{_≡_, refl, sym, ap, _∙_}
+use mathlib.Core.Path.{_≡_}
 use mathlib.Core.Bool.{Bool, true, false, _||_, _&&_}
 use mathlib.Core.List.{List}
-use Prim.Native.Nat.{ℕ, _+_, _*_, _≤_}
+use Prim.Native.Nat.{ℕ, _*_, _≤_}
 use native.Mathlib.Omega.{arith}
 use borrow.Author.Tests.{eqb-false, ltb-false}
 use lib.Dec.{eqb, leb, ltb}
@@ -20,7 +20,6 @@ use Rattle.state.specs.Checks.{bufferWrong, pointerLimit}
 use Rattle.state.specs.declared.Tape.{Tape}
 use Rattle.state.specs.declared.Unit.{Unit as State}
 use Rattle.state.proofs.Tests.{either, neither}
-use Rattle.moves.specs.Between.{Bound}
 use Rattle.motions.specs.Parts.{noLay, standing}
 use Rattle.motions.specs.Writes.{retried, writtenAt}
 use Rattle.motions.specs.declared.parts.Laid.{Laid}
@@ -38,10 +37,9 @@ use Rattle.commands.specs.declared.effects.Ran.the-variants as ran
 use Rattle.commands.specs.declared.plans.Answer.{Answer}
 use Rattle.commands.specs.declared.plans.Plan.{Plan}
 use Rattle.storing.specs.Stored.{laidOn, reelAfter}
-use Rattle.advance.specs.Rules.{lengthWrong}
 use Rattle.advance.specs.Steps.{advanced}
 use Rattle.sessions.proofs.Formed.{AllowedKind, Formed, MotionKept, first-bound, laid-none, one-kept, positioned-kept, reread-kept, retried-kept, written-kept}
-use Rattle.sessions.proofs.Walk.{Alike, Carries, Rejects, attended-all, header-all, same}
+use Rattle.sessions.proofs.Walk.{Carries, Rejects, attended-all, header-all, same}
 
 -- a written length in range
 abbrev WriteAllowed : Command → ℕ → Type 0
