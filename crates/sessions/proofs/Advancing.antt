@@ -1,14 +1,12 @@
 -- Every plan of an advance can be entered, stored and undone.
-use Prim.Native.Nat.{ℕ, _≤_}
+use Prim.Native.Nat.{_≤_}
 use native.Mathlib.Omega.{arith}
 use lib.ListN.{length}
 use Rattle.state.specs.Checks.{memoryLimit}
 use Rattle.state.specs.declared.Unit.{Unit}
 use Rattle.advance.proofs.Kept.{advanced-seven, advanced-sound}
 use Rattle.unit.proofs.Storing.{advanced-storable}
-use Rattle.journal.specs.Worlds.{World}
 use Rattle.journal.proofs.Passed.{passed}
-use Rattle.sessions.proofs.Undone.{Fit}
 use Rattle.sessions.proofs.Taken.{AdvanceSound}
 use Rattle.sessions.proofs.Formed.{advanced-kept}
 use Rattle.sessions.proofs.Buffers.{advanced-short}

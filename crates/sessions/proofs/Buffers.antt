@@ -1,8 +1,8 @@
 -- An advance keeps the buffer's numbers or takes ones that lie inside memory: they have at most four bytes each.
-use mathlib.Core.Path.{_≡_, refl, sym, _∙_}
+use mathlib.Core.Path.{_≡_}
 use mathlib.Core.Bool.{Bool, true, false, _||_, _&&_}
 use mathlib.Core.List.{List}
-use Prim.Native.Nat.{ℕ, _+_, _*_, _%_, _≤_, _<_}
+use Prim.Native.Nat.{ℕ, _+_, _%_, _≤_}
 use native.Mathlib.Omega.{arith}
 use borrow.Author.Tests.{ltb-false}
 use lib.Dec.{eqb, leb, ltb}
@@ -16,7 +16,6 @@ use Rattle.signals.specs.declared.message.End.{End}
 use Rattle.signals.specs.declared.packet.Header.{Header}
 use Rattle.signals.specs.declared.packet.Packet.{Packet}
 use Rattle.state.specs.Checks.{bufferWrong, memoryLimit, pointerLimit}
-use Rattle.state.specs.Legal.{Legal}
 use Rattle.state.specs.declared.Characteristics.{Characteristics}
 use Rattle.state.specs.declared.Unit.{Unit as State}
 use Rattle.state.proofs.Tests.{either, neither}

@@ -1,10 +1,10 @@
 -- The parts of an entry's bytes: how many there are, the old bytes found again, and the entry read from its head.
-use mathlib.Core.Path.{_≡_, refl, sym, ap, _∙_}
-use mathlib.Core.Bool.{Bool, true, false}
-use mathlib.Core.List.{List, [], _∷_, _++_, append-assoc}
-use Prim.Native.Nat.{ℕ, _+_, _-_, _*_, _≤_, _<_}
+use mathlib.Core.Path.{_≡_, sym, ap, _∙_}
+use mathlib.Core.Bool.{false}
+use mathlib.Core.List.{List, _++_, append-assoc}
+use Prim.Native.Nat.{ℕ, _+_, _-_, _*_}
 use native.Mathlib.Omega.{arith}
-use lib.ListN.{drop, length, take, length-append}
+use lib.ListN.{drop, length, length-append}
 use lib.Seq.{drop-at, drop-drop, take-at}
 use Rattle.lists.specs.Places.{gathered}
 use Rattle.lists.proofs.Placed.{length-gathered}

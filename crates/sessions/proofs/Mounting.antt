@@ -1,5 +1,5 @@
 -- A mount begins a session: its world is fit, and its journal is empty.
-use mathlib.Core.Path.{_≡_, refl, sym, ap, _∙_}
+use mathlib.Core.Path.{_≡_, refl, ap}
 use mathlib.Core.Bool.{Bool, true, false, _||_, not}
 use mathlib.Core.List.{List, []}
 use Prim.Native.Nat.{ℕ, _*_, _/_, _%_, _≤_}
@@ -17,23 +17,20 @@ use Rattle.tape.specs.declared.Swept.{Swept}
 use Rattle.tape.specs.declared.Swept.the-variants as swept
 use Rattle.state.specs.Changes.{mountedAs}
 use Rattle.state.specs.Checks.{blocksRight, memoryRight}
-use Rattle.state.specs.declared.Unit.{Unit}
 use Rattle.state.proofs.Legal.{legal-mounted}
 use Rattle.state.proofs.Tests.{neither, past}
-use Rattle.commands.specs.declared.plans.Answer.{Answer}
 use Rattle.commands.specs.declared.plans.Answer.the-variants as answer
-use Rattle.entries.specs.Numbers.{numberLimit}
 use Rattle.journal.specs.declared.Session.{Session}
 use Rattle.journal.specs.Worlds.{World}
 use Rattle.unit.specs.Calls.{mountRefusal}
 use Rattle.journal.specs.Refusals.{journalLimit}
-use Rattle.journal.specs.Calls.{mountOn, mountSweptOn, outcome, session}
-use Rattle.sessions.specs.Session.{Kind, refused, stepped}
+use Rattle.journal.specs.Calls.{mountOn, mountSweptOn, session}
+use Rattle.sessions.specs.Session.{refused, stepped}
 use Rattle.sessions.specs.Calling.{stepKind}
 use Rattle.sessions.proofs.Checked.{let-pass}
 use Rattle.sessions.proofs.Undone.{Fit}
 use Rattle.sessions.proofs.Formed.{Formed, first-bound}
-use Rattle.sessions.proofs.Calls.{Fresh, Good}
+use Rattle.sessions.proofs.Calls.{Fresh}
 
 -- a mount that is not refused
 pub record Accepts (memory reel e : ℕ) : Type 0 where

@@ -1,6 +1,6 @@
 -- "A step is refused for room exactly when its entry doesn't fit", if nothing earlier refuses it.
 use mathlib.Core.Path.{_≡_, refl, sym, ap, _∙_}
-use mathlib.Core.Bool.{Bool, true, false, _||_}
+use mathlib.Core.Bool.{Bool, false, _||_}
 use mathlib.Core.List.{List}
 use Prim.Native.Nat.{ℕ, _+_, _-_, _≤_, _<_}
 use native.Mathlib.Omega.{arith}
@@ -19,7 +19,7 @@ use Rattle.journal.specs.Worlds.{Answered, World}
 use Rattle.unit.specs.Calls.{hostLimit}
 use Rattle.journal.specs.Entries.{entryFor, entryLength, hostEntry}
 use Rattle.journal.specs.Calls.{advanceBy, advanceOn, changed, guarded, hostOn, hostStepOn, noRoom, operateOn, refusedAs, stepOn, tsdbOn, tssrOn}
-use Rattle.sessions.specs.Session.{Kind, refused, stepped}
+use Rattle.sessions.specs.Session.{refused, stepped}
 use Rattle.sessions.specs.Calling.{Call, advance, entryAt, host-store, onCall, operate, read-register, stepKind, write-tsdb, write-tssr}
 use Rattle.sessions.proofs.Undone.{Fit}
 use Rattle.sessions.proofs.Taken.{let-through, plan}

@@ -1,6 +1,6 @@
 -- A call that took no step leaves the world as it was: refusals, an idle advance and a reading.
 use mathlib.Core.Path.{_≡_, refl}
-use mathlib.Core.Bool.{Bool, true, false, _||_}
+use mathlib.Core.Bool.{_||_}
 use mathlib.Core.List.{List}
 use Prim.Native.Nat.{ℕ, _+_}
 use lib.Dec.{eqb, ltb}
@@ -11,12 +11,12 @@ use Rattle.commands.specs.Effects.{still}
 use Rattle.commands.specs.declared.plans.Answer.{Answer}
 use Rattle.commands.specs.declared.plans.Answer.the-variants as answer
 use Rattle.commands.specs.declared.plans.Plan.{Plan}
-use Rattle.journal.specs.Worlds.{Answered, World, answered}
+use Rattle.journal.specs.Worlds.{Answered, World}
 use Rattle.unit.specs.Calls.{hostLimit}
 use Rattle.journal.specs.Refusals.{checked}
 use Rattle.journal.specs.Entries.{entryFor, hostEntry}
 use Rattle.journal.specs.Calls.{advanceBy, advanceOn, changed, guarded, hostOn, hostStepOn, noRoom, operateOn, refusedAs, stepOn, tsdbOn, tssrOn}
-use Rattle.sessions.specs.Session.{Kind, looked, refused, stepped}
+use Rattle.sessions.specs.Session.{stepped}
 use Rattle.sessions.specs.Calling.{Call, advance, host-store, kindOf, onCall, operate, read-register, stepKind, write-tsdb, write-tssr}
 use Rattle.sessions.proofs.Taken.{plan}
 

@@ -1,16 +1,15 @@
 -- What is known of a step that was taken: it was not refused, so it was entered, and the world after it is fit again.
-use mathlib.Core.Path.{_≡_, refl, sym, ap, _∙_, subst}
-use mathlib.Core.Bool.{Bool, true, false, _||_, true≢false}
+use mathlib.Core.Path.{_≡_, refl, sym, subst}
+use mathlib.Core.Bool.{Bool, true, false, _||_}
 use mathlib.Core.List.{List, _++_}
-use Prim.Native.Nat.{ℕ, _+_, _-_, _*_, _%_, _≤_, _<_}
+use Prim.Native.Nat.{ℕ, _+_, _≤_, _<_}
 use native.Mathlib.Omega.{arith}
 use borrow.Author.Tests.{ltb-false}
-use lib.Dec.{eqb, ltb}
+use lib.Dec.{ltb}
 use lib.ListN.{length, length-append}
 use lib.Seq.{sets}
 use Rattle.lists.specs.Pick.{pick}
 use Rattle.lists.proofs.Cases.{by-test}
-use Rattle.tape.specs.Numbers.{blockBytes}
 use Rattle.state.specs.Changes.{initialized, operated, switchedLine, switchedLock, tsdbWritten}
 use Rattle.state.specs.Legal.{Legal}
 use Rattle.state.specs.declared.Unit.{Unit}
@@ -31,7 +30,7 @@ use Rattle.journal.specs.Worlds.{Answered, World, answered}
 use Rattle.unit.specs.Calls.{hostLimit}
 use Rattle.journal.specs.Entries.{entryBytes, entryFor, entryLength, hostEntry}
 use Rattle.journal.specs.Calls.{advanceBy, advanceOn, backOn, changed, entered, guarded, hostOn, hostStepOn, noRoom, operateOn, refusedAs, stepOn, tsdbOn, tssrOn}
-use Rattle.sessions.specs.Session.{Kind, looked, refused, stepped}
+use Rattle.sessions.specs.Session.{looked, refused, stepped}
 use Rattle.sessions.specs.Calling.{Call, advance, entryAt, host-store, kindOf, onCall, operate, read-register, readKind, stepKind, write-tsdb, write-tssr}
 use Rattle.journal.proofs.Readies.{still-ready}
 use Rattle.journal.proofs.Passed.{Passed, passed}

@@ -1,12 +1,11 @@
 -- A step is undone by its entry: the step back gives the world before it.
 use mathlib.Core.Path.{_≡_, refl, sym, ap, _∙_}
-use mathlib.Core.Bool.{Bool, true, false, _&&_, not}
-use mathlib.Core.List.{List, [], _∷_, _++_}
-use Prim.Native.Nat.{ℕ, _+_, _-_, _*_, _/_, _%_, _≤_, _<_}
+use mathlib.Core.Bool.{Bool, true, false}
+use mathlib.Core.List.{List}
+use Prim.Native.Nat.{ℕ, _+_, _-_, _*_, _/_, _≤_, _<_}
 use native.Mathlib.Omega.{arith}
-use borrow.Author.Tests.{eq-eqb, ne-eqb, le-leb, le-ltb, ltb-false}
-use lib.Dec.{eqb, leb, ltb}
-use lib.ListN.{drop, length, take, length-append}
+use borrow.Author.Tests.{ne-eqb, le-leb, le-ltb, ltb-false}
+use lib.ListN.{drop, length, take}
 use lib.Seq.{drop-at, length-sets, sets, take-at}
 use Rattle.lists.specs.Pick.{pick}
 use Rattle.lists.specs.Places.{gathered, placed}
@@ -18,21 +17,20 @@ use Rattle.state.specs.Legal.{Legal}
 use Rattle.state.specs.declared.Unit.{Unit}
 use Rattle.state.proofs.Legal.{right}
 use Rattle.signals.specs.Message.{messageBytes}
-use Rattle.motions.specs.Parts.{laidBlocks, movedLength}
+use Rattle.motions.specs.Parts.{laidBlocks}
 use Rattle.commands.specs.declared.plans.Answer.the-variants as answer
 use Rattle.commands.specs.declared.plans.Plan.{Plan}
 use Rattle.storing.specs.Stored.{Storable, memoryAfter, reelAfter}
-use Rattle.storing.proofs.DataPlaces.{data-inside, dataTo}
 use Rattle.storing.proofs.Lengths.{length-memory, length-reel}
-use Rattle.storing.proofs.Undone.{memory-undone, reel-undone, unsent}
+use Rattle.storing.proofs.Undone.{memory-undone, reel-undone}
 use Rattle.entries.specs.declared.Entry.{Entry}
 use Rattle.entries.specs.Numbers.{Small, numberLimit}
 use Rattle.journal.specs.declared.Session.{Session}
-use Rattle.journal.specs.Worlds.{Answered, World, answered}
+use Rattle.journal.specs.Worlds.{World, answered}
 use Rattle.journal.specs.Refusals.{checked}
 use Rattle.journal.specs.Entries.{EntryIn, entryBytes, entryFor, entryHead, entryLength, hostEntry, movedPlace}
 use Rattle.journal.specs.Restoring.{entryFits, memoryBack, newestEntry, reelBack}
-use Rattle.journal.specs.Calls.{backOn, broughtBack, entered, guarded, hostStepOn, noRoom, refusedAs, session, stepOn, undoBy, undoOn}
+use Rattle.journal.specs.Calls.{backOn, broughtBack, entered, guarded, hostStepOn, noRoom, stepOn, undoBy, undoOn}
 use Rattle.journal.proofs.Passed.{Passed, passed, sizes}
 use Rattle.journal.proofs.Fits.{host-in, step-in}
 use Rattle.sessions.proofs.Checked.{let-pass}

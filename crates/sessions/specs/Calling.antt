@@ -1,15 +1,11 @@
 -- The journal's calls as the steps of a session. (01, "Calls")
-use mathlib.Core.Bool.{Bool, false}
 use mathlib.Core.List.{List, [], _∷_, _++_}
-use mathlib.Core.Path.{_≡_}
 use Prim.Native.Nat.{ℕ, _+_, _<_}
 use lib.ListN.{length}
 use Rattle.state.specs.Changes.{initialized, operated, tsdbWritten}
-use Rattle.state.specs.declared.Unit.{Unit}
 use Rattle.state.specs.declared.act.Act.{Act}
 use Rattle.commands.specs.declared.plans.Answer.{Answer}
 use Rattle.commands.specs.declared.plans.Answer.the-variants as answer
-use Rattle.commands.specs.declared.plans.Plan.{Plan}
 use Rattle.advance.specs.Steps.{advanced}
 use Rattle.entries.specs.declared.Entry.{Entry}
 use Rattle.unit.specs.declared.calls.Register.{Register}
