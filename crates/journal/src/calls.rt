@@ -1,4 +1,5 @@
-// The eight calls.
+// The eight calls. Each contract says that answer, session, memory, reel and used journal are those of a definition in
+// specs/Calls.antt; the theorems over any sequence of them are listed in crates/sessions/src/lib.rt.
 use crate::JOURNAL_LIMIT;
 use crate::Session;
 use crate::checks::check;

@@ -11,3 +11,4 @@ pub mod Walk
 pub mod Buffers
 pub mod Advancing
 pub mod Formed
+pub mod Unique

@@ -1,1 +1,14 @@
-// Theorems over the journal's calls: what a step back gives, and what any session of calls keeps. No code.
+// The theorems over any sequence of the journal's calls, from a mount on. No code: the calls' contracts (`Leaves` in
+// crates/journal/src/calls.rt) say that each call does what its definition says, and the theorems are about those definitions.
+//
+//   demand 1   a refused call changes nothing                               stays          proofs/Stays.antt
+//              a contract permits one outcome                               leaves-unique  proofs/Unique.antt
+//   demand 3   a mount begins such a session                                mounted        proofs/Mounting.antt
+//              the reel is well formed, the position 0 or after an object   always-good    proofs/Calls.antt
+//              one entry for each step that stands, of the stated length    one-each, journal-is
+//              a step back gives the world before the step                  step-undone, host-undone   proofs/Undone.antt
+//              going back k gives the world before the earliest of the k    back-to, back-exactly      proofs/Calls.antt
+//              refused for room exactly when the entry doesn't fit          room-exactly   proofs/Room.antt
+//              what was undone never was                                    never-was      proofs/Calls.antt
+//
+// A session is a log (specs/Session.antt, for any machine with a law of undo); specs/Calling.antt makes the calls that machine.
