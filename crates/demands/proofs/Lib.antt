@@ -5,3 +5,4 @@ pub mod Kept
 pub mod ReadEnds
 pub mod Nearest
 pub mod Rereads
+pub mod EndOfTape

@@ -1,0 +1,39 @@
+-- "11. Object doesn't fit the reel: NEF, EOT, class 3, unmoved." EOT is not forced: a tape that cannot hold the object stands at or past
+-- the marker, since no object with its gap takes more blocks than the margin.
+use mathlib.Core.Bool.{Bool, true}
+use mathlib.Core.Path.{_≡_}
+use Prim.Native.Nat.{ℕ, _+_, _≤_}
+use native.Mathlib.Omega.{arith}
+use lib.Dec.{leb, ltb}
+use borrow.Author.Tests.{le-leb, ltb-true}
+use Rattle.tape.specs.Numbers.{eotMarker, margin, recordLimit}
+use Rattle.state.specs.declared.Tape.{Tape}
+use Rattle.state.specs.declared.Unit.{Unit}
+use Rattle.state.proofs.Tests.{either}
+use Rattle.motions.specs.Parts.{laidBlocks, objectBlocks}
+use Rattle.motions.specs.declared.parts.Laid.{Laid}
+use Rattle.motions.specs.declared.parts.Object.{Object}
+use Rattle.motions.specs.declared.parts.Object.the-variants as object
+use Rattle.commands.specs.Effects.{statusOf}
+
+object-short : (o : Object) (n : ℕ) → n ≤ recordLimit → objectBlocks o n + 1 ≤ margin
+unfolding objectBlocks
+object-short object.Nothing n h = omega arith
+object-short object.Mark n h = omega arith
+object-short object.Gap n h = omega arith
+object-short object.Record n h = omega arith
+
+-- gap and object together are shorter than the margin
+pub laid-short : (l : Laid) → l .length ≤ recordLimit → laidBlocks l ≤ margin
+unfolding laidBlocks
+laid-short l h =
+    let short : objectBlocks (l .object) (l .length) + 1 ≤ margin = object-short (l .object) (l .length) h in
+    either (λ (n : ℕ). n ≤ margin) (l .«gap_first») _ _ short (omega arith)
+
+-- so XST0's EOT is set wherever step 11 ends the command, the tape standing where the object was to go or behind it
+pub no-room-eot : (u : Unit) (l : Laid) (ie mot : Bool) → l .length ≤ recordLimit → l .at ≤ u .tape .position → ltb (u .lengths .blocks) (l .at + laidBlocks l) ≡ true
+    → statusOf u ie mot .eot ≡ true
+unfolding statusOf
+no-room-eot u l ie mot short below full =
+    let past = ltb-true (u .lengths .blocks) (l .at + laidBlocks l) full in
+    le-leb (eotMarker (u .lengths .blocks)) (u .tape .position) (omega (arith, laid-short l short, past))
