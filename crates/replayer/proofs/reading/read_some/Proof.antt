@@ -1,3 +1,4 @@
+-- `replayer::reading::read_some` is safe and ends.
 use native.Mathlib.Omega.{arith}
 use borrow.Author.Needs.{needs}
 use Rattle.replayer.proofs.reading.read_some.Statement.{statement}

@@ -1,3 +1,4 @@
+-- `replayer::turns::call` is safe and ends.
 use native.Mathlib.Omega.{arith}
 use borrow.Author.Needs.{needs}
 use Rattle.replayer.proofs.turns.call.Statement.{statement}

@@ -1,3 +1,4 @@
+-- `script::words::last` is safe and ends. Its loop keeps its index inside and its slices as long as they came.
 use Prim.Native.Nat.{_+_, _≤_, _<_, _-_, _*_}
 use mathlib.Core.Path.{_≡_, refl}
 use lib.ListN.{length}
