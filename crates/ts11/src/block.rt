@@ -1,0 +1,81 @@
+// The state's block: the head of a journal entry, with the used journal and the mount's journal length where an entry has its data's
+// place and length. A session has one block, and a block that no session has is refused.
+use commands::Answer;
+use entries::Entry;
+use entries::entry_of;
+use entries::head_at;
+use entries::numbers_of;
+use entries::put_head;
+use journal::Outcome;
+use journal::Session;
+
+// The block's length.
+pub const STATE: usize = 128;
+
+// What a block is read as, and whether it is that session's own block.
+pub struct Opened {
+    pub right: bool,
+    pub session: Session,
+}
+
+fn entry_with(s: Session) -> Entry {
+    let unit = s.unit;
+    Entry {
+        unit,
+        data_at: s.used,
+        data_length: s.journal,
+        swb: false,
+        message_at: 0,
+        message_length: 0,
+        reel_at: 0,
+        reel_blocks: 0,
+    }
+}
+
+fn session_with(e: Entry) -> Session {
+    let unit = e.unit;
+    Session {
+        unit,
+        used: e.data_at,
+        journal: e.data_length,
+    }
+}
+
+// The flags are 0 or 1.
+fn flags_right(n: [u32; 32]) -> bool {
+    let registers = (n[4] < 2) & (n[5] < 2) & (n[6] < 2) & (n[7] < 2);
+    let panel = (n[8] < 2) & (n[9] < 2) & (n[10] < 2);
+    let attention = (n[11] < 2) & (n[12] < 2) & (n[13] < 2);
+    let characteristics = (n[16] < 2) & (n[17] < 2) & (n[18] < 2);
+    registers & panel & attention & characteristics
+}
+
+// The numbers that a session has no use for are 0.
+fn rest_zero(n: [u32; 32]) -> bool {
+    let places = (n[23] == 0) & (n[24] == 0) & (n[25] == 0) & (n[26] == 0) & (n[27] == 0);
+    places & (n[28] == 0) & (n[29] == 0) & (n[30] == 0) & (n[31] == 0)
+}
+
+pub fn open(b: &[u8; 128]) -> Opened {
+    let n = head_at(b, 0);
+    let session = session_with(entry_of(n));
+    Opened {
+        right: flags_right(n) & rest_zero(n),
+        session,
+    }
+}
+
+// The session after a step is written over the block; any other answer leaves the block alone.
+pub fn close(b: &mut [u8; 128], o: Outcome) -> usize {
+    let answer = o.answer;
+    match answer {
+        Answer::Done(_) => {
+            let s = o.session;
+            put_head(b, 0, numbers_of(entry_with(s)));
+            0
+        }
+        Answer::Idle => 0,
+        Answer::Refused(n) => n,
+        Answer::BadBlock(_) => 7,
+    }
+}
