@@ -8,6 +8,12 @@ use entries::numbers_of;
 use entries::put_head;
 use journal::Outcome;
 use journal::Session;
+ghost use mathlib.Core.Path.{_≡_};
+ghost use mathlib.Core.Bool.{_&&_};
+ghost use lib.ListN.{length};
+ghost use Rattle.commands.specs.Answers.{numberOf};
+ghost use Rattle.ts11.specs.Block.{entryWith, flagsRight, isBlock, restZero, sessionIn, sessionWith};
+ghost use Rattle.ts11.specs.Given.{blockAfter};
 
 // The block's length.
 pub const STATE: usize = 128;
@@ -18,7 +24,9 @@ pub struct Opened {
     pub session: Session,
 }
 
-fn entry_with(s: Session) -> Entry {
+fn entry_with(s: Session) -> Entry
+    ensures { λ r. ⌜ r ≡ entryWith s ⌝ }
+{
     let unit = s.unit;
     Entry {
         unit,
@@ -32,7 +40,9 @@ fn entry_with(s: Session) -> Entry {
     }
 }
 
-fn session_with(e: Entry) -> Session {
+fn session_with(e: Entry) -> Session
+    ensures { λ r. ⌜ r ≡ sessionWith e ⌝ }
+{
     let unit = e.unit;
     Session {
         unit,
@@ -42,21 +52,27 @@ fn session_with(e: Entry) -> Session {
 }
 
 // The flags are 0 or 1.
-fn flags_right(n: [u32; 32]) -> bool {
-    let registers = (n[4] < 2) & (n[5] < 2) & (n[6] < 2) & (n[7] < 2);
-    let panel = (n[8] < 2) & (n[9] < 2) & (n[10] < 2);
-    let attention = (n[11] < 2) & (n[12] < 2) & (n[13] < 2);
-    let characteristics = (n[16] < 2) & (n[17] < 2) & (n[18] < 2);
+fn flags_right(n: [u32; 32]) -> bool
+    ensures { λ r. ⌜ r ≡ flagsRight n ⌝ }
+{
+    let registers = (n[4] < 2) & ((n[5] < 2) & ((n[6] < 2) & (n[7] < 2)));
+    let panel = (n[8] < 2) & ((n[9] < 2) & (n[10] < 2));
+    let attention = (n[11] < 2) & ((n[12] < 2) & (n[13] < 2));
+    let characteristics = (n[16] < 2) & ((n[17] < 2) & (n[18] < 2));
     registers & panel & attention & characteristics
 }
 
 // The numbers that a session has no use for are 0.
-fn rest_zero(n: [u32; 32]) -> bool {
-    let places = (n[23] == 0) & (n[24] == 0) & (n[25] == 0) & (n[26] == 0) & (n[27] == 0);
-    places & (n[28] == 0) & (n[29] == 0) & (n[30] == 0) & (n[31] == 0)
+fn rest_zero(n: [u32; 32]) -> bool
+    ensures { λ r. ⌜ r ≡ restZero n ⌝ }
+{
+    let free = (n[28] == 0) & ((n[29] == 0) & ((n[30] == 0) & (n[31] == 0)));
+    (n[23] == 0) & ((n[24] == 0) & ((n[25] == 0) & ((n[26] == 0) & ((n[27] == 0) & free))))
 }
 
-pub fn open(b: &[u8; 128]) -> Opened {
+pub fn open(b: &[u8; 128]) -> Opened
+    ensures { λ r. ⌜ (r .right ≡ isBlock (now (b .entry))) × (r .session ≡ sessionIn (now (b .entry))) ⌝ }
+{
     let n = head_at(b, 0);
     let session = session_with(entry_of(n));
     Opened {
@@ -66,7 +82,9 @@ pub fn open(b: &[u8; 128]) -> Opened {
 }
 
 // The session after a step is written over the block; any other answer leaves the block alone.
-pub fn close(b: &mut [u8; 128], o: Outcome) -> usize {
+pub fn close(b: &mut [u8; 128], o: Outcome) -> usize
+    ensures { λ r. ⌜ (r ≡ numberOf (o .answer)) × (now (b .exit) ≡ blockAfter (now (b .entry)) (o .answer) (o .session)) ⌝ }
+{
     let answer = o.answer;
     match answer {
         Answer::Done(_) => {

@@ -4,9 +4,16 @@ use crate::block::open;
 use commands::Answer;
 use state::Act;
 use unit::Register;
+ghost use mathlib.Core.Path.{_≡_};
+ghost use Rattle.commands.specs.Answers.{numberOf};
+ghost use Rattle.journal.specs.Calls.{mountOn};
+ghost use Rattle.ts11.specs.Block.{sessionIn};
+ghost use Rattle.ts11.specs.Given.{Gives, Mounts, Reads, Tells, actOf, advanceGiven, backGiven, faultIn, hostGiven, interruptIn, isStep, operateGiven, registerGiven, registerOf, tsdbGiven, tssrGiven};
 
 // The block at fault, with refusal 7, else 0.
-fn fault_in(a: Answer) -> usize {
+fn fault_in(a: Answer) -> usize
+    ensures { λ r. ⌜ r ≡ faultIn a ⌝ }
+{
     match a {
         Answer::BadBlock(k) => k,
         Answer::Refused(_) => 0,
@@ -16,7 +23,9 @@ fn fault_in(a: Answer) -> usize {
 }
 
 // Whether a step was taken.
-fn is_step(a: Answer) -> bool {
+fn is_step(a: Answer) -> bool
+    ensures { λ r. ⌜ r ≡ isStep a ⌝ }
+{
     match a {
         Answer::Done(_) => true,
         Answer::Idle => false,
@@ -25,7 +34,9 @@ fn is_step(a: Answer) -> bool {
     }
 }
 
-fn interrupts(a: Answer) -> bool {
+fn interrupts(a: Answer) -> bool
+    ensures { λ r. ⌜ r ≡ interruptIn a ⌝ }
+{
     match a {
         Answer::Done(i) => i,
         Answer::Idle => false,
@@ -44,10 +55,20 @@ pub extern "C" fn ts11_mount(
     online: bool,
     locked: bool,
     block: &mut usize,
-) -> usize {
+) -> usize
+    ensures { λ r. ⌜ Mounts (now (state .entry)) (mountOn (sessionIn (now (state .entry))) «memory_length» (now (reel .entry)) «journal_length» end online locked) r (now (state .exit)) (now (block .exit)) ⌝ }
+{
     let old = open(state);
     let session = old.session;
-    let o = journal::mount(session, memory_length, reel, journal_length, end, online, locked);
+    let o = journal::mount(
+        session,
+        memory_length,
+        reel,
+        journal_length,
+        end,
+        online,
+        locked,
+    );
     let answer = o.answer;
     *block = fault_in(answer);
     close(state, o)
@@ -60,12 +81,17 @@ pub extern "C" fn ts11_write_tsdb(
     reel: &mut [u8],
     journal: &mut [u8],
     word: u16,
-) -> usize {
+) -> usize
+    ensures { λ r. ⌜ Gives (now (state .entry)) (tsdbGiven (now (state .entry)) (now (memory .entry)) (now (reel .entry)) (now (journal .entry)) word) r (now (state .exit)) (now (memory .exit)) (now (reel .exit)) (now (journal .exit)) ⌝ }
+{
     let s = open(state);
     if !s.right {
         return 1;
     }
-    close(state, journal::write_tsdb(s.session, memory, reel, journal, word))
+    close(
+        state,
+        journal::write_tsdb(s.session, memory, reel, journal, word),
+    )
 }
 
 #[no_mangle]
@@ -75,7 +101,9 @@ pub extern "C" fn ts11_write_tssr(
     reel: &mut [u8],
     journal: &mut [u8],
     _word: u16,
-) -> usize {
+) -> usize
+    ensures { λ r. ⌜ Gives (now (state .entry)) (tssrGiven (now (state .entry)) (now (memory .entry)) (now (reel .entry)) (now (journal .entry))) r (now (state .exit)) (now (memory .exit)) (now (reel .exit)) (now (journal .exit)) ⌝ }
+{
     let s = open(state);
     if !s.right {
         return 1;
@@ -83,7 +111,9 @@ pub extern "C" fn ts11_write_tssr(
     close(state, journal::write_tssr(s.session, memory, reel, journal))
 }
 
-fn act_of(write_lock: bool, on: bool) -> Act {
+fn act_of(write_lock: bool, on: bool) -> Act
+    ensures { λ r. ⌜ r ≡ actOf «write_lock» on ⌝ }
+{
     if write_lock {
         if on { Act::Lock } else { Act::Unlock }
     } else {
@@ -99,19 +129,28 @@ pub extern "C" fn ts11_operate(
     journal: &mut [u8],
     write_lock: bool,
     on: bool,
-) -> usize {
+) -> usize
+    ensures { λ r. ⌜ Gives (now (state .entry)) (operateGiven (now (state .entry)) (now (memory .entry)) (now (reel .entry)) (now (journal .entry)) «write_lock» on) r (now (state .exit)) (now (memory .exit)) (now (reel .exit)) (now (journal .exit)) ⌝ }
+{
     let s = open(state);
     if !s.right {
         return 1;
     }
-    close(state, journal::operate(s.session, memory, reel, journal, act_of(write_lock, on)))
+    close(
+        state,
+        journal::operate(s.session, memory, reel, journal, act_of(write_lock, on)),
+    )
 }
 
-fn register_of(tssr: bool) -> Register {
+fn register_of(tssr: bool) -> Register
+    ensures { λ r. ⌜ r ≡ registerOf tssr ⌝ }
+{
     if tssr { Register::Tssr } else { Register::Tsba }
 }
 
-fn number_in(a: Answer) -> usize {
+fn number_in(a: Answer) -> usize
+    ensures { λ r. ⌜ r ≡ numberOf a ⌝ }
+{
     match a {
         Answer::Done(_) => 0,
         Answer::Idle => 0,
@@ -121,7 +160,9 @@ fn number_in(a: Answer) -> usize {
 }
 
 #[no_mangle]
-pub extern "C" fn ts11_read_register(state: &[u8; 128], tssr: bool, word: &mut u16) -> usize {
+pub extern "C" fn ts11_read_register(state: &[u8; 128], tssr: bool, word: &mut u16) -> usize
+    ensures { λ r. ⌜ Reads (registerGiven (now (state .entry)) tssr) r (now (word .exit)) ⌝ }
+{
     let s = open(state);
     if !s.right {
         *word = 0;
@@ -142,12 +183,17 @@ pub extern "C" fn ts11_host_store(
     journal: &mut [u8],
     place: usize,
     bytes: &[u8],
-) -> usize {
+) -> usize
+    ensures { λ r. ⌜ Gives (now (state .entry)) (hostGiven (now (state .entry)) (now (memory .entry)) (now (reel .entry)) (now (journal .entry)) place (now (bytes .entry))) r (now (state .exit)) (now (memory .exit)) (now (reel .entry)) (now (journal .exit)) ⌝ }
+{
     let s = open(state);
     if !s.right {
         return 1;
     }
-    close(state, journal::host_store(s.session, memory, reel, journal, place, bytes))
+    close(
+        state,
+        journal::host_store(s.session, memory, reel, journal, place, bytes),
+    )
 }
 
 #[no_mangle]
@@ -159,7 +205,10 @@ pub extern "C" fn ts11_advance(
     stepped: &mut bool,
     interrupt: &mut bool,
     block: &mut usize,
-) -> usize {
+) -> usize
+    ensures { λ r. ⌜ Gives (now (state .entry)) (advanceGiven (now (state .entry)) (now (memory .entry)) (now (reel .entry)) (now (journal .entry))) r (now (state .exit)) (now (memory .exit)) (now (reel .exit)) (now (journal .exit)) ⌝ }
+    ensures { λ _. ⌜ Tells (advanceGiven (now (state .entry)) (now (memory .entry)) (now (reel .entry)) (now (journal .entry))) (now (stepped .exit)) (now (interrupt .exit)) (now (block .exit)) ⌝ }
+{
     let s = open(state);
     if !s.right {
         *stepped = false;
@@ -182,7 +231,9 @@ pub extern "C" fn ts11_step_back(
     memory: &mut [u8],
     reel: &mut [u8],
     journal: &[u8],
-) -> usize {
+) -> usize
+    ensures { λ r. ⌜ Gives (now (state .entry)) (backGiven (now (state .entry)) (now (memory .entry)) (now (reel .entry)) (now (journal .entry))) r (now (state .exit)) (now (memory .exit)) (now (reel .exit)) (now (journal .entry)) ⌝ }
+{
     let s = open(state);
     if !s.right {
         return 1;

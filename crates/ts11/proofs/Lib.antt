@@ -1,0 +1,3 @@
+-- Laws of the state's block, and the ways out of an exported call.
+pub mod Written
+pub mod Ways

@@ -1,0 +1,68 @@
+-- `close` meets its contract: a step's session is written over the block, any other answer leaves it.
+use mathlib.Core.Path.{_≡_, refl}
+use lib.ListN.{length}
+use denote.Ref.{now}
+use Rattle.commands.specs.Answers.{numberOf}
+use Rattle.ts11.specs.Given.{blockAfter}
+use Rattle.ts11.proofs.Written.{written}
+use borrow.Author.Needs.{needs}
+use Rattle.ts11.proofs.block.close.Statement.{statement}
+use Rattle.ts11.proofs.block.close.Tie as tie
+use Rattle.ts11.proofs.block.close.Reads as reads
+use Rattle.ts11.proofs.block.close.Lts as lts
+use Rattle.entries.proofs.put_head.Reads as put-head-reads
+use Rattle.entries.proofs.numbers_of.Reads as numbers-of-reads
+use Rattle.ts11.proofs.block.entry_with.Reads as entry-with-reads
+
+enum-told : tie.Need-enum-told
+enum-told c = search needs
+
+entry-with-requires : tie.Need-entry-with-requires
+entry-with-requires c κs = search needs
+
+numbers-of-requires : tie.Need-numbers-of-requires
+numbers-of-requires c κs = search needs
+
+put-head-requires : tie.Need-put-head-requires
+put-head-requires c κs = search needs
+
+enum-told-2 : tie.Need-enum-told-2
+enum-told-2 c = search needs
+
+enum-known-answer : tie.Need-enum-known-answer
+enum-known-answer c = search needs
+
+enum-told-3 : tie.Need-enum-told-3
+enum-told-3 c = search needs
+
+returns : tie.Need-returns
+unfolding numberOf blockAfter
+returns c = let l : length (now (c .before .before .before .before .before .before .before .args .b)) ≡ 128 = search needs in rw (c .before .before .before .before .before .enum-told .given .1) (refl, written _ _ _ _ _ l (c .before .before .entry-with .ensures) (c .before .numbers-of .ensures) (c .put-head .ensures))
+
+returns-2 : tie.Need-returns-2
+unfolding numberOf blockAfter
+returns-2 c = rw (c .enum-told2 .given .1) (refl, refl)
+
+returns-3 : tie.Need-returns-3
+unfolding numberOf blockAfter
+returns-3 c = rw (c .before .answer .given .1) (refl, refl)
+
+returns-4 : tie.Need-returns-4
+unfolding numberOf blockAfter
+returns-4 c = rw (c .enum-told3 .given .1) (refl, refl)
+
+pub close-spec : {M : Type 1} → statement M
+close-spec =
+    tie.close
+    (tie.spec
+    enum-told
+    entry-with-requires
+    numbers-of-requires
+    put-head-requires
+    enum-told-2
+    enum-known-answer
+    enum-told-3
+    returns
+    returns-2
+    returns-3
+    returns-4)

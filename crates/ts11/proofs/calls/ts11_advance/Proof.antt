@@ -1,0 +1,58 @@
+-- `ts11_advance` meets its contract: as the other calls, and its answer is told beside its number.
+use Rattle.ts11.proofs.Ways.{goes, goes-told, stops, stops-told}
+use Rattle.ts11.specs.Given.{advanceGiven}
+use Rattle.journal.specs.Calls.{advanceOn}
+use borrow.Author.Needs.{needs}
+use Rattle.ts11.proofs.calls.ts11_advance.Statement.{statement}
+use Rattle.ts11.proofs.calls.ts11_advance.Tie as tie
+
+open-requires : tie.Need-open-requires
+open-requires c κs = search needs
+
+returns : tie.Need-returns
+unfolding advanceGiven
+returns c = (stops _ _ _ _ _ (c .before .before .«open» .ensures .0) _ (c .if1 .taken), stops-told _ _ _ _ _ (c .before .before .«open» .ensures .0) _ (c .if1 .taken))
+
+advance-requires : tie.Need-advance-requires
+advance-requires c κs = search needs
+
+is-step-requires : tie.Need-is-step-requires
+is-step-requires c κs = search needs
+
+interrupts-requires : tie.Need-interrupts-requires
+interrupts-requires c κs = search needs
+
+fault-in-requires : tie.Need-fault-in-requires
+fault-in-requires c κs = search needs
+
+close-requires : tie.Need-close-requires
+close-requires c κs = search needs
+
+same-length : tie.Need-same-length
+same-length c = search needs
+
+same-length-2 : tie.Need-same-length-2
+same-length-2 c = search needs
+
+same-length-3 : tie.Need-same-length-3
+same-length-3 c = search needs
+
+returns-2 : tie.Need-returns-2
+unfolding advanceGiven
+returns-2 c = (goes _ _ _ _ _ (c .before .before .before .before .before .before .before .before .before .before .before .before .before .before .before .before .before .before .«open» .ensures .0) advanceOn _ _ _ _ _ (c .before .before .before .before .before .before .before .before .before .before .before .before .before .before .before .before .if1 .left) (c .before .before .before .before .before .before .before .before .before .before .before .before .before .before .before .before .before .before .«open» .ensures .1) (c .before .before .before .before .before .before .before .before .before .before .before .advance .ensures) _ _ (c .close .ensures .0) (c .close .ensures .1), goes-told _ _ _ _ _ (c .before .before .before .before .before .before .before .before .before .before .before .before .before .before .before .before .before .before .«open» .ensures .0) advanceOn _ _ _ _ _ (c .before .before .before .before .before .before .before .before .before .before .before .before .before .before .before .before .if1 .left) (c .before .before .before .before .before .before .before .before .before .before .before .before .before .before .before .before .before .before .«open» .ensures .1) (c .before .before .before .before .before .before .before .before .before .before .before .advance .ensures) _ _ _ (c .before .before .before .before .is-step .ensures) (c .before .before .before .interrupts .ensures) (c .before .before .fault-in .ensures))
+
+pub ts11-advance-spec : {M : Type 1} → statement M
+ts11-advance-spec =
+    tie.close
+    (tie.spec
+    open-requires
+    returns
+    advance-requires
+    is-step-requires
+    interrupts-requires
+    fault-in-requires
+    close-requires
+    same-length
+    same-length-2
+    same-length-3
+    returns-2)

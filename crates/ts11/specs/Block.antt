@@ -1,0 +1,57 @@
+-- The state's block: 32 numbers of four bytes, low byte first, as in the head of a journal entry; the used journal and the mount's journal
+-- length stand where an entry has its data's place and length, and the numbers after them are 0.
+use mathlib.Core.Bool.{Bool, false, _&&_}
+use mathlib.Core.List.{List}
+use Prim.Native.Nat.{ℕ}
+use lib.Dec.{eqb, ltb}
+use Rattle.entries.specs.Numbers.{entryOf, nth, numbersOf}
+use Rattle.entries.specs.Bytes.{headBytes, headNumbers}
+use Rattle.entries.specs.declared.Entry.{Entry}
+use Rattle.journal.specs.declared.Session.{Session}
+
+-- a session as an entry that keeps no bytes, and back
+unfoldable pub entryWith : Session → Entry
+entryWith s =
+    record {
+      unit = s .unit;
+      «data_at» = s .used;
+      «data_length» = s .journal;
+      swb = false;
+      «message_at» = 0;
+      «message_length» = 0;
+      «reel_at» = 0;
+      «reel_blocks» = 0;
+    }
+
+unfoldable pub sessionWith : Entry → Session
+sessionWith e = record { unit = e .unit; used = e .«data_at»; journal = e .«data_length» }
+
+-- the block of a session
+unfoldable pub blockOf : Session → List ℕ
+blockOf s = headBytes (numbersOf (entryWith s))
+
+-- the session that a block is read as, whatever its bytes
+unfoldable pub sessionIn : List ℕ → Session
+sessionIn b = sessionWith (entryOf (headNumbers 32 b))
+
+-- number i is a flag's; number i is 0
+abbrev flag : List ℕ → ℕ → Bool
+flag n i = ltb (nth n i) 2
+
+abbrev unused : List ℕ → ℕ → Bool
+unused n i = eqb (nth n i) 0
+
+unfoldable pub flagsRight : List ℕ → Bool
+flagsRight n =
+    flag n 4 && (flag n 5 && (flag n 6 && flag n 7))
+    && (flag n 8 && (flag n 9 && flag n 10))
+    && (flag n 11 && (flag n 12 && flag n 13))
+    && (flag n 16 && (flag n 17 && flag n 18))
+
+unfoldable pub restZero : List ℕ → Bool
+restZero n =
+    unused n 23 && (unused n 24 && (unused n 25 && (unused n 26 && (unused n 27 && (unused n 28 && (unused n 29 && (unused n 30 && unused n 31)))))))
+
+-- the bytes are some session's block: the laws `block-own` and `block-is` say that this is so exactly when they are the block of what they are read as
+unfoldable pub isBlock : List ℕ → Bool
+isBlock b = flagsRight (headNumbers 32 b) && restZero (headNumbers 32 b)
