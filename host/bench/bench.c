@@ -1,0 +1,413 @@
+/*
+ * The library against plain C: the same operations on the same inputs, in one run.
+ *
+ * Each line runs both sides in turn for some rounds, and keeps the quickest of each side's times, so that what else the machine does falls
+ * out. A side's state is put back between two operations by copying its 128 bytes, so every operation starts from the same place.
+ */
+#include <stdio.h>
+#include <stdlib.h>
+#include <string.h>
+#include <time.h>
+
+#include "plain.h"
+#include "ts11.h"
+
+static int rounds = 9;
+#define PACKET 0x100  /* where the command packet stands */
+#define MESSAGE 0x200 /* the message buffer */
+#define DATA 0x1000   /* the data buffer */
+
+/* One implementation of the calls that are measured. */
+typedef struct side {
+	const char *name;
+	ts11_answer (*mount)(ts11_state *, size_t, const uint8_t *, size_t, size_t, size_t, bool, bool, size_t *);
+	ts11_answer (*write_tsdb)(ts11_state *, uint8_t *, size_t, uint8_t *, size_t, uint8_t *, size_t, uint16_t);
+	ts11_answer (*host_store)(ts11_state *, uint8_t *, size_t, const uint8_t *, size_t, uint8_t *, size_t, size_t,
+	                          const uint8_t *, size_t);
+	ts11_answer (*advance)(ts11_state *, uint8_t *, size_t, uint8_t *, size_t, uint8_t *, size_t, bool *, bool *,
+	                       size_t *);
+	ts11_answer (*step_back)(ts11_state *, uint8_t *, size_t, uint8_t *, size_t, const uint8_t *, size_t);
+} side;
+
+static const side LIBRARY = { "library", ts11_mount, ts11_write_tsdb, ts11_host_store, ts11_advance, ts11_step_back };
+static const side PLAIN = { "plain C", plain_mount, plain_write_tsdb, plain_host_store, plain_advance,
+	                    plain_step_back };
+
+/* A host: a state and its three buffers. */
+typedef struct host {
+	const side *with;
+	ts11_state state;
+	uint8_t *memory, *reel, *journal;
+	size_t memory_length, reel_length, journal_length;
+} host;
+
+static void wrong(const char *what, const host *h, size_t answer)
+{
+	printf("bench: %s: %s answered %zu\n", what, h->with->name, answer);
+	exit(1);
+}
+
+static void *room(size_t n)
+{
+	void *p = calloc(n, 1);
+	if (p == NULL) {
+		printf("bench: no room for %zu bytes\n", n);
+		exit(1);
+	}
+	return p;
+}
+
+static host made(const side *with, size_t memory, size_t blocks, size_t journal)
+{
+	host h = { .with = with };
+	h.memory_length = memory;
+	h.reel_length = blocks * TS11_BLOCK;
+	h.journal_length = journal;
+	h.memory = room(h.memory_length);
+	h.reel = room(h.reel_length);
+	h.journal = room(h.journal_length + 1);
+	return h;
+}
+
+static void freed(host *h)
+{
+	free(h->memory);
+	free(h->reel);
+	free(h->journal);
+}
+
+static void mount(host *h, size_t end)
+{
+	size_t block;
+	size_t a = h->with->mount(&h->state, h->memory_length, h->reel, h->reel_length, h->journal_length, end, true, false,
+	                          &block);
+	if (a != TS11_DONE)
+		wrong("mount", h, a);
+}
+
+static void word(host *h, size_t at, size_t w)
+{
+	h->memory[at] = w & 255;
+	h->memory[at + 1] = w >> 8 & 255;
+}
+
+static void packet(host *h, unsigned header, size_t w1, size_t w2, size_t w3)
+{
+	word(h, PACKET, header);
+	word(h, PACKET + 2, w1);
+	word(h, PACKET + 4, w2);
+	word(h, PACKET + 6, w3);
+}
+
+static void tsdb(host *h)
+{
+	size_t a = h->with->write_tsdb(&h->state, h->memory, h->memory_length, h->reel, h->reel_length, h->journal,
+	                               h->journal_length, TS11_TSDB(PACKET));
+	if (a != TS11_DONE)
+		wrong("TSDB write", h, a);
+}
+
+static void advance(host *h)
+{
+	bool stepped, interrupt;
+	size_t block;
+	size_t a = h->with->advance(&h->state, h->memory, h->memory_length, h->reel, h->reel_length, h->journal,
+	                            h->journal_length, &stepped, &interrupt, &block);
+	if (a != TS11_DONE || !stepped)
+		wrong("advance", h, a);
+}
+
+static void back(host *h)
+{
+	size_t a = h->with->step_back(&h->state, h->memory, h->memory_length, h->reel, h->reel_length, h->journal,
+	                              h->journal_length);
+	if (a != TS11_DONE)
+		wrong("step back", h, a);
+}
+
+static void store(host *h, size_t n)
+{
+	static const uint8_t bytes[TS11_HOST_STORE_MAX];
+	size_t a = h->with->host_store(&h->state, h->memory, h->memory_length, h->reel, h->reel_length, h->journal,
+	                               h->journal_length, DATA, bytes, n);
+	if (a != TS11_DONE)
+		wrong("host store", h, a);
+}
+
+/* A command to its end; the class must be the one that is expected. */
+static void run(host *h, unsigned header, size_t w1, size_t w2, size_t w3, unsigned class)
+{
+	packet(h, header | TS11_ACK | TS11_CVC, w1, w2, w3);
+	tsdb(h);
+	advance(h);
+	if (ts11_state_number(&h->state, TS11_AT_CLASS) != class)
+		wrong("a command's class", h, ts11_state_number(&h->state, TS11_AT_CLASS));
+}
+
+static void give_message_buffer(host *h)
+{
+	word(h, DATA, MESSAGE);
+	word(h, DATA + 2, 0);
+	word(h, DATA + 4, TS11_MESSAGE_BYTES);
+	word(h, DATA + 6, 0);
+	run(h, TS11_WRITE_CHARACTERISTICS, DATA, 0, 8, TS11_CLASS_NORMAL);
+}
+
+static void fill_data(host *h, size_t n)
+{
+	for (size_t i = 0; i < n; i++)
+		h->memory[DATA + i] = (uint8_t)(i * 7 + (i >> 8) * 13 + 5);
+}
+
+/* Forgets the journal: the steps so far cannot be undone any more. */
+static void forget(host *h)
+{
+	memset(h->state.bytes + TS11_AT_USED, 0, 4);
+}
+
+static void write_records(host *h, size_t count, size_t n)
+{
+	fill_data(h, n);
+	for (size_t i = 0; i < count; i++) {
+		run(h, TS11_WRITE, DATA, 0, n, TS11_CLASS_NORMAL);
+		forget(h);
+	}
+}
+
+static void rewind_tape(host *h)
+{
+	run(h, TS11_REWIND, 0, 0, 0, TS11_CLASS_NORMAL);
+	forget(h);
+}
+
+/* ---- what is measured ---- */
+
+/* An operation from a state that stands in `from`, done `times` times. */
+typedef void operation(host *h, const ts11_state *from, size_t times);
+
+static void many_mounts(host *h, const ts11_state *from, size_t times)
+{
+	size_t end = ts11_state_number(from, TS11_AT_END);
+	for (size_t i = 0; i < times; i++)
+		mount(h, end);
+}
+
+static void many_advances(host *h, const ts11_state *from, size_t times)
+{
+	for (size_t i = 0; i < times; i++) {
+		h->state = *from;
+		advance(h);
+	}
+}
+
+static void many_writes_and_backs(host *h, const ts11_state *from, size_t times)
+{
+	for (size_t i = 0; i < times; i++) {
+		h->state = *from;
+		tsdb(h);
+		back(h);
+	}
+}
+
+static void many_advances_and_backs(host *h, const ts11_state *from, size_t times)
+{
+	for (size_t i = 0; i < times; i++) {
+		h->state = *from;
+		advance(h);
+		back(h);
+	}
+}
+
+static void many_stores_and_backs(host *h, const ts11_state *from, size_t times)
+{
+	for (size_t i = 0; i < times; i++) {
+		h->state = *from;
+		store(h, 64);
+		back(h);
+	}
+}
+
+/* Only the step back: `from` stands after the step, and the journal's entry below it stays. */
+static void many_backs(host *h, const ts11_state *from, size_t times)
+{
+	for (size_t i = 0; i < times; i++) {
+		h->state = *from;
+		back(h);
+	}
+}
+
+static double now(void)
+{
+	struct timespec t;
+	clock_gettime(CLOCK_MONOTONIC, &t);
+	return (double)t.tv_sec + (double)t.tv_nsec * 1e-9;
+}
+
+static double timed(operation *op, host *h, const ts11_state *from, size_t times)
+{
+	double t = now();
+	op(h, from, times);
+	return (now() - t) / (double)times;
+}
+
+/* Seconds for one operation, the least of all rounds, for each side in turn. */
+static void measure(operation *op, host h[2], size_t times, double best[2])
+{
+	const ts11_state from[2] = { h[0].state, h[1].state };
+	best[0] = best[1] = 1e9;
+	for (int round = 0; round < rounds; round++)
+		for (int i = 0; i < 2; i++) {
+			double t = timed(op, &h[i], &from[i], times);
+			if (t < best[i])
+				best[i] = t;
+		}
+}
+
+/* Both sides have done the same, if they stand alike. */
+static void same(const char *line, const host h[2])
+{
+	if (memcmp(&h[0].state, &h[1].state, sizeof h[0].state) != 0 ||
+	    memcmp(h[0].memory, h[1].memory, h[0].memory_length) != 0 ||
+	    memcmp(h[0].reel, h[1].reel, h[0].reel_length) != 0) {
+		printf("bench: %s: the two sides differ\n", line);
+		exit(1);
+	}
+}
+
+/* One line of the table. Bytes are those that an operation must look at or move; 0 where calls are what counts. */
+static void report(const char *line, operation *op, host h[2], size_t times, size_t bytes)
+{
+	double best[2];
+	measure(op, h, times, best);
+	same(line, h);
+	printf("| %-42s |", line);
+	for (int i = 0; i < 2; i++) {
+		if (bytes != 0)
+			printf(" %9.2f us %8.1f MB/s |", best[i] * 1e6, (double)bytes / best[i] * 1e-6);
+		else
+			printf(" %9.2f us %8.0f k/s  |", best[i] * 1e6, 1e-3 / best[i]);
+	}
+	printf(" %5.2f |\n", best[0] / best[1]);
+	fflush(stdout);
+}
+
+static void both(host h[2], size_t memory, size_t blocks, size_t journal)
+{
+	h[0] = made(&LIBRARY, memory, blocks, journal);
+	h[1] = made(&PLAIN, memory, blocks, journal);
+	for (int i = 0; i < 2; i++) {
+		mount(&h[i], 0);
+		give_message_buffer(&h[i]);
+		forget(&h[i]);
+	}
+}
+
+static void both_freed(host h[2])
+{
+	freed(&h[0]);
+	freed(&h[1]);
+}
+
+static void bench_mount(void)
+{
+	host h[2];
+	both(h, TS11_MEMORY_MAX, TS11_REEL_BLOCKS_MAX, 65536);
+	for (int i = 0; i < 2; i++)
+		write_records(&h[i], (TS11_REEL_BLOCKS_MAX - TS11_EOT_MARGIN) / 33 - 1, TS11_RECORD_MAX);
+	size_t end = ts11_state_number(&h[0].state, TS11_AT_END);
+	report("mount, full reel of 16,384-byte records", many_mounts, h, 1, end * TS11_BLOCK);
+	both_freed(h);
+}
+
+static void bench_space(void)
+{
+	host h[2];
+	both(h, TS11_MEMORY_MAX, 16384, 65536);
+	for (int i = 0; i < 2; i++) {
+		write_records(&h[i], 10000, 80);
+		rewind_tape(&h[i]);
+		packet(&h[i], TS11_SPACE_RECORDS | TS11_ACK, 10000, 0, 0);
+		tsdb(&h[i]);
+	}
+	report("space over 10,000 records of 80 bytes", many_advances, h, 4, (size_t)10000 * TS11_BLOCK);
+	both_freed(h);
+}
+
+static const struct {
+	size_t bytes, times;
+} SIZES[] = { { 80, 20000 }, { 512, 10000 }, { 8192, 1500 }, { 16384, 800 } };
+
+static void bench_transfer(const char *what, unsigned command, operation *op)
+{
+	for (size_t k = 0; k < sizeof SIZES / sizeof SIZES[0]; k++) {
+		host h[2];
+		size_t n = SIZES[k].bytes;
+		char line[64];
+		both(h, TS11_MEMORY_MAX, 4096, 1 << 20);
+		for (int i = 0; i < 2; i++) {
+			write_records(&h[i], 1, n);
+			if (command == TS11_READ_NEXT)
+				rewind_tape(&h[i]);
+			packet(&h[i], command | TS11_ACK, DATA, 0, n);
+			tsdb(&h[i]);
+		}
+		snprintf(line, sizeof line, "%s, %zu bytes", what, n);
+		report(line, op, h, SIZES[k].times, n);
+		both_freed(h);
+	}
+}
+
+static void bench_steps(void)
+{
+	host h[2];
+	both(h, TS11_MEMORY_MAX, 4096, 1 << 20);
+	report("TSDB write and its step back", many_writes_and_backs, h, 50000, 0);
+	report("host store of 64 bytes and its step back", many_stores_and_backs, h, 50000, 0);
+	for (int i = 0; i < 2; i++) {
+		packet(&h[i], TS11_GET_STATUS | TS11_ACK, 0, 0, 0);
+		tsdb(&h[i]);
+	}
+	report("get status and its step back", many_advances_and_backs, h, 50000, 0);
+	both_freed(h);
+}
+
+/* The same step back at three sizes of the buffers: its time is that of the bytes it brings back, not theirs. */
+static void bench_back(void)
+{
+	static const struct {
+		size_t memory, blocks, journal;
+		const char *name;
+	} at[] = { { 16384, 128, 65536, "small" },
+		   { 65536, 4096, 1 << 20, "middle" },
+		   { TS11_MEMORY_MAX, TS11_REEL_BLOCKS_MAX, TS11_JOURNAL_MAX, "full size" } };
+	for (size_t k = 0; k < sizeof at / sizeof at[0]; k++) {
+		host h[2];
+		char line[64];
+		both(h, at[k].memory, at[k].blocks, at[k].journal);
+		for (int i = 0; i < 2; i++) {
+			fill_data(&h[i], 512);
+			run(&h[i], TS11_WRITE, DATA, 0, 512, TS11_CLASS_NORMAL);
+		}
+		snprintf(line, sizeof line, "step back of a 512-byte write, %s", at[k].name);
+		report(line, many_backs, h, 20000, 0);
+		both_freed(h);
+	}
+}
+
+/* `bench ROUNDS`: fewer rounds are quicker and less exact. */
+int main(int argc, char **argv)
+{
+	if (argc > 1)
+		rounds = atoi(argv[1]);
+	printf("| %-42s | %-25s | %-25s | ratio |\n", "operation", "library", "plain C");
+	printf("|---|---|---|---|\n");
+	bench_mount();
+	bench_space();
+	bench_transfer("read", TS11_READ_NEXT, many_advances);
+	bench_transfer("write", TS11_WRITE, many_advances);
+	bench_transfer("write and its step back", TS11_WRITE, many_advances_and_backs);
+	bench_transfer("read and its step back", TS11_READ_NEXT, many_advances_and_backs);
+	bench_steps();
+	bench_back();
+	return 0;
+}
