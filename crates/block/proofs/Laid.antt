@@ -43,6 +43,6 @@ sealed b body h e =
 
 -- the check of b₅, stored into it
 module _ (b₀ b₅ b₆ d : List ℕ) (k n i s : ℕ) (long : length b₀ ≡ 512) (low : length d ≤ 504) where
-  pub block-laid : b₅ ≡ sets b₀ 0 (bodyOf k n i d) → s ≡ wordSum (take 510 b₅) → b₆ ≡ sets b₅ 510 (wordBytes (s % 65535)) → b₆ ≡ blockOf k n i d
+  pub block-laid : b₅ ≡ sets b₀ 0 (bodyOf k n i d) → s % 65535 ≡ wordSum (take 510 b₅) % 65535 → b₆ ≡ sets b₅ 510 (wordBytes (s % 65535)) → b₆ ≡ blockOf k n i d
   unfolding blockOf
   block-laid e p q = rw (q, p, e) (sealed b₀ (bodyOf k n i d) long (length-body k n i d low))

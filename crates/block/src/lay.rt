@@ -1,7 +1,7 @@
 // Laying one block: its data bytes go from memory straight into their place.
+use crate::sum::check_sum;
 use lists::gather;
 use lists::put_word;
-use lists::word_sum;
 use lists::zero_fill;
 ghost use mathlib.Core.Path.{_≡_};
 ghost use Prim.Native.Nat.{_+_, _%_, _<_, _≤_};
@@ -29,6 +29,6 @@ pub fn lay_block(
     let pad = 6 + used;
     gather(&mut b[6..pad], mem, a, swb);
     zero_fill(&mut b[pad..510]);
-    let check = word_sum(b, 255) % 65535;
+    let check = check_sum(b, 255) % 65535;
     put_word(b, 510, check);
 }

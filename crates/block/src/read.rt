@@ -1,7 +1,7 @@
 // The block reader. Kind, length, index, padding and check are looked at in this order.
+use crate::sum::check_sum;
 use lists::wide;
 use lists::word;
-use lists::word_sum;
 use tape::Block;
 use tape::Geometry;
 ghost use mathlib.Core.Bool.{true};
@@ -63,8 +63,8 @@ fn body_right(b: &[u8], used: usize) -> bool
 {
     let words = 3 + (used + 1) / 2;
     let cut = 2 * words;
-    let head = word_sum(b, words);
-    let rest = word_sum(&b[cut..510], 255 - words);
+    let head = check_sum(b, words);
+    let rest = check_sum(&b[cut..510], 255 - words);
     let shared = (used % 2 == 0) | (wide(b[6 + used]) == 0);
     (shared & (rest == 0)) & (word(b, 510) == (head + rest) % 65535)
 }

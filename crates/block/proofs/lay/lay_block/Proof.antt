@@ -42,8 +42,8 @@ part-zero-fill-end c = search needs
 zero-fill-requires : tie.Need-zero-fill-requires
 zero-fill-requires c κs = search needs
 
-word-sum-requires : tie.Need-word-sum-requires
-word-sum-requires c κs = search needs
+check-sum-requires : tie.Need-check-sum-requires
+check-sum-requires c κs = search needs
 
 put-word-requires-4 : tie.Need-put-word-requires-4
 put-word-requires-4 c κs = search needs
@@ -64,7 +64,7 @@ returns c =
     let lengths = length-gathered (a .swb) (a .mem .now) (a .a) in
     let long = start .pre .0 in
     let low = start .pre .4 in
-    block-laid (a .b .now) _ _ (bytes (a .used)) _ _ _ _ long (rw lengths low) (body-laid _ _ _ _ _ _ _ _ _ _ bytes lengths long low (u .put-word .ensures) (v .put-word2 .ensures) (w .put-word3 .ensures) (g .gather .ensures) (z .zero-fill .ensures)) (c .before .before .before .before .word-sum .ensures .0) (c .before .before .put-word4 .ensures)
+    block-laid (a .b .now) _ _ (bytes (a .used)) _ _ _ _ long (rw lengths low) (body-laid _ _ _ _ _ _ _ _ _ _ bytes lengths long low (u .put-word .ensures) (v .put-word2 .ensures) (w .put-word3 .ensures) (g .gather .ensures) (z .zero-fill .ensures)) (c .before .before .before .before .check-sum .ensures .0) (c .before .before .put-word4 .ensures)
 
 pub lay-block-spec : {M : Type 1} → statement M
 lay-block-spec =
@@ -82,7 +82,7 @@ lay-block-spec =
     part-zero-fill-start
     part-zero-fill-end
     zero-fill-requires
-    word-sum-requires
+    check-sum-requires
     put-word-requires-4
     same-length
     returns)

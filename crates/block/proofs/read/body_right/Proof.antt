@@ -14,23 +14,23 @@ add-words-2 c = search needs
 mul-cut : tie.Need-mul-cut
 mul-cut c = search needs
 
-word-sum-requires : tie.Need-word-sum-requires
-word-sum-requires c κs = search needs
+check-sum-requires : tie.Need-check-sum-requires
+check-sum-requires c κs = search needs
 
-sub-word-sum : tie.Need-sub-word-sum
-sub-word-sum c = search needs
+sub-check-sum : tie.Need-sub-check-sum
+sub-check-sum c = search needs
 
-part-word-sum-start : tie.Need-part-word-sum-start
-part-word-sum-start c = search needs
+part-check-sum-start : tie.Need-part-check-sum-start
+part-check-sum-start c = search needs
 
-part-word-sum-end : tie.Need-part-word-sum-end
-part-word-sum-end c = search needs
+part-check-sum-end : tie.Need-part-check-sum-end
+part-check-sum-end c = search needs
 
-sub-word-sum-2 : tie.Need-sub-word-sum-2
-sub-word-sum-2 c = search needs
+sub-check-sum-2 : tie.Need-sub-check-sum-2
+sub-check-sum-2 c = search needs
 
-word-sum-requires-2 : tie.Need-word-sum-requires-2
-word-sum-requires-2 c κs = search needs
+check-sum-requires-2 : tie.Need-check-sum-requires-2
+check-sum-requires-2 c κs = search needs
 
 add-wide : tie.Need-add-wide
 add-wide c = search needs
@@ -51,7 +51,7 @@ returns : tie.Need-returns
 returns c =
     let w = c .before .before .before .before .before in
     let a = w .before .before .args in
-    body-read (a .b .now) (a .used) _ _ _ _ (omega arith) (omega arith) (c .before .wide .ensures .0) (w .word-sum .ensures .0) (c .before .before .before .word-sum2 .ensures .0) (c .word .ensures .0)
+    body-read (a .b .now) (a .used) _ _ _ _ (omega arith) (omega arith) (c .before .wide .ensures .0) (w .check-sum .ensures .0) (c .before .before .before .check-sum2 .ensures .0) (c .before .before .before .check-sum2 .ensures .1 .0) (c .word .ensures .0)
 
 pub body-right-spec : {M : Type 1} → statement M
 body-right-spec =
@@ -60,12 +60,12 @@ body-right-spec =
     add-words
     add-words-2
     mul-cut
-    word-sum-requires
-    sub-word-sum
-    part-word-sum-start
-    part-word-sum-end
-    sub-word-sum-2
-    word-sum-requires-2
+    check-sum-requires
+    sub-check-sum
+    part-check-sum-start
+    part-check-sum-end
+    sub-check-sum-2
+    check-sum-requires-2
     add-wide
     shared-slice-read-wide
     wide-requires

@@ -1,0 +1,2 @@
+-- How the check's sum is taken: eight bytes at a time.
+pub mod Sums
