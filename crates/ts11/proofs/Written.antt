@@ -1,10 +1,11 @@
 -- A session's numbers stored over a block are the session's block.
-use mathlib.Core.Path.{_≡_, refl, sym, ap, _∙_}
-use mathlib.Core.List.{List, [], _++_, append-nil}
-use Prim.Native.Nat.{ℕ, _+_, _*_, _≤_}
+use mathlib.Core.Path.{_≡_, sym, ap, _∙_}
+use mathlib.Core.List.{List}
+use Prim.Native.Nat.{ℕ, _*_}
 use native.Mathlib.Omega.{arith}
-use lib.ListN.{drop, drop-of-length-le, length}
-use lib.Seq.{sets, sets-eq}
+use lib.ListN.{length}
+use lib.Seq.{sets}
+use Rattle.lists.proofs.Stores.{sets-whole}
 use Rattle.entries.specs.Numbers.{numbersOf}
 use Rattle.entries.specs.Bytes.{headBytes}
 use Rattle.entries.specs.declared.Entry.{Entry}
@@ -17,14 +18,7 @@ pub length-block : (s : Session) → length (blockOf s) ≡ 128
 unfolding blockOf
 length-block s = omega (arith, length-head (numbersOf (entryWith s)), length-numbers (entryWith s))
 
--- stored over as many bytes, nothing of the old is left
-covers : (b v : List ℕ) → length v ≡ length b → sets b 0 v ≡ v
-covers b v h =
-    let long : length b ≤ 0 + length v = omega (arith, h) in
-    let rest : drop (0 + length v) b ≡ [] = drop-of-length-le b long in
-    sets-eq v b 0 (omega (arith, h)) ∙ ap (λ (x : List ℕ). v ++ x) rest ∙ append-nil v
-
 pub written : (b b′ n : List ℕ) (e : Entry) (s : Session) → length b ≡ 128 → e ≡ entryWith s → n ≡ numbersOf e → b′ ≡ sets b 0 (headBytes n) → b′ ≡ blockOf s
 unfolding blockOf
 written b b′ n e s l p q h =
-    h ∙ ap (λ (x : List ℕ). sets b 0 (headBytes x)) (q ∙ ap numbersOf p) ∙ covers b (blockOf s) (length-block s ∙ sym l)
+    h ∙ ap (λ (x : List ℕ). sets b 0 (headBytes x)) (q ∙ ap numbersOf p) ∙ sets-whole (blockOf s) b (length-block s ∙ sym l)
