@@ -1,0 +1,912 @@
+/*
+ * compare.c: the library against the plain unit, over the same random calls.
+ *
+ *   compare [rounds [seed]]
+ *
+ * Each round makes up buffers, a reel and a state, and then makes some 70 calls on both. After each call answer,
+ * out-parameters, state, memory, reel and used journal must be the same, byte for byte. The first difference is told,
+ * with exit status 1; so is a run in which some refusal, class, command or status bit never occurred. The same seed
+ * makes the same calls.
+ */
+#include "plain.h"
+#include "ts11.h"
+
+#include <stdarg.h>
+#include <stdio.h>
+#include <stdlib.h>
+#include <string.h>
+
+#define ROUNDS 8000
+#define SEED 11
+#define SLACK 4096     /* bytes behind each buffer, which are compared too; wrong lengths reach into them */
+#define SMALL 24576    /* up to so many bytes are compared whole after each call, else what the call touched */
+#define RARELY 64      /* .. and the whole after one call in so many */
+#define BUILT_MOST 200 /* blocks of a reel that a round builds on */
+#define REMEMBERED 256 /* objects of them, by length and place */
+
+/* ---- random numbers ---------------------------------------------------------------------------------------------- */
+
+static uint64_t random_bits;
+
+static uint64_t next_random(void)
+{
+	random_bits ^= random_bits << 13;
+	random_bits ^= random_bits >> 7;
+	random_bits ^= random_bits << 17;
+	return random_bits;
+}
+
+static size_t below(size_t n)
+{
+	return (size_t)(next_random() >> 16) % n;
+}
+
+static bool one_in(size_t n)
+{
+	return below(n) == 0;
+}
+
+static void fill_random(uint8_t *at, size_t n)
+{
+	for (size_t i = 0; i < n; i += 8) {
+		uint64_t x = next_random();
+		memcpy(at + i, &x, n - i < 8 ? n - i : 8);
+	}
+}
+
+/* ---- two worlds -------------------------------------------------------------------------------------------------- */
+
+/* What one unit has; the library's is the first, the plain unit's the second. */
+struct world {
+	ts11_state state;
+	uint8_t *memory, *reel, *journal;
+};
+
+struct lengths {
+	size_t memory, reel, journal;
+};
+
+static struct world worlds[2];
+static struct lengths held;   /* the bytes in use of each buffer */
+static struct lengths handed; /* the lengths that calls are handed: the same, but for a wrong one now and then */
+
+struct out {
+	ts11_answer answer;
+	size_t block;
+	bool stepped, interrupt;
+	uint16_t word;
+};
+
+/* Out-parameters as they are before a call, so that one left alone is seen. */
+static const struct out unset = {.answer = 99, .block = 12345, .stepped = true, .interrupt = true, .word = 0x5A5A};
+
+struct calls {
+	ts11_answer (*mount)(ts11_state *, size_t, const uint8_t *, size_t, size_t, size_t, bool, bool, size_t *);
+	ts11_answer (*write_tsdb)(ts11_state *, uint8_t *, size_t, uint8_t *, size_t, uint8_t *, size_t, uint16_t);
+	ts11_answer (*write_tssr)(ts11_state *, uint8_t *, size_t, uint8_t *, size_t, uint8_t *, size_t, uint16_t);
+	ts11_answer (*operate)(ts11_state *, uint8_t *, size_t, uint8_t *, size_t, uint8_t *, size_t, bool, bool);
+	ts11_answer (*read_register)(const ts11_state *, bool, uint16_t *);
+	ts11_answer (*host_store)(ts11_state *, uint8_t *, size_t, const uint8_t *, size_t, uint8_t *, size_t, size_t,
+	                          const uint8_t *, size_t);
+	ts11_answer (*advance)(ts11_state *, uint8_t *, size_t, uint8_t *, size_t, uint8_t *, size_t, bool *, bool *,
+	                       size_t *);
+	ts11_answer (*step_back)(ts11_state *, uint8_t *, size_t, uint8_t *, size_t, const uint8_t *, size_t);
+};
+
+static const struct calls units[2] = {
+	{ts11_mount, ts11_write_tsdb, ts11_write_tssr, ts11_operate, ts11_read_register, ts11_host_store, ts11_advance,
+	 ts11_step_back},
+	{plain_mount, plain_write_tsdb, plain_write_tssr, plain_operate, plain_read_register, plain_host_store,
+	 plain_advance, plain_step_back},
+};
+
+/* ---- what was seen ----------------------------------------------------------------------------------------------- */
+
+static const uint16_t commands[] = {
+	TS11_READ_NEXT, TS11_READ_PREVIOUS, TS11_REREAD_PREVIOUS, TS11_REREAD_NEXT,
+	TS11_WRITE, TS11_WRITE_RETRY, TS11_WRITE_MARK, TS11_ERASE, TS11_WRITE_MARK_RETRY,
+	TS11_SPACE_RECORDS, TS11_SPACE_RECORDS_REVERSE, TS11_SKIP_MARKS, TS11_SKIP_MARKS_REVERSE, TS11_REWIND,
+	TS11_WRITE_CHARACTERISTICS, TS11_RELEASE, TS11_UNLOAD, TS11_CLEAN, TS11_INITIALIZE, TS11_GET_STATUS,
+};
+#define COMMANDS (sizeof commands / sizeof commands[0])
+#define TAPE_COMMANDS 13 /* the first ones, given more often */
+
+static uint64_t seed;
+static size_t round_number, round_calls;
+static size_t calls_made, idles, undone;
+static size_t answers[TS11_JOURNAL_FULL + 1], classes[TS11_CLASS_LOST + 1], carried_out[COMMANDS];
+static unsigned xst0_seen, xst3_seen;
+
+static uint32_t number_at(const uint8_t *at)
+{
+	return (uint32_t)at[0] | (uint32_t)at[1] << 8 | (uint32_t)at[2] << 16 | (uint32_t)at[3] << 24;
+}
+
+static uint32_t word_at(const uint8_t *at)
+{
+	return (uint32_t)at[0] | (uint32_t)at[1] << 8;
+}
+
+static uint32_t state_at(size_t at)
+{
+	return ts11_state_number(&worlds[0].state, at);
+}
+
+/* ---- comparing --------------------------------------------------------------------------------------------------- */
+
+static void differ(const char *call, const char *format, ...)
+{
+	va_list rest;
+	fprintf(stderr, "compare: seed %llu round %zu call %zu (%s): ", (unsigned long long)seed, round_number, round_calls,
+	        call);
+	va_start(rest, format);
+	vfprintf(stderr, format, rest);
+	va_end(rest);
+	fprintf(stderr, "\n");
+	exit(1);
+}
+
+static void alike_bytes(const char *call, const char *what, const uint8_t *a, const uint8_t *b, size_t from, size_t n)
+{
+	if (memcmp(a + from, b + from, n) == 0)
+		return;
+	while (a[from] == b[from])
+		from++;
+	differ(call, "%s byte %zu: library %u, plain %u", what, from, (unsigned)a[from], (unsigned)b[from]);
+}
+
+static void alike_memory(const char *call, size_t from, size_t n)
+{
+	alike_bytes(call, "memory", worlds[0].memory, worlds[1].memory, from, n);
+}
+
+static void alike_reel(const char *call, size_t from, size_t n)
+{
+	alike_bytes(call, "reel", worlds[0].reel, worlds[1].reel, from, n);
+}
+
+static void alike_journal(const char *call, size_t from, size_t n)
+{
+	alike_bytes(call, "journal", worlds[0].journal, worlds[1].journal, from, n);
+}
+
+static void alike_whole(const char *call)
+{
+	uint32_t used = state_at(TS11_AT_USED);
+	alike_memory(call, 0, held.memory + SLACK);
+	alike_reel(call, 0, held.reel + SLACK);
+	if (used <= held.journal)
+		alike_journal(call, 0, used);
+}
+
+static bool inside(size_t at, size_t n, size_t limit)
+{
+	return at <= limit && n <= limit - at;
+}
+
+/* The entry that was added or removed, if any, and the places that it names; a byte more for the flipped address. */
+static void alike_touched(const char *call, uint32_t before)
+{
+	uint32_t after = state_at(TS11_AT_USED);
+	size_t low = before < after ? before : after;
+	size_t high = before < after ? after : before;
+	if (high > held.journal || high - low < TS11_ENTRY_HEAD)
+		return;
+	alike_journal(call, low, high - low);
+	const uint8_t *head = worlds[0].journal + high - TS11_ENTRY_HEAD;
+	size_t data = number_at(head + 84), data_length = number_at(head + 88);
+	size_t message = number_at(head + 96), message_length = number_at(head + 100);
+	size_t block = number_at(head + 104), blocks = number_at(head + 108);
+	if (inside(data, data_length, held.memory))
+		alike_memory(call, data - (data != 0), data_length + 2);
+	if (inside(message, message_length, held.memory))
+		alike_memory(call, message, message_length);
+	if (inside(block, blocks, held.reel / TS11_BLOCK))
+		alike_reel(call, block * TS11_BLOCK, blocks * TS11_BLOCK);
+}
+
+static void alike_out(const char *call, const struct out *a, const struct out *b)
+{
+	if (a->answer != b->answer)
+		differ(call, "answer: library %zu, plain %zu", a->answer, b->answer);
+	if (a->block != b->block)
+		differ(call, "block: library %zu, plain %zu", a->block, b->block);
+	if (a->stepped != b->stepped)
+		differ(call, "stepped: library %d, plain %d", a->stepped, b->stepped);
+	if (a->interrupt != b->interrupt)
+		differ(call, "interrupt: library %d, plain %d", a->interrupt, b->interrupt);
+	if (a->word != b->word)
+		differ(call, "word: library %04x, plain %04x", (unsigned)a->word, (unsigned)b->word);
+}
+
+/* After a call of both: all alike, and what was not done has left the state as it was. */
+static struct out alike(const char *call, const struct out o[2], const ts11_state *before)
+{
+	round_calls++;
+	calls_made++;
+	alike_out(call, &o[0], &o[1]);
+	alike_bytes(call, "state", worlds[0].state.bytes, worlds[1].state.bytes, 0, TS11_STATE_BYTES);
+	if (held.memory + held.reel + state_at(TS11_AT_USED) <= SMALL || one_in(RARELY))
+		alike_whole(call);
+	else
+		alike_touched(call, ts11_state_number(before, TS11_AT_USED));
+	if ((o[0].answer != TS11_DONE || !o[0].stepped) && memcmp(before, &worlds[0].state, sizeof *before) != 0)
+		differ(call, "answer %zu, no step, and yet the state changed", o[0].answer);
+	if (o[0].answer > TS11_JOURNAL_FULL)
+		differ(call, "answer %zu", o[0].answer);
+	answers[o[0].answer]++;
+	return o[0];
+}
+
+/* ---- the eight calls, on both ------------------------------------------------------------------------------------ */
+
+static struct out try_mount(size_t end, bool online, bool locked)
+{
+	struct out o[2] = {unset, unset};
+	ts11_state before = worlds[0].state;
+	for (int i = 0; i < 2; i++) {
+		struct world *w = &worlds[i];
+		o[i].answer = units[i].mount(&w->state, handed.memory, w->reel, handed.reel, handed.journal, end, online,
+		                             locked, &o[i].block);
+	}
+	return alike("mount", o, &before);
+}
+
+static struct out try_tsdb(uint16_t word)
+{
+	struct out o[2] = {unset, unset};
+	ts11_state before = worlds[0].state;
+	for (int i = 0; i < 2; i++) {
+		struct world *w = &worlds[i];
+		o[i].answer = units[i].write_tsdb(&w->state, w->memory, handed.memory, w->reel, handed.reel, w->journal,
+		                                  handed.journal, word);
+	}
+	return alike("write_tsdb", o, &before);
+}
+
+static struct out try_tssr(uint16_t word)
+{
+	struct out o[2] = {unset, unset};
+	ts11_state before = worlds[0].state;
+	for (int i = 0; i < 2; i++) {
+		struct world *w = &worlds[i];
+		o[i].answer = units[i].write_tssr(&w->state, w->memory, handed.memory, w->reel, handed.reel, w->journal,
+		                                  handed.journal, word);
+	}
+	return alike("write_tssr", o, &before);
+}
+
+static struct out try_operate(bool which_switch, bool on)
+{
+	struct out o[2] = {unset, unset};
+	ts11_state before = worlds[0].state;
+	for (int i = 0; i < 2; i++) {
+		struct world *w = &worlds[i];
+		o[i].answer = units[i].operate(&w->state, w->memory, handed.memory, w->reel, handed.reel, w->journal,
+		                               handed.journal, which_switch, on);
+	}
+	return alike("operate", o, &before);
+}
+
+static struct out try_register(bool which_register)
+{
+	struct out o[2] = {unset, unset};
+	ts11_state before = worlds[0].state;
+	for (int i = 0; i < 2; i++)
+		o[i].answer = units[i].read_register(&worlds[i].state, which_register, &o[i].word);
+	return alike("read_register", o, &before);
+}
+
+static struct out try_store(size_t address, const uint8_t *bytes, size_t length)
+{
+	struct out o[2] = {unset, unset};
+	ts11_state before = worlds[0].state;
+	for (int i = 0; i < 2; i++) {
+		struct world *w = &worlds[i];
+		o[i].answer = units[i].host_store(&w->state, w->memory, handed.memory, w->reel, handed.reel, w->journal,
+		                                  handed.journal, address, bytes, length);
+	}
+	return alike("host_store", o, &before);
+}
+
+/* Counts an advance that was a step: its class, the command where it was carried out, the status bits that it sent. */
+static void count_advance(const ts11_state *before, uint32_t header)
+{
+	uint32_t class = state_at(TS11_AT_CLASS);
+	classes[class]++;
+	if (ts11_state_number(before, TS11_AT_SSR) == 0 && (class == TS11_CLASS_NORMAL || class == TS11_CLASS_STATUS))
+		for (size_t i = 0; i < COMMANDS; i++)
+			carried_out[i] += (header & 0x0F7F) == commands[i] && (header & TS11_ACK) != 0;
+	const uint8_t *head = worlds[0].journal + state_at(TS11_AT_USED) - TS11_ENTRY_HEAD;
+	if (number_at(head + 100) != 0) {
+		const uint8_t *message = worlds[0].memory + number_at(head + 96);
+		xst0_seen |= word_at(message + TS11_MESSAGE_XST0);
+		xst3_seen |= word_at(message + TS11_MESSAGE_XST3);
+	}
+}
+
+static struct out try_advance(void)
+{
+	struct out o[2] = {unset, unset};
+	ts11_state before = worlds[0].state;
+	uint32_t pointer = state_at(TS11_AT_POINTER);
+	uint32_t header = (size_t)pointer + 2 <= held.memory ? word_at(worlds[0].memory + pointer) : 0;
+	for (int i = 0; i < 2; i++) {
+		struct world *w = &worlds[i];
+		o[i].answer = units[i].advance(&w->state, w->memory, handed.memory, w->reel, handed.reel, w->journal,
+		                               handed.journal, &o[i].stepped, &o[i].interrupt, &o[i].block);
+	}
+	struct out done = alike("advance", o, &before);
+	if (done.stepped)
+		count_advance(&before, header);
+	else
+		idles += done.answer == TS11_DONE;
+	return done;
+}
+
+static struct out try_back(void)
+{
+	struct out o[2] = {unset, unset};
+	ts11_state before = worlds[0].state;
+	for (int i = 0; i < 2; i++) {
+		struct world *w = &worlds[i];
+		o[i].answer = units[i].step_back(&w->state, w->memory, handed.memory, w->reel, handed.reel, w->journal,
+		                                 handed.journal);
+	}
+	struct out done = alike("step_back", o, &before);
+	undone += done.answer == TS11_DONE;
+	return done;
+}
+
+/* ---- set-up of a round: what is not a call goes to both worlds alike --------------------------------------------- */
+
+static size_t built_from, built_end;         /* the blocks that hold objects */
+static size_t edges[REMEMBERED], edge_count; /* where objects begin and end */
+static size_t record_lengths[REMEMBERED], record_count;
+
+static void put_state(size_t at, uint32_t value)
+{
+	for (int i = 0; i < 2; i++)
+		for (size_t j = 0; j < 4; j++)
+			worlds[i].state.bytes[at + j] = (uint8_t)(value >> 8 * j);
+}
+
+static void poke(size_t at, const uint8_t *bytes, size_t n)
+{
+	if (at > held.memory)
+		return;
+	n = n < held.memory - at ? n : held.memory - at;
+	memcpy(worlds[0].memory + at, bytes, n);
+	memcpy(worlds[1].memory + at, bytes, n);
+}
+
+/* Words in memory: put there, or stored by the host. */
+static void give_words(size_t at, const uint16_t *words, size_t n)
+{
+	uint8_t bytes[8];
+	for (size_t i = 0; i < n; i++) {
+		bytes[2 * i] = (uint8_t)words[i];
+		bytes[2 * i + 1] = (uint8_t)(words[i] >> 8);
+	}
+	if (one_in(3))
+		try_store(at, bytes, 2 * n);
+	else
+		poke(at, bytes, 2 * n);
+}
+
+static size_t pick_memory(void)
+{
+	switch (below(12)) {
+	case 0: return 2 + 2 * below(32);
+	case 1: return TS11_MEMORY_MAX;
+	case 2: return 65536 + 2 * below(70000);
+	case 3: case 4: case 5: return 512 + 2 * below(16384);
+	default: return 64 + 2 * below(225);
+	}
+}
+
+static size_t pick_blocks(void)
+{
+	if (one_in(100))
+		return TS11_REEL_BLOCKS_MAX;
+	switch (below(6)) {
+	case 0: return TS11_EOT_MARGIN - 2 + below(8);
+	case 1: case 2: return 1 + below(200);
+	default: return 1 + below(16);
+	}
+}
+
+static size_t pick_journal(void)
+{
+	if (one_in(100))
+		return TS11_JOURNAL_MAX - below(2) * below(1000);
+	switch (below(10)) {
+	case 0: return below(TS11_ENTRY_HEAD * 3);
+	case 1: return below(4096);
+	default: return 4096 + below(60000);
+	}
+}
+
+static void set_check(uint8_t *block)
+{
+	uint32_t sum = 0;
+	for (size_t i = 0; i < TS11_BLOCK_CHECK; i += 2)
+		sum += word_at(block + i);
+	sum %= 65535;
+	block[TS11_BLOCK_CHECK] = (uint8_t)sum;
+	block[TS11_BLOCK_CHECK + 1] = (uint8_t)(sum >> 8);
+}
+
+static void put_block(size_t k, unsigned kind, size_t n, size_t i)
+{
+	uint8_t *b = worlds[0].reel + k * TS11_BLOCK;
+	size_t left = n - i * TS11_BLOCK_DATA;
+	memset(b, 0, TS11_BLOCK);
+	b[TS11_BLOCK_KIND] = (uint8_t)kind;
+	b[TS11_BLOCK_LENGTH] = (uint8_t)n;
+	b[TS11_BLOCK_LENGTH + 1] = (uint8_t)(n >> 8);
+	b[TS11_BLOCK_INDEX] = (uint8_t)i;
+	fill_random(b + TS11_BLOCK_BYTES, left < TS11_BLOCK_DATA ? left : TS11_BLOCK_DATA);
+	set_check(b);
+}
+
+static size_t pick_length(void)
+{
+	static const size_t corners[] = {1, 2, 503, 504, 505, 1007, 1008, 1009, 16383, 16384};
+	switch (below(8)) {
+	case 0: return corners[below(sizeof corners / sizeof corners[0])];
+	case 1: return 1 + below(TS11_RECORD_MAX);
+	case 2: case 3: return 1 + below(2500);
+	default: return 1 + below(300);
+	}
+}
+
+/* One object goes behind those that are built, if it fits below a limit. */
+static void build_object(size_t limit)
+{
+	unsigned kind = one_in(5) ? TS11_KIND_GAP : one_in(4) ? TS11_KIND_MARK : TS11_KIND_RECORD;
+	size_t n = kind == TS11_KIND_RECORD ? pick_length() : 0;
+	size_t blocks = kind == TS11_KIND_RECORD ? (n + TS11_BLOCK_DATA - 1) / TS11_BLOCK_DATA : 1;
+	if (blocks > limit - built_end)
+		return;
+	for (size_t i = 0; i < blocks; i++)
+		put_block(built_end + i, kind, n, i);
+	built_end += blocks;
+	if (edge_count < REMEMBERED)
+		edges[edge_count++] = built_end;
+	if (kind == TS11_KIND_RECORD && record_count < REMEMBERED)
+		record_lengths[record_count++] = n;
+}
+
+static void build_reel(void)
+{
+	size_t blocks = held.reel / TS11_BLOCK;
+	size_t most = blocks < BUILT_MOST ? blocks : BUILT_MOST;
+	built_from = blocks > most && one_in(2) ? blocks - most : 0;
+	built_end = built_from;
+	edges[0] = built_end;
+	edge_count = 1;
+	record_count = 0;
+	uint8_t *from = worlds[0].reel + built_from * TS11_BLOCK;
+	if (one_in(2))
+		fill_random(from, most * TS11_BLOCK);
+	else
+		memset(from, 0, most * TS11_BLOCK);
+	for (size_t objects = below(3) * below(12) + below(12); objects != 0; objects--)
+		build_object(built_from + most);
+	memcpy(worlds[1].reel + built_from * TS11_BLOCK, from, most * TS11_BLOCK);
+}
+
+static uint8_t *built_block(void)
+{
+	return worlds[0].reel + (built_from + below(built_end - built_from)) * TS11_BLOCK;
+}
+
+/* A record that is whole but for its length, in place of what is built first. */
+static void build_too_long(void)
+{
+	size_t blocks = TS11_RECORD_MAX / TS11_BLOCK_DATA + 1;
+	uint8_t *from = worlds[0].reel + built_from * TS11_BLOCK;
+	if (built_end - built_from < blocks)
+		return;
+	for (size_t i = 0; i < blocks; i++)
+		put_block(built_from + i, TS11_KIND_RECORD, TS11_RECORD_MAX + 1, i);
+	memcpy(worlds[1].reel + built_from * TS11_BLOCK, from, blocks * TS11_BLOCK);
+}
+
+/* The sum becomes 0, and the check word what is 0 modulo 65,535 too, but is none. */
+static void check_wrongly(uint8_t *b)
+{
+	set_check(b);
+	uint32_t w = (word_at(b + TS11_BLOCK_BYTES) + 65535 - word_at(b + TS11_BLOCK_CHECK)) % 65535;
+	b[TS11_BLOCK_BYTES] = (uint8_t)w;
+	b[TS11_BLOCK_BYTES + 1] = (uint8_t)(w >> 8);
+	b[TS11_BLOCK_CHECK] = b[TS11_BLOCK_CHECK + 1] = 0xFF;
+}
+
+/* One block of what is built comes to harm, with its check word made right again in half the cases. */
+static void damage(void)
+{
+	if (built_end == built_from)
+		return;
+	if (one_in(8))
+		build_too_long();
+	uint8_t *b = built_block();
+	switch (below(6)) {
+	case 0: b[below(TS11_BLOCK)] ^= (uint8_t)(1 << below(8)); break;
+	case 1: b[below(TS11_BLOCK_BYTES)] = (uint8_t)below(one_in(2) ? 4 : 256); break;
+	case 2: b[TS11_BLOCK_CHECK - 1] = (uint8_t)below(256); break;
+	case 3: memmove(b, built_block(), TS11_BLOCK); break;
+	case 4: b[TS11_BLOCK_BYTES + below(TS11_BLOCK_DATA)] ^= (uint8_t)(1 + below(255)); break;
+	default: check_wrongly(b); break;
+	}
+	if (one_in(2))
+		set_check(b);
+	memcpy(worlds[1].reel + (b - worlds[0].reel), b, TS11_BLOCK);
+}
+
+/* A state that no call need have left, but that refusal 1 lets pass. */
+static void make_up_state(void)
+{
+	size_t blocks = held.reel / TS11_BLOCK;
+	size_t end = one_in(4) ? below(blocks + 1) : one_in(8) ? blocks : built_end;
+	size_t position = one_in(4) ? below(end + 1) : edges[below(edge_count)];
+	size_t used = one_in(6) ? below(held.journal + 1) : one_in(6) ? TS11_ENTRY_HEAD - 1 + below(3) : 0;
+	bool nba = held.memory < TS11_MESSAGE_BYTES || one_in(3);
+	for (int i = 0; i < 2; i++)
+		memset(&worlds[i].state, 0, sizeof worlds[i].state);
+	put_state(TS11_AT_POSITION, (uint32_t)(position < end ? position : end));
+	put_state(TS11_AT_END, (uint32_t)end);
+	put_state(TS11_AT_POINTER, (uint32_t)(one_in(3) ? below(1 << 18) : below(held.memory)));
+	put_state(TS11_AT_CLASS, (uint32_t)below(TS11_CLASS_LOST + 1));
+	for (size_t at = TS11_AT_RMR; at <= TS11_AT_RELEASE_IE; at += 4)
+		put_state(at, (uint32_t)below(2));
+	for (size_t at = TS11_AT_EAI; at <= TS11_AT_ENB; at += 4)
+		put_state(at, (uint32_t)below(2));
+	put_state(TS11_AT_ONLINE, !one_in(6));
+	put_state(TS11_AT_LOCKED, one_in(6));
+	put_state(TS11_AT_NBA, nba);
+	if (!nba) {
+		size_t length = TS11_MESSAGE_BYTES + below(held.memory - TS11_MESSAGE_BYTES + 1) / (1 + below(20));
+		put_state(TS11_AT_MESSAGE, (uint32_t)below(held.memory - length + 1) & ~1u);
+		put_state(TS11_AT_MESSAGE_LENGTH, (uint32_t)length);
+	}
+	put_state(TS11_AT_MEMORY, (uint32_t)held.memory);
+	put_state(TS11_AT_BLOCKS, (uint32_t)blocks);
+	if (used > held.journal)
+		used = held.journal;
+	put_state(TS11_AT_USED, (uint32_t)used);
+	put_state(TS11_AT_JOURNAL, (uint32_t)held.journal);
+	memcpy(worlds[1].journal, worlds[0].journal, used);
+}
+
+/* ---- what a turn does -------------------------------------------------------------------------------------------- */
+
+static uint32_t odd_number(void)
+{
+	static const uint32_t corners[] = {0, 1, 2, 127, 128, 0xFFFF, 0x10000, 0x3FFFF, 0x40000,
+	                                   0x1000000, 0x7FFFFFFF, 0x80000000, 0xFFFFFFFF};
+	if (one_in(3))
+		return (uint32_t)next_random();
+	return corners[below(sizeof corners / sizeof corners[0])] + (one_in(3) ? (uint32_t)below(3) - 1 : 0);
+}
+
+/* Now and then a number that no buffer could have. */
+static size_t odd_length(size_t length)
+{
+	if (!one_in(20))
+		return length;
+	return odd_number() + (one_in(2) ? SIZE_MAX - 0xFFFFFFFF : 0);
+}
+
+static size_t pick_count(void)
+{
+	size_t n = record_count == 0 || one_in(3) ? pick_length() : record_lengths[below(record_count)];
+	switch (below(10)) {
+	case 0: return 0;
+	case 1: return n + 1;
+	case 2: return n - 1;
+	case 3: return below(65536);
+	case 4: return n / 2;
+	default: return n;
+	}
+}
+
+/* Pointer low, high and count of a data buffer, inside memory if that can be, or anything. */
+static void pick_buffer(uint16_t *words)
+{
+	size_t count = pick_count() & 0xFFFF;
+	size_t pointer = below(held.memory);
+	if (count > held.memory && !one_in(4))
+		count = below(held.memory + 1) & 0xFFFF;
+	if (count <= held.memory && !one_in(8))
+		pointer = one_in(8) ? held.memory - count : below(held.memory - count + 1);
+	words[0] = (uint16_t)pointer;
+	words[1] = (uint16_t)(pointer >> 16 | (one_in(40) ? below(65536) : 0));
+	words[2] = (uint16_t)count;
+}
+
+/* Write Characteristics: its data first, then pointer and count. */
+static void pick_characteristics(uint16_t *words)
+{
+	size_t length = one_in(12) ? below(20) : TS11_MESSAGE_BYTES + below(60);
+	size_t address = below(held.memory);
+	if (length <= held.memory && !one_in(12))
+		address = below(held.memory - length + 1);
+	if (!one_in(12))
+		address &= ~(size_t)1;
+	size_t at = held.memory < 8 ? 0 : below(held.memory - 7) & ~(size_t)1;
+	uint16_t high = (uint16_t)(address >> 16 | (one_in(40) ? below(65536) : 0));
+	give_words(at, (const uint16_t[]){(uint16_t)address, high, (uint16_t)length, (uint16_t)below(65536)}, 4);
+	words[0] = (uint16_t)(at + one_in(30));
+	words[1] = (uint16_t)(at >> 16);
+	words[2] = one_in(4) ? (uint16_t)below(12) : 8;
+}
+
+static uint16_t pick_header(void)
+{
+	uint16_t header = commands[below(COMMANDS)];
+	if (one_in(40))
+		return (uint16_t)next_random();
+	if (one_in(3))
+		header = commands[below(TAPE_COMMANDS)];
+	header |= one_in(30) ? 0 : TS11_ACK;
+	header |= one_in(8) ? 0 : TS11_CVC;
+	header |= one_in(3) ? TS11_OPP : 0;
+	header |= one_in(3) ? TS11_SWB : 0;
+	header |= one_in(2) ? TS11_IE : 0;
+	return header;
+}
+
+static size_t pick_packet_place(void)
+{
+	size_t last = held.memory < 12 ? held.memory : 12;
+	if (one_in(20))
+		return below(1 << 18);
+	return one_in(10) ? held.memory - 1 - below(last) : below(held.memory);
+}
+
+/* A packet goes to memory, its address to TSDB, and the unit advances. */
+static void give_command(uint16_t header)
+{
+	uint16_t words[4] = {header, (uint16_t)(one_in(10) ? below(65536) : below(8)), 0, 0};
+	size_t at = pick_packet_place() & ~(size_t)3;
+	if ((header & 0x1F) == (TS11_WRITE_CHARACTERISTICS & 0x1F))
+		pick_characteristics(words + 1);
+	else if ((header & 0x1F) != (TS11_REWIND & 0x1F))
+		pick_buffer(words + 1);
+	if (state_at(TS11_AT_SSR) == 1 && !one_in(20))
+		give_words(at, words, 4);
+	try_tsdb(TS11_TSDB(at));
+	if (try_advance().answer == TS11_BAD_BLOCK && one_in(2))
+		try_tssr(0);
+}
+
+static void host_store(void)
+{
+	static uint8_t bytes[70000];
+	size_t length = one_in(20) ? below(sizeof bytes) : one_in(3) ? below(held.memory + 2) : below(40);
+	if (length > sizeof bytes)
+		length = sizeof bytes;
+	size_t address = below(held.memory + 2);
+	if (length <= held.memory && !one_in(4))
+		address = below(held.memory - length + 1);
+	fill_random(bytes, length < 64 ? length : 64);
+	try_store(odd_length(address), bytes, length);
+}
+
+static void put_journal(size_t at, uint32_t value)
+{
+	for (int i = 0; i < 2; i++)
+		for (size_t j = 0; j < 4; j++)
+			worlds[i].journal[at + j] = (uint8_t)(value >> 8 * j);
+}
+
+/* A step back with a number of the newest entry's head made up, which is put right again where the entry stays. */
+static void back_spoiled(size_t head)
+{
+	size_t at = head + 4 * below(32);
+	uint32_t kept = number_at(worlds[0].journal + at);
+	put_journal(at, one_in(2) ? odd_number() : kept + (uint32_t)below(9) - 4);
+	if (try_back().answer != TS11_DONE)
+		put_journal(at, kept);
+}
+
+static void step_back(void)
+{
+	uint32_t used = state_at(TS11_AT_USED);
+	if (used >= TS11_ENTRY_HEAD && used <= held.journal && one_in(4))
+		back_spoiled(used - TS11_ENTRY_HEAD);
+	for (size_t n = below(7); n != 0; n--)
+		if (try_back().answer != TS11_DONE)
+			return;
+}
+
+/* A mount is handed the lengths of memory and journal alone, so those may be anything. */
+static void mount(void)
+{
+	struct lengths kept = handed;
+	size_t end = one_in(6) ? below(built_end + 2) : built_end;
+	if (end > BUILT_MOST)
+		end = below(BUILT_MOST);
+	handed.memory = odd_length(handed.memory);
+	handed.journal = odd_length(handed.journal);
+	end = odd_length(end);
+	if (end <= held.reel / TS11_BLOCK && end > BUILT_MOST)
+		end = BUILT_MOST;
+	try_mount(end, !one_in(6), one_in(6));
+	handed = kept;
+}
+
+static void any_call(void)
+{
+	switch (below(8)) {
+	case 0: mount(); break;
+	case 1: try_tsdb((uint16_t)next_random()); break;
+	case 2: try_tssr((uint16_t)next_random()); break;
+	case 3: try_operate(one_in(2), one_in(2)); break;
+	case 4: try_register(one_in(2)); break;
+	case 5: host_store(); break;
+	case 6: try_advance(); break;
+	default: try_back(); break;
+	}
+}
+
+static size_t wrong_length(size_t length, size_t limit)
+{
+	switch (below(5)) {
+	case 0: length += 1 + below(2); break;
+	case 1: length -= length < 2 ? 0 : 1 + below(2); break;
+	case 2: length += TS11_BLOCK; break;
+	case 3: length -= length < TS11_BLOCK ? length : TS11_BLOCK; break;
+	default: length = below(limit); break;
+	}
+	return length < limit ? length : limit;
+}
+
+/* A call with lengths that are not all those of the buffers. */
+static void with_wrong_lengths(void)
+{
+	if (one_in(2))
+		handed.memory = wrong_length(held.memory, TS11_MEMORY_MAX + SLACK);
+	if (one_in(2))
+		handed.reel = wrong_length(held.reel, TS11_REEL_BLOCKS_MAX * TS11_BLOCK + SLACK);
+	if (one_in(2))
+		handed.journal = wrong_length(held.journal, TS11_JOURNAL_MAX + SLACK);
+	any_call();
+	handed = held;
+}
+
+/* A call on a state with a number made up, or all of them. */
+static void with_spoiled_state(void)
+{
+	if (one_in(8)) {
+		fill_random(worlds[0].state.bytes, TS11_STATE_BYTES);
+		worlds[1].state = worlds[0].state;
+	} else {
+		size_t at = 4 * below(32);
+		put_state(at, one_in(2) ? odd_number() : state_at(at) + (uint32_t)below(5) - 2);
+	}
+	any_call();
+}
+
+/* Where a turn left a state that would have all further calls refused, the one before is put back. */
+static void settle(const ts11_state *kept)
+{
+	if (state_at(TS11_AT_MEMORY) != held.memory || state_at(TS11_AT_BLOCKS) != held.reel / TS11_BLOCK ||
+	    state_at(TS11_AT_JOURNAL) != held.journal || try_register(one_in(2)).answer != TS11_DONE)
+		worlds[0].state = worlds[1].state = *kept;
+}
+
+static void odd_turn(void)
+{
+	ts11_state kept = worlds[0].state;
+	switch (below(8)) {
+	case 0: host_store(); break;
+	case 1: try_operate(one_in(3), one_in(2)); break;
+	case 2: case 3: step_back(); break;
+	case 4: with_wrong_lengths(); break;
+	case 5: with_spoiled_state(); break;
+	case 6: try_advance(); break;
+	default: any_call(); break;
+	}
+	settle(&kept);
+}
+
+static void take_turn(void)
+{
+	if (state_at(TS11_AT_NBA) == 1 && one_in(2))
+		give_command(TS11_WRITE_CHARACTERISTICS | TS11_ACK | TS11_CVC);
+	if (state_at(TS11_AT_ONLINE) == 0 && one_in(3))
+		try_operate(TS11_SWITCH_ONLINE, true);
+	if (held.journal - state_at(TS11_AT_USED) < 2 * TS11_ENTRY_HEAD && one_in(2))
+		step_back();
+	if (one_in(60))
+		damage();
+	if (one_in(3))
+		odd_turn();
+	else
+		give_command(pick_header());
+}
+
+static void run_round(void)
+{
+	held.memory = pick_memory();
+	held.reel = pick_blocks() * TS11_BLOCK;
+	held.journal = pick_journal();
+	handed = held;
+	round_calls = 0;
+	fill_random(worlds[0].memory, held.memory);
+	memcpy(worlds[1].memory, worlds[0].memory, held.memory);
+	build_reel();
+	if (built_from != 0 || one_in(3))
+		make_up_state();
+	else if (try_mount(built_end, !one_in(6), one_in(6)).answer != TS11_DONE)
+		differ("mount", "a reel that is well formed was refused");
+	if (one_in(4))
+		damage();
+	for (size_t turns = 10 + below(30); turns != 0; turns--)
+		take_turn();
+	alike_whole("end of round");
+}
+
+/* ---- the whole --------------------------------------------------------------------------------------------------- */
+
+static void make_worlds(void)
+{
+	for (int i = 0; i < 2; i++) {
+		worlds[i].memory = calloc(TS11_MEMORY_MAX + SLACK, 1);
+		worlds[i].reel = calloc((size_t)TS11_REEL_BLOCKS_MAX * TS11_BLOCK + SLACK, 1);
+		worlds[i].journal = calloc(TS11_JOURNAL_MAX + SLACK, 1);
+		if (worlds[i].memory == NULL || worlds[i].reel == NULL || worlds[i].journal == NULL) {
+			fprintf(stderr, "compare: no room for the buffers\n");
+			exit(1);
+		}
+	}
+}
+
+/* Something that must have occurred, for both to be alike to mean anything. */
+static bool missed(const char *what, unsigned number, size_t times)
+{
+	if (times == 0)
+		fprintf(stderr, "compare: %s %x never occurred\n", what, number);
+	return times == 0;
+}
+
+static bool anything_missed(void)
+{
+	bool any = missed("idle advance", 0, idles);
+	any |= missed("step back", 0, undone);
+	for (unsigned i = TS11_BAD_STATE; i <= TS11_JOURNAL_FULL; i++)
+		any |= missed("refusal", i, answers[i]);
+	for (unsigned i = 0; i <= TS11_CLASS_LOST; i++)
+		any |= i != TS11_CLASS_RECOVERABLE && missed("class", i, classes[i]);
+	for (unsigned i = 0; i < COMMANDS; i++)
+		any |= missed("command", commands[i], carried_out[i]);
+	for (unsigned bit = 1; bit < 0x10000; bit <<= 1)
+		any |= missed("XST0 bit", bit, xst0_seen & bit);
+	any |= missed("XST3 bit", TS11_XST3_OPI, xst3_seen & TS11_XST3_OPI);
+	any |= missed("XST3 bit", TS11_XST3_REV, xst3_seen & TS11_XST3_REV);
+	any |= missed("XST3 bit", TS11_XST3_RIB, xst3_seen & TS11_XST3_RIB);
+	return any;
+}
+
+int main(int argc, char **argv)
+{
+	size_t rounds = argc > 1 ? strtoull(argv[1], NULL, 0) : ROUNDS;
+	seed = argc > 2 ? strtoull(argv[2], NULL, 0) : SEED;
+	random_bits = seed * 0x9E3779B97F4A7C15u | 1;
+	make_worlds();
+	for (round_number = 0; round_number < rounds; round_number++)
+		run_round();
+	if (anything_missed())
+		return 1;
+	printf("compare: %zu calls, both alike (%zu steps back, %zu idle; refusals 1 to 9:", calls_made, undone, idles);
+	for (size_t i = TS11_BAD_STATE; i <= TS11_JOURNAL_FULL; i++)
+		printf(" %zu", answers[i]);
+	printf("; classes 0 to 6:");
+	for (size_t i = 0; i <= TS11_CLASS_LOST; i++)
+		printf(" %zu", classes[i]);
+	printf(")\n");
+	return 0;
+}
