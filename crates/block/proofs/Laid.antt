@@ -4,18 +4,12 @@ use mathlib.Core.Path.{_≡_, _∙_}
 use Prim.Native.Nat.{ℕ, _+_, _-_, _%_, _≤_}
 use native.Mathlib.Omega.{arith}
 use borrow.Rule.Slice.PartMut.{putMid}
-use lib.ListN.{length, take, drop, replicate, length-append, length-drop, length-replicate}
-use lib.Seq.{sets, length-sets, length-take-le}
+use lib.ListN.{length, take, drop, replicate, length-append, length-replicate}
+use lib.Seq.{sets, length-sets}
 use Rattle.lists.specs.Words.{wordBytes, wordSum}
-use Rattle.lists.proofs.Stores.{put-sets, sets-at, sets-more, sets-part, sets-whole}
+use Rattle.lists.proofs.Stores.{filled, sets-at, sets-more, sets-part, sets-whole}
 use Rattle.tape.specs.Layout.{blockOf, bodyOf, checkOf}
 use Rattle.tape.proofs.Blocks.{length-body}
-
--- a lent part that a call fills with as many bytes as it is long
-filled : (f : ℕ → List ℕ) → ((m : ℕ) → length (f m) ≡ m) → (b g : List ℕ) (a e : ℕ) → a ≤ e → e ≤ length b → g ≡ f (length (take (e - a) (drop a b))) → putMid a (e - a) b g ≡ sets b a (f (e - a))
-filled f l b g a e h k p =
-    let q : length (take (e - a) (drop a b)) ≡ e - a = length-take-le (e - a) (drop a b) (rw length-drop (omega arith)) in
-    rw (p, q) (put-sets a (e - a) b (f (e - a)) (l (e - a)) (omega arith))
 
 -- three words, the data, and zeros up to the check are one run
 joined : (b d : List ℕ) (k n i : ℕ) → sets (sets (sets (sets (sets b 0 (wordBytes k)) 2 (wordBytes n)) 4 (wordBytes i)) 6 d) (6 + length d) (replicate (504 - length d) 0) ≡ sets b 0 (bodyOf k n i d)

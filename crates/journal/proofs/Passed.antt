@@ -11,7 +11,8 @@ use Rattle.tape.specs.Numbers.{blockBytes}
 use Rattle.state.specs.Checks.{refusalOf, stateWrong}
 use Rattle.state.specs.Legal.{Legal}
 use Rattle.state.proofs.Legal.{accepted}
-use Rattle.state.proofs.Tests.{neither, past}
+use Rattle.lists.proofs.Cases.{past}
+use Rattle.state.proofs.Tests.{neither}
 use Rattle.journal.specs.Entries.{Sizes, entryLength}
 use Rattle.journal.specs.Refusals.{checked, journalLimit, sessionWrong}
 use Rattle.journal.specs.declared.Session.{Session}

@@ -1,5 +1,5 @@
 -- The stores that make an entry join into one run: three lent parts, each filled by a gather, and the head behind them.
-use mathlib.Core.Path.{_≡_, _∙_}
+use mathlib.Core.Path.{_≡_, ap, _∙_}
 use mathlib.Core.Bool.{Bool, false}
 use mathlib.Core.List.{List, _++_, append-assoc}
 use Prim.Native.Nat.{ℕ, _+_, _-_, _*_, _%_, _≤_}
@@ -9,7 +9,7 @@ use lib.ListN.{length, take, drop, length-append, length-drop, length-take}
 use lib.Seq.{length-sets, length-take-le, sets}
 use Rattle.lists.specs.Places.{gathered}
 use Rattle.lists.proofs.Placed.{length-gathered}
-use Rattle.lists.proofs.Stores.{put-sets, sets-at}
+use Rattle.lists.proofs.Stores.{filled, sets-at}
 use Rattle.tape.specs.Numbers.{blockBytes}
 use Rattle.entries.specs.Numbers.{numbersOf}
 use Rattle.entries.specs.Bytes.{headBytes}
@@ -22,9 +22,7 @@ module _ (w : Bool) (m b g : List ℕ) (at a x : ℕ) where
   pub part-filled : a + x ≤ length b → g ≡ gathered w m at (length (take (a + x - a) (drop a b))) → putMid a (a + x - a) b g ≡ sets b a (gathered w m at x)
   part-filled h p =
       let n : a + x - a ≡ x = omega arith in
-      let q : length (take x (drop a b)) ≡ x = length-take-le x (drop a b) (rw length-drop (omega arith)) in
-      let g′ : g ≡ gathered w m at x = rw (n, q) at p in
-      rw (n, g′) (put-sets a x b (gathered w m at x) (length-gathered w m at x) h)
+      filled (gathered w m at) (length-gathered w m at) b g a (a + x) (omega arith) h p ∙ ap (λ (k : ℕ). sets b a (gathered w m at k)) n
 
 -- a lent part of x bytes has no more bytes than its place in memory
 pub part-in : (at a x size : ℕ) (b : List ℕ) → at + x ≤ size → size % 2 ≡ 0 → (at + length (take (a + x - a) (drop a b)) ≤ size) × (size % 2 ≡ 0)

@@ -1,11 +1,11 @@
 -- Laws of `sets`, a run of stores: how two runs join, and what a run leaves as it was.
 use mathlib.Core.Path.{_≡_, refl, sym, ap, _∙_}
 use mathlib.Core.List.{List, [], _∷_, _++_, append-assoc, append-nil}
-use Prim.Native.Nat.{ℕ, zero, suc, _+_, _≤_, _<_}
+use Prim.Native.Nat.{ℕ, zero, suc, _+_, _-_, _≤_, _<_}
 use native.Mathlib.Nat.{add-suc, suc-add, add-zero}
 use native.Mathlib.Omega.{arith}
 use borrow.Rule.Slice.PartMut.{putMid}
-use lib.ListN.{length, take, drop, getD, set, replicate, length-replicate, length-set, replicate-append-replicate, drop-of-length-le}
+use lib.ListN.{length, take, drop, getD, set, replicate, length-drop, length-replicate, length-set, replicate-append-replicate, drop-of-length-le}
 use lib.Seq.{sets, sets-eq, drop-drop, length-take-le, getD-set-other, getD-set-same, take-set-le, drop-set-lt, drop-at, take-append-seam}
 
 -- two runs that meet are one run
@@ -27,6 +27,12 @@ sets-whole vs b e = sets-eq vs b 0 (omega arith) ∙ ap (λ (t : List ℕ). vs +
 -- a part that was lent comes back as a run of stores
 pub put-sets : (a m : ℕ) (xs ys : List ℕ) → length ys ≡ m → a + m ≤ length xs → putMid a m xs ys ≡ sets xs a ys
 put-sets a m xs ys e h = rw (← e, drop-drop, ← append-assoc) (sym (sets-eq ys xs a (omega arith)))
+
+-- a lent part that a call fills with as many bytes as it is long
+pub filled : (f : ℕ → List ℕ) → ((m : ℕ) → length (f m) ≡ m) → (b g : List ℕ) (a e : ℕ) → a ≤ e → e ≤ length b → g ≡ f (length (take (e - a) (drop a b))) → putMid a (e - a) b g ≡ sets b a (f (e - a))
+filled f l b g a e h k p =
+    let q : length (take (e - a) (drop a b)) ≡ e - a = length-take-le (e - a) (drop a b) (rw length-drop (omega arith)) in
+    rw (p, q) (put-sets a (e - a) b (f (e - a)) (l (e - a)) (omega arith))
 
 -- what stands at an index below, above and within the run
 pub getD-below : (vs l : List ℕ) (i j : ℕ) → j < i → getD (sets l i vs) j 0 ≡ getD l j 0

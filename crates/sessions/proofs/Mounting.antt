@@ -18,7 +18,8 @@ use Rattle.tape.specs.declared.Swept.the-variants as swept
 use Rattle.state.specs.Changes.{mountedAs}
 use Rattle.state.specs.Checks.{blocksRight, memoryRight}
 use Rattle.state.proofs.Legal.{legal-mounted}
-use Rattle.state.proofs.Tests.{neither, past}
+use Rattle.lists.proofs.Cases.{past}
+use Rattle.state.proofs.Tests.{neither}
 use Rattle.commands.specs.declared.plans.Answer.the-variants as answer
 use Rattle.journal.specs.declared.Session.{Session}
 use Rattle.journal.specs.Worlds.{World}

@@ -20,7 +20,8 @@ use Rattle.state.specs.declared.act.Act.the-variants as act
 use Rattle.state.specs.Changes.{acceptedWrite, initialized, mountedAs, operated, rejectedWrite, switchedLine, switchedLock, tsdbWritten, withRegisters}
 use Rattle.state.specs.Checks.{blocksRight, bufferWrong, lastClass, lengthsWrong, memoryLimit, memoryRight, pointerLimit, refusalOf, registersWrong, stateWrong, tapeWrong}
 use Rattle.state.specs.Legal.{BufferFits, Legal}
-use Rattle.state.proofs.Tests.{either, neither, none-unless, past, unless}
+use Rattle.lists.proofs.Cases.{past}
+use Rattle.state.proofs.Tests.{either, neither, none-unless, unless}
 
 -- What each part of the check says where it finds nothing wrong.
 tape-right : (t : Tape) (blocks : ℕ) → tapeWrong t blocks ≡ false → (t .position ≤ t .end) × (t .end ≤ blocks)

@@ -22,11 +22,6 @@ pub none-unless : (a b : Bool) → (a ≡ false → b ≡ false) → (not a && b
 none-unless true b h = refl
 none-unless false b h = h refl
 
--- a choice that came to r, where its first way is another
-pub past : {A : Type 0} (t : Bool) (a o r : A) → (a ≡ r → ⊥) → pick t a o ≡ r → (t ≡ false) × (o ≡ r)
-past true a o r f e = absurd (f e)
-past false a o r f e = (refl, e)
-
 -- what holds of both ways of a choice holds of the choice
 pub either : {A : Type 0} (P : A → Type 0) (t : Bool) (a o : A) → P a → P o → P (pick t a o)
 either P true a o p q = p

@@ -8,6 +8,7 @@ use borrow.Author.Tests.{eqb-true, eqb-false, leb-true}
 use lib.Dec.{eqb, leb}
 use Rattle.lists.specs.Pick.{pick}
 use Rattle.lists.specs.Words.{wordAt}
+use Rattle.lists.proofs.Cases.{past}
 use Rattle.tape.specs.Layout.{gapKind, markKind, pieceKind}
 use Rattle.tape.specs.Reading.{bodyRight, checkRight, classBy, classOf, headRight, indexRight, kindOf, kindRight, lengthRight, paddingRight, usedOf}
 use Rattle.tape.specs.declared.Block.{Block}
@@ -17,10 +18,6 @@ use Rattle.tape.specs.declared.Block.the-variants as block
 pub pick-first : {A : Type 0} (t : Bool) (a o r : A) → pick t a o ≡ r → (o ≡ r → ⊥) → (t ≡ true) × (a ≡ r)
 pick-first true a o r e f = (refl, e)
 pick-first false a o r e f = absurd (f e)
-
-pick-second : {A : Type 0} (t : Bool) (a o r : A) → pick t a o ≡ r → (a ≡ r → ⊥) → (t ≡ false) × (o ≡ r)
-pick-second true a o r e f = absurd (f e)
-pick-second false a o r e f = (refl, e)
 
 -- the words of a block that is right, and what is right about it
 pub record Accepted (b : List ℕ) (k n i : ℕ) : Type 0 where
@@ -77,7 +74,7 @@ module _ (b : List ℕ) (r : Block) (e : classOf b ≡ r) (sound : block.Damaged
   blank : (k : ℕ) → wordAt b 0 ≡ k → Accepted b k 0 0 × (eqb k pieceKind ≡ false) × (pick (eqb k markKind) block.Mark block.Gap ≡ r)
   blank k ek =
       let a = accepted b k (wordAt b 2) (wordAt b 4) r ek refl refl e sound in
-      let p = pick-second (eqb k pieceKind) (block.Piece (wordAt b 2) (wordAt b 4)) (pick (eqb k markKind) block.Mark block.Gap) r (a .1) other in
+      let p = past (eqb k pieceKind) (block.Piece (wordAt b 2) (wordAt b 4)) (pick (eqb k markKind) block.Mark block.Gap) r other (a .1) in
       let z = no-data k (wordAt b 2) (wordAt b 4) (p .0) (a .0 .head) in
       (accepted b k 0 0 r ek (z .0) (z .1) e sound .0, p .0, p .1)
 
@@ -91,5 +88,5 @@ pub accepted-gap : (b : List ℕ) → classOf b ≡ block.Gap → Accepted b gap
 accepted-gap b e =
     let is = blank b block.Gap e (λ h. clash cc) (λ h. clash cc) in
     let a = is (wordAt b 0) refl in
-    let p = pick-second (eqb (wordAt b 0) markKind) block.Mark block.Gap block.Gap (a .2) (λ h. clash cc) in
+    let p = past (eqb (wordAt b 0) markKind) block.Mark block.Gap block.Gap (λ h. clash cc) (a .2) in
     is gapKind (third (wordAt b 0) 0 0 (a .1) (p .0) (a .0 .head)) .0

@@ -13,7 +13,8 @@ use Rattle.lists.proofs.Placed.{placed-plain}
 use Rattle.state.specs.Checks.{refusalOf}
 use Rattle.state.specs.declared.Unit.{Unit}
 use Rattle.state.proofs.Legal.{accepted}
-use Rattle.state.proofs.Tests.{neither, past}
+use Rattle.lists.proofs.Cases.{past}
+use Rattle.state.proofs.Tests.{neither}
 use Rattle.commands.specs.declared.plans.Answer.the-variants as answer
 use Rattle.unit.specs.Calls.{Hosted, answerOf, hostLimit, storeRefusal}
 
