@@ -1,6 +1,6 @@
 -- A session and its block are one another's: the session comes back from its block, and a block's bytes are those of the session that it
 -- is read as.
-use mathlib.Core.Path.{_≡_, refl, sym, ap, _∙_}
+use mathlib.Core.Path.{_≡_, refl, sym, ap, ap₂, _∙_}
 use mathlib.Core.Bool.{Bool, true, false, _&&_, not, true≢false}
 use mathlib.Core.List.{List, [], _∷_, _++_, append-nil}
 use Prim.Native.Nat.{ℕ, zero, suc, _+_, _*_, _/_, _%_, _<_, _≤_}
@@ -10,6 +10,7 @@ use lib.Dec.{eqb, ltb}
 use lib.ListN.{drop, getD, length, length-drop}
 use lib.Seq.{drop-cons, getD-drop}
 use Rattle.lists.specs.Words.{Bytes, wordAt}
+use Rattle.lists.proofs.Sums.{word-whole}
 use Rattle.entries.specs.Numbers.{Small, bit, entryOf, isSet, nth, numberLimit, numbersOf, unitOf}
 use Rattle.entries.specs.Bytes.{headBytes, headNumbers, numberAt, numberBytes}
 use Rattle.entries.proofs.Back.{length-numbers, numbers-small}
@@ -52,7 +53,7 @@ block-is s = rw (numbers-in s, flags-of s, rest-of s)
 number-small : (b : List ℕ) → Bytes b → numberAt b 0 < numberLimit
 number-small b h = omega (arith, h 0, h 1, h 2, h 3)
 
-bytes-drop : (n : ℕ) (b : List ℕ) → Bytes b → Bytes (drop n b)
+pub bytes-drop : (n : ℕ) (b : List ℕ) → Bytes b → Bytes (drop n b)
 bytes-drop n b h i = rw (getD-drop n b i 0) (h (n + i))
 
 pub read-small : (k : ℕ) (b : List ℕ) → Bytes b → (i : ℕ) → getD (headNumbers k b) i 0 < numberLimit
@@ -110,18 +111,13 @@ four-first b h =
     sym (drop-cons b 0 0 (omega arith) ∙ ap (λ (x : List ℕ). getD b 0 0 ∷ x) (drop-cons b 1 0 (omega arith)
     ∙ ap (λ (x : List ℕ). getD b 1 0 ∷ x) (drop-cons b 2 0 (omega arith) ∙ ap (λ (x : List ℕ). getD b 2 0 ∷ x) (drop-cons b 3 0 (omega arith)))))
 
-word-parts : (x y : ℕ) → x < 256 → y < 256 → ((x + 256 * y) % 256 ≡ x) × ((x + 256 * y) / 256 ≡ y)
-word-parts x y h k = (omega arith, omega arith)
-
 number-parts : (x y : ℕ) → x < 65536 → y < 65536 → ((x + 65536 * y) % 65536 ≡ x) × ((x + 65536 * y) / 65536 ≡ y)
 number-parts x y h k = (omega arith, omega arith)
 
 number-bytes : (b : List ℕ) → Bytes b → numberBytes (numberAt b 0) ≡ getD b 0 0 ∷ getD b 1 0 ∷ getD b 2 0 ∷ getD b 3 0 ∷ []
 number-bytes b h =
     let n = number-parts (wordAt b 0) (wordAt b 2) (omega (arith, h 0, h 1)) (omega (arith, h 2, h 3)) in
-    let l = word-parts (getD b 0 0) (getD b 1 0) (h 0) (h 1) in
-    let u = word-parts (getD b 2 0) (getD b 3 0) (h 2) (h 3) in
-    rw (n .0, n .1, l .0, l .1, u .0, u .1)
+    rw (n .0, n .1) (ap₂ (λ (x y : List ℕ). x ++ y) (word-whole (getD b 0 0) (getD b 1 0) (h 0) (h 1)) (word-whole (getD b 2 0) (getD b 3 0) (h 2) (h 3)))
 
 no-bytes : (b : List ℕ) → length b ≡ 0 → [] ≡ b
 no-bytes [] h = refl
