@@ -1,0 +1,5 @@
+-- The theorems of the exported calls.
+pub mod Names
+pub mod Fits
+pub mod Goes
+pub mod Runs

@@ -1,0 +1,1 @@
+// The theorems of the exported calls over the bytes that a host holds. No code.
