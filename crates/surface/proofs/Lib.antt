@@ -3,3 +3,6 @@ pub mod Names
 pub mod Fits
 pub mod Goes
 pub mod Runs
+pub mod Backs
+pub mod Undone
+pub mod Unique
