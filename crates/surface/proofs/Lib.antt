@@ -6,3 +6,5 @@ pub mod Runs
 pub mod Backs
 pub mod Undone
 pub mod Unique
+pub mod Hosts
+pub mod Mounted

@@ -1,0 +1,1 @@
+-- A mount that answers 0 begins a session.
