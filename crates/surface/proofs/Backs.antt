@@ -1,24 +1,23 @@
 -- One exported step back is one step back of the session, from any block and any journal.
-use mathlib.Core.Bool.{Bool, true, _&&_, not, and-eq-true-iff}
+use mathlib.Core.Bool.{Bool, _&&_, not, and-eq-true-iff}
 use mathlib.Core.List.{List}
 use mathlib.Core.Path.{_≡_, refl, subst}
 use Prim.Native.Nat.{ℕ, _-_}
 use native.Mathlib.Omega.{arith}
 use borrow.Author.Tests.{eqb-true, not-true}
 use lib.Dec.{eqb, ltb}
-use lib.ListN.{drop, length, take}
+use lib.ListN.{drop, length}
 use Rattle.lists.specs.Words.{Bytes}
 use Rattle.lists.proofs.Cases.{pick-told}
 use Rattle.tape.proofs.Parts.{bytes-part}
 use Rattle.state.specs.Checks.{stateWrong}
 use Rattle.state.proofs.Legal.{legal}
 use Rattle.state.proofs.Tests.{either}
-use Rattle.commands.specs.declared.plans.Answer.the-variants as answer
 use Rattle.entries.specs.Numbers.{Small}
 use Rattle.entries.specs.declared.Entry.{Entry}
-use Rattle.journal.specs.Worlds.{Answered, World, answered}
+use Rattle.journal.specs.Worlds.{Answered, World}
 use Rattle.journal.specs.Refusals.{checked}
-use Rattle.journal.specs.Entries.{entryHead, entryLength}
+use Rattle.journal.specs.Entries.{entryHead}
 use Rattle.journal.specs.Restoring.{entryFits, newestEntry}
 use Rattle.journal.specs.Calls.{backOn, broughtBack, guarded, refusedAs, undoBy, undoOn}
 use Rattle.journal.proofs.Passed.{Passed, passed}

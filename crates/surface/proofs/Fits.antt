@@ -5,15 +5,14 @@ use Prim.Native.Nat.{ℕ, _≤_}
 use native.Mathlib.Omega.{arith}
 use borrow.Author.Tests.{eqb-true}
 use lib.Dec.{eqb}
-use lib.ListN.{length, take}
+use lib.ListN.{length}
 use lib.Seq.{length-take-le}
 use Rattle.lists.specs.Words.{Bytes}
 use Rattle.lists.proofs.Cases.{by-test}
 use Rattle.state.specs.Legal.{Legal}
-use Rattle.state.specs.declared.Unit.{Unit}
 use Rattle.commands.specs.declared.plans.Answer.{Answer}
 use Rattle.commands.specs.declared.plans.Answer.the-variants as answer
-use Rattle.entries.specs.Numbers.{Small, numberLimit}
+use Rattle.entries.specs.Numbers.{Small}
 use Rattle.journal.specs.declared.Session.{Session}
 use Rattle.journal.specs.Worlds.{Answered, World}
 use Rattle.journal.specs.Refusals.{checked, journalLimit}

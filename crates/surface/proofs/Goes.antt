@@ -1,5 +1,4 @@
 -- What a call leaves with the host is the block and the buffers of the world after it.
-use mathlib.Core.Bool.{true}
 use mathlib.Core.List.{List}
 use mathlib.Core.Path.{_≡_, refl, sym, ap, subst, _∙_}
 use Prim.Native.Nat.{ℕ}

@@ -1,19 +1,17 @@
 -- A host's calls are a session of the model: what holds of any session holds of the bytes that a host holds.
 use mathlib.Core.List.{List, [], _∷_}
-use mathlib.Core.Path.{_≡_, refl, sym, ap, subst, _∙_}
-use Prim.Native.Nat.{ℕ, _≤_}
+use mathlib.Core.Path.{_≡_, refl, sym, ap, _∙_}
+use Prim.Native.Nat.{ℕ}
 use lib.ListN.{length}
 use Rattle.lists.specs.Words.{Bytes}
 use Rattle.commands.specs.Answers.{numberOf}
-use Rattle.commands.specs.declared.plans.Answer.{Answer}
-use Rattle.commands.specs.declared.plans.Answer.the-variants as answer
 use Rattle.journal.specs.Worlds.{Answered, World}
 use Rattle.journal.specs.Calls.{backOn, refusedAs}
-use Rattle.sessions.specs.Session.{Done, Kind, Ran, after, and-did, and-not, and-saw, and-undid, backFrom, did, looked, not, refused, saw, standing, start, stepped, strike, undid}
+use Rattle.sessions.specs.Session.{Done, Kind, Ran, after, and-did, and-not, and-saw, and-undid, backFrom, did, looked, not, refused, saw, start, stepped, undid}
 use Rattle.sessions.specs.Calling.{Call, Kept, Said, onCall}
-use Rattle.sessions.proofs.Calls.{Fresh, Good, JournalIs, Now, always-good, back-done, back-none, calls, journal-is, kindNow, one-each}
+use Rattle.sessions.proofs.Calls.{Fresh, Now, back-done, back-none, calls, kindNow}
 use Rattle.sessions.proofs.Stays.{stays}
-use Rattle.ts11.specs.Given.{Gives, backGiven}
+use Rattle.ts11.specs.Given.{backGiven}
 use Rattle.surface.specs.Hosting.{Block, Holds, Host, Hosted, Line, and-back, and-made, back, begun, given, made, worldIn}
 use Rattle.surface.proofs.Fits.{looked-none, refused-none}
 use Rattle.surface.proofs.Runs.{given-is, runs-as}

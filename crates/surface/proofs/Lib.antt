@@ -2,9 +2,11 @@
 pub mod Names
 pub mod Fits
 pub mod Goes
+pub mod Readings
 pub mod Runs
 pub mod Backs
 pub mod Undone
 pub mod Unique
 pub mod Hosts
 pub mod Mounted
+pub mod Always

@@ -9,19 +9,16 @@ use lib.Dec.{eqb, ltb}
 use lib.ListN.{length, take}
 use Rattle.lists.specs.Words.{Bytes}
 use Rattle.lists.proofs.Cases.{by-test}
-use Rattle.tape.specs.Numbers.{blockBytes}
 use Rattle.tape.specs.Sweep.{sweptBelow}
 use Rattle.tape.specs.declared.Swept.{Swept}
 use Rattle.tape.specs.declared.Swept.the-variants as swept
 use Rattle.commands.specs.Answers.{numberOf}
-use Rattle.commands.specs.declared.plans.Answer.{Answer}
 use Rattle.commands.specs.declared.plans.Answer.the-variants as answer
 use Rattle.unit.specs.Calls.{mountRefusal}
 use Rattle.journal.specs.declared.Session.{Session}
 use Rattle.journal.specs.Worlds.{World}
 use Rattle.journal.specs.Refusals.{journalLimit}
 use Rattle.journal.specs.Calls.{mountOn, mountSweptOn}
-use Rattle.sessions.specs.Session.{stepped}
 use Rattle.sessions.specs.Calling.{stepKind}
 use Rattle.sessions.proofs.Calls.{Fresh}
 use Rattle.sessions.proofs.Mounting.{mountWorld, mounted, mounted-fit}

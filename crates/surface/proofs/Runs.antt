@@ -1,8 +1,7 @@
 -- One exported call is one call of the session, from any block.
 use mathlib.Core.List.{List}
-use mathlib.Core.Path.{_≡_, refl, sym, ap, subst, _∙_}
+use mathlib.Core.Path.{_≡_, refl, sym, subst, _∙_}
 use Prim.Native.Nat.{ℕ}
-use native.Mathlib.Omega.{arith}
 use lib.ListN.{length}
 use Rattle.journal.specs.Worlds.{Answered, World}
 use Rattle.sessions.specs.Session.{Kind, looked, refused, stepped}
@@ -11,7 +10,7 @@ use Rattle.sessions.proofs.Undone.{Fit}
 use Rattle.sessions.proofs.Stays.{stays}
 use Rattle.sessions.proofs.Advancing.{advance-sound}
 use Rattle.sessions.proofs.Taken.{Taken, taken, taken-fit}
-use Rattle.ts11.specs.Given.{Gives, handed, opened}
+use Rattle.ts11.specs.Given.{Gives, handed}
 use Rattle.surface.specs.Hosting.{Block, given}
 use Rattle.surface.proofs.Fits.{fit-handed, looked-none, refused-none, small-fit, sound-step, step-done}
 use Rattle.surface.proofs.Goes.{Went, leaves, opens, stayed, went}

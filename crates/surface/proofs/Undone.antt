@@ -1,7 +1,7 @@
 -- The step back after a step gives back the bytes of state, memory and reel, from any block, be it of a state that no session ever had.
 use mathlib.Core.Bool.{false}
 use mathlib.Core.List.{List}
-use mathlib.Core.Path.{_≡_, refl, sym, ap, subst, _∙_}
+use mathlib.Core.Path.{_≡_, sym, ap, subst, _∙_}
 use Prim.Native.Nat.{ℕ}
 use lib.ListN.{length, take}
 use Rattle.commands.specs.Answers.{numberOf}
