@@ -6,6 +6,7 @@ pub mod Readings
 pub mod Runs
 pub mod Backs
 pub mod Undone
+pub mod Refused
 pub mod Unique
 pub mod Hosts
 pub mod Mounted
