@@ -10,7 +10,7 @@ use Rattle.sessions.proofs.Calls.{Good, Now, always-good, calls, journal-is, ne
 use Rattle.sessions.proofs.Room.{Exactly, Steps, room-exactly}
 use Rattle.ts11.specs.Block.{sessionIn}
 use Rattle.ts11.proofs.Blocks.{same-block}
-use Rattle.surface.specs.Hosting.{Host, Hosted, Line, given, worldIn}
+use Rattle.surface.specs.Hosting.{Host, Hosted, Line, givenOn, worldIn}
 use Rattle.surface.proofs.Runs.{given-is}
 use Rattle.surface.proofs.Hosts.{Begins, Follows, first, host-ran}
 
@@ -48,9 +48,9 @@ module _ {h₀ h : Host} {d : List Line} (s : Begins h₀) (r : Hosted h₀ d h)
       }
 
   -- a step is refused for room exactly when its entry doesn't fit
-  pub host-room : (c : Call) → Steps c (worldIn h) → Exactly (worldIn h) (entryAt c (worldIn h)) (given c (h .block) (h .memory) (h .reel) (h .journal))
+  pub host-room : (c : Call) → Steps c (worldIn h) → Exactly (worldIn h) (entryAt c (worldIn h)) (givenOn c h)
   host-room c x =
-      let is : given c (h .block) (h .memory) (h .reel) (h .journal) ≡ onCall n c (worldIn h) = given-is c (h .block) (h .memory) (h .reel) (h .journal) (follows .block) ∙ ap (λ (i : ℕ). onCall i c (worldIn h)) (follows .long) in
+      let is : givenOn c h ≡ onCall n c (worldIn h) = given-is c (h .block) (h .memory) (h .reel) (h .journal) (follows .block) ∙ ap (λ (i : ℕ). onCall i c (worldIn h)) (follows .long) in
       subst (Exactly (worldIn h) (entryAt c (worldIn h))) (sym is) (room-exactly n c (worldIn h) (host-good .fit) x)
 
 -- what was undone never was, byte for byte: two runs whose steps that stand are the same end in the same block, memory, reel and used journal

@@ -11,8 +11,7 @@ use Rattle.sessions.specs.Session.{Done, Kind, Ran, after, and-did, and-not, an
 use Rattle.sessions.specs.Calling.{Call, Kept, Said, onCall}
 use Rattle.sessions.proofs.Calls.{Fresh, Now, back-done, back-none, calls, kindNow}
 use Rattle.sessions.proofs.Stays.{stays}
-use Rattle.ts11.specs.Given.{backGiven}
-use Rattle.surface.specs.Hosting.{Block, Holds, Host, Hosted, Line, and-back, and-made, back, begun, given, made, worldIn}
+use Rattle.surface.specs.Hosting.{Block, Holds, Host, Hosted, Line, and-back, and-made, back, backGivenOn, begun, givenOn, made, worldIn}
 use Rattle.surface.proofs.Fits.{looked-none, refused-none}
 use Rattle.surface.proofs.Runs.{given-is, runs-as}
 use Rattle.surface.proofs.Backs.{back-as, back-is}
@@ -52,8 +51,8 @@ module _ (n : ℕ) where
     abbrev was : World
     was = f .state .world
 
-    module _ {h′ : Host} {k : ℕ} (c : Call) (g : Holds h (given c (h .block) (h .memory) (h .reel) (h .journal)) k h′) where
-      does : given c (h .block) (h .memory) (h .reel) (h .journal) ≡ onCall n c was
+    module _ {h′ : Host} {k : ℕ} (c : Call) (g : Holds h (givenOn c h) k h′) where
+      does : givenOn c h ≡ onCall n c was
       does =
           given-is c (h .block) (h .memory) (h .reel) (h .journal) (f .block)
           ∙ ap (λ (i : ℕ). onCall i c (worldIn h)) (f .long)
@@ -103,7 +102,7 @@ module _ (n : ℕ) where
             long = g .long ∙ f .long;
           }
 
-    module _ {h′ : Host} {k : ℕ} (fresh : Fresh n s₀) (g : Holds h (backGiven (h .block) (h .memory) (h .reel) (h .journal)) k h′) where
+    module _ {h′ : Host} {k : ℕ} (fresh : Fresh n s₀) (g : Holds h (backGivenOn h) k h′) where
       same-back : backOn (worldIn h) (length (h .journal)) ≡ backOn was n
       same-back = ap (backOn (worldIn h)) (f .long) ∙ ap (λ (w : World). backOn w n) (sym (f .world))
 

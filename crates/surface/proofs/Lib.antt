@@ -7,6 +7,7 @@ pub mod Runs
 pub mod Backs
 pub mod Undone
 pub mod Refused
+pub mod Rounds
 pub mod Unique
 pub mod Hosts
 pub mod Mounted

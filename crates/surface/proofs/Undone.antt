@@ -18,7 +18,7 @@ use Rattle.surface.proofs.Goes.{opens, own-block}
 use Rattle.surface.proofs.Runs.{fit-before, given-is, runs-as, step-taken}
 
 -- the step back's outcome where it brings back the world of the block b
-brought : (b m r j : List ℕ) {b′ b″ m″ r″ j″ : List ℕ} {n : ℕ} → Block b → Gives b′ (answered (answer.Done false) (handed b m r j)) n b″ m″ r″ j″
+pub brought : (b m r j : List ℕ) {b′ b″ m″ r″ j″ : List ℕ} {n : ℕ} → Block b → Gives b′ (answered (answer.Done false) (handed b m r j)) n b″ m″ r″ j″
     → (n ≡ 0) × (b″ ≡ b) × (m″ ≡ m) × (r″ ≡ r) × (take (sessionIn b .used) j″ ≡ take (sessionIn b .used) j)
 unfolding numberOf blockAfter
 brought b m r j k g = (g .answer, g .state ∙ own-block b k, g .memory, g .reel, g .journal)

@@ -9,7 +9,8 @@
 //   one exported call is one call of the session, from any block  runs-as                   proofs/Runs.antt
 //   and so is a step back                                         back-as                   proofs/Backs.antt
 //   the step back after a step gives back the bytes before it     undone-bytes              proofs/Undone.antt
-//   a call that returns another number than 0 changed nothing      refused-bytes, refused-back, refused-mount
+//   and so do any number of steps, all undone                     round-bytes               proofs/Rounds.antt
+//   a call that returns another number than 0 changed nothing     refused-bytes, refused-back, refused-mount
 //                                                                                           proofs/Refused.antt
 //   a contract permits one outcome                                gives-unique              proofs/Unique.antt
 //   a mount answered 0 begins a session                           mounted-host              proofs/Mounted.antt
