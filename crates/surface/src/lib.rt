@@ -1,0 +1,21 @@
+// The theorems of the exported calls, over the bytes that a host holds. No code: the calls' contracts (`Gives`, `Mounts` and `Reads` in
+// crates/ts11/src/calls.rt) say that each call gives what its definition says, and the theorems are about those definitions.
+//
+//   a session's block is read as that session                     block-back, block-is      crates/ts11/proofs/Blocks.antt
+//   a block's bytes are those of the session it is read as        block-own, same-block
+//   each exported call is the session's call of its name          given-tsdb, given-tssr, given-operate, given-host, given-advance
+//                                                                                           proofs/Names.antt
+//                                                                 given-register            proofs/Readings.antt
+//   one exported call is one call of the session, from any block  runs-as                   proofs/Runs.antt
+//   and so is a step back                                         back-as                   proofs/Backs.antt
+//   the step back after a step gives back the bytes before it     undone-bytes              proofs/Undone.antt
+//   and so do any number of steps, all undone                     round-bytes               proofs/Rounds.antt
+//   a call that returns another number than 0 changed nothing     refused-bytes, refused-back, refused-mount
+//                                                                                           proofs/Refused.antt
+//   a contract permits one outcome                                gives-unique              proofs/Unique.antt
+//   a mount answered 0 begins a session                           mounted-host              proofs/Mounted.antt
+//   a host's calls are a session of the model                     host-ran                  proofs/Hosts.antt
+//   what holds of every session holds of those bytes              host-good, host-journal, host-room, same-bytes
+//                                                                                           proofs/Always.antt
+//
+// specs/Hosting.antt says what a host holds and what its calls are.
