@@ -1,4 +1,4 @@
-# Sourced by tools/run and host/build: where the toolchain keeps what runs an x86-64 program here.
+# Sourced by tools/run and host/run: where the toolchain keeps what runs an x86-64 program here.
 #   tools      its folder with the C library, for this processor
 #   emulator   what runs an x86-64 program; empty where the processor is one
 kit=$(cd "$(dirname "$(rt doc)")/.." && pwd)

@@ -1,24 +1,33 @@
 /*
  * ts11.h: the command side of one TS11-compatible tape unit, its reel image, and a journal that steps back.
  *
- * Link with libts11.a (x86-64 Linux; it needs nothing but memcpy, memmove and memset of the C library). Every function of the archive is
- * proved to meet its contract on all inputs, to return, and to touch nothing but the buffers named in its call.
+ * Link with libts11.a (x86-64 Linux; it needs nothing of the C library but memset, memcpy and memmove). Every
+ * function of the archive is proved to meet its contract on all inputs, to return, and to touch nothing but the
+ * buffers named in its call.
  *
  * THE HOST OWNS EVERYTHING. The library has no memory of its own. A host keeps, for one unit:
  *   state    one ts11_state, 128 bytes
  *   memory   the machine's memory: an even number of bytes, 2 to 262,144; words are little-endian
  *   reel     the reel image: 1 to 65,536 blocks of 512 bytes
  *   journal  room for the undo entries: 0 to 16,777,216 bytes
- * and hands them to every call, each buffer as a pointer and a length in bytes. The buffers of one call, the state and the out-parameters must not
- * overlap, no pointer may be null (with length 0 any other address will do), and each must have the bytes that its length says. Two calls may run
- * at once if they share no buffer that either writes.
+ * and hands them to every call, each buffer as a pointer and a length in bytes. The buffers of one call, the state
+ * and the out-parameters must not overlap, no pointer may be null (with length 0 any other address will do), and
+ * each must have the bytes that its length says. Two calls may run at once if they share no buffer that either
+ * writes.
  *
- * A CALL ANSWERS 0 OR A REFUSAL'S NUMBER. Refused, it has changed nothing in state, memory, reel or used journal. Where several refusals hold, the
- * least number is given.
+ * A CALL ANSWERS 0 OR A REFUSAL'S NUMBER. Refused, it has changed nothing in state, memory, reel or used journal.
+ * Where several refusals hold, the least number is given.
  *
- * A STEP IS UNDONE EXACTLY. ts11_write_tsdb, ts11_write_tssr, ts11_operate, ts11_host_store and ts11_advance are steps: answered 0, each adds one
- * entry to the journal (an idle advance adds none). ts11_step_back removes the newest and brings back state, memory and reel as they were before it,
- * byte for byte, if memory, reel and state were changed by nothing but calls in between.
+ * A STEP IS UNDONE EXACTLY. ts11_write_tsdb, ts11_write_tssr, ts11_operate, ts11_host_store and ts11_advance are
+ * steps: answered 0, each adds one entry to the journal (an idle advance adds none). ts11_step_back removes the
+ * newest and brings back state, memory and reel as they were before it, byte for byte, if memory, reel and state
+ * were changed by nothing but calls in between.
+ *
+ * HOW A DRIVER STARTS. After a mount or a TSSR write the unit has no message buffer (NBA) and wants its volume
+ * check (VCK) cleared. The first command is TS11_WRITE_CHARACTERISTICS | TS11_ACK | TS11_CVC with count 8; until
+ * one is accepted, every other command is rejected without a message. A command is: its packet in memory, the
+ * packet's address into TSDB by ts11_write_tsdb, then ts11_advance. Put TS11_ACK on every command: each message
+ * hands the buffer back to the CPU, and a command without ACK is then dropped.
  */
 #ifndef TS11_H
 #define TS11_H
@@ -31,41 +40,48 @@
 extern "C" {
 #endif
 
-/* ---- limits ------------------------------------------------------------------------------------------------------------------------- */
+/* ---- limits -------------------------------------------------------------------------------------------------- */
 
-#define TS11_MEMORY_MAX 262144    /* bytes of memory; the length is even and not 0 */
-#define TS11_BLOCK 512            /* bytes of a block of the reel */
-#define TS11_BLOCK_DATA 504       /* data bytes of a block; a record of n bytes takes n / 504 blocks, rounded up */
+#define TS11_MEMORY_MAX 262144     /* bytes of memory; the length is even and not 0 */
+#define TS11_BLOCK 512             /* bytes of a block of the reel */
+#define TS11_BLOCK_DATA 504        /* data bytes of a block; a record of n bytes takes n / 504 blocks, rounded up */
 #define TS11_REEL_BLOCKS_MAX 65536 /* blocks of a reel; at least 1 */
-#define TS11_JOURNAL_MAX 16777216 /* bytes of journal; 0 is allowed, and then no step is */
-#define TS11_RECORD_MAX 16384     /* bytes of a record; at least 1 */
-#define TS11_HOST_STORE_MAX 65535 /* bytes of one host store; 0 is allowed */
-#define TS11_EOT_MARGIN 64        /* the EOT marker is this many blocks before the reel's end, or at block 0 */
-#define TS11_ENTRY_HEAD 128       /* bytes of a journal entry beside the memory and reel bytes that it keeps */
-#define TS11_MESSAGE_BYTES 14     /* bytes of a message, and the least message buffer */
+#define TS11_JOURNAL_MAX 16777216  /* bytes of journal; 0 is allowed, and then no step is */
+#define TS11_RECORD_MAX 16384      /* bytes of a record; at least 1 */
+#define TS11_HOST_STORE_MAX 65535  /* bytes of one host store; 0 is allowed */
+#define TS11_EOT_MARGIN 64         /* the EOT marker is this many blocks before the reel's end, or at block 0 */
+#define TS11_ENTRY_HEAD 128        /* bytes of a journal entry beside the memory and reel bytes that it keeps */
+#define TS11_MESSAGE_BYTES 14      /* bytes of a message, and the least message buffer */
 
-/* ---- answers ------------------------------------------------------------------------------------------------------------------------ */
+/* ---- answers ------------------------------------------------------------------------------------------------- */
 
 /* 0, or the number of a refusal. */
 typedef size_t ts11_answer;
 
+/*
+ * 1: a number of the state is out of range or out of step with another (position above the end, used journal above the
+ *    journal, message buffer not allowed), or the bytes are no state's at all.
+ * 7: the number of the first block at fault goes to *block. It is damaged, or is not the piece that is due, or begins a
+ *    record that the recorded end cuts off. A command goes on waiting: mend the reel, and advance again.
+ */
 #define TS11_DONE 0
-#define TS11_BAD_STATE 1     /* the state's bytes are none that a call leaves: a field out of range, or no state's encoding at all */
-#define TS11_BAD_MEMORY 2    /* memory length not allowed, or not that of the mount */
-#define TS11_BAD_REEL 3      /* reel length not allowed, or not that of the mount; at a mount, recorded end above the reel's capacity */
-#define TS11_BAD_JOURNAL 4   /* journal too long, or not of the mount's length */
-#define TS11_BAD_STORE 5     /* host store too long, or not inside memory */
-#define TS11_NO_ENTRY 6      /* step back with no entry */
-#define TS11_BAD_BLOCK 7     /* a block that must be read is damaged or out of place: *block is its number; a command goes on waiting */
-#define TS11_BAD_ENTRY 8     /* the newest journal entry's numbers don't fit, or the state it keeps is one that 1 refuses */
-#define TS11_JOURNAL_FULL 9  /* free journal less than the step's entry */
+#define TS11_BAD_STATE 1    /* the state: see above */
+#define TS11_BAD_MEMORY 2   /* memory length not allowed, or not that of the mount */
+#define TS11_BAD_REEL 3     /* reel length not allowed, or not that of the mount; at a mount, end above capacity */
+#define TS11_BAD_JOURNAL 4  /* journal too long, or not of the mount's length */
+#define TS11_BAD_STORE 5    /* host store too long, or not inside memory */
+#define TS11_NO_ENTRY 6     /* step back with no entry */
+#define TS11_BAD_BLOCK 7    /* a block that must be read is damaged or out of place: see above */
+#define TS11_BAD_ENTRY 8    /* the newest entry's numbers don't fit, or it keeps a state that 1 refuses */
+#define TS11_JOURNAL_FULL 9 /* free journal less than the step's entry */
 
-/* ---- the state ---------------------------------------------------------------------------------------------------------------------- */
+/* ---- the state ----------------------------------------------------------------------------------------------- */
 
 /*
- * The unit's state, as 32 numbers of four bytes, low byte first, at the offsets below. A host may copy it, compare it, store it and read it: two
- * states are the same exactly when their bytes are. Bytes that no call wrote are legal too: they mean the state that the numbers say, or get
- * TS11_BAD_STATE (a flag other than 0 and 1, one of the unused numbers not 0, a number out of range). Alignment does not matter.
+ * The unit's state, as 32 numbers of four bytes, low byte first, at the offsets below. A host may copy it, compare
+ * it, store it and read it: two states are the same exactly when their bytes are. Bytes that no call wrote are
+ * legal too: they mean the state that the numbers say, or get TS11_BAD_STATE (a flag other than 0 and 1, one of the
+ * unused numbers not 0, a number out of range). Alignment does not matter.
  */
 #define TS11_STATE_BYTES 128
 
@@ -74,13 +90,13 @@ typedef struct ts11_state {
 } ts11_state;
 
 #define TS11_AT_POSITION 0         /* the tape's position, in blocks */
-#define TS11_AT_END 4              /* the recorded end, in blocks: what lies at or above it is not part of the reel */
+#define TS11_AT_END 4              /* the recorded end, in blocks: the reel's objects lie below it */
 #define TS11_AT_POINTER 8          /* the command pointer last accepted, 18 bits */
 #define TS11_AT_CLASS 12           /* the termination class, 0 to 6 */
 #define TS11_AT_RMR 16             /* flag: register modification refused */
 #define TS11_AT_NXM 20             /* flag: nonexistent memory */
 #define TS11_AT_NBA 24             /* flag: need buffer address; clear, the message buffer below is in force */
-#define TS11_AT_SSR 28             /* flag: subsystem ready; clear, a command waits and the command buffer is the unit's */
+#define TS11_AT_SSR 28             /* flag: subsystem ready; clear, a command waits */
 #define TS11_AT_ONLINE 32          /* flag: the on-line switch */
 #define TS11_AT_LOCKED 36          /* flag: the write lock */
 #define TS11_AT_VCK 40             /* flag: volume check */
@@ -105,28 +121,38 @@ static inline uint32_t ts11_state_number(const ts11_state *state, size_t at)
 	return (uint32_t)b[0] | (uint32_t)b[1] << 8 | (uint32_t)b[2] << 16 | (uint32_t)b[3] << 24;
 }
 
-/* ---- the calls ---------------------------------------------------------------------------------------------------------------------- */
+/* ---- the calls ----------------------------------------------------------------------------------------------- */
 
 /*
- * Mounts a reel: reads every block below the recorded end, sets position 0, the two switches, the lengths, and all else as an initialize does, and
- * empties the journal. The state that it replaces is not looked at. memory_length and journal_length are those of the buffers that later calls will
- * be handed. Refusals 2, 3, 4, and 7 with *block; else *block is 0. Not a step.
+ * Mounts a reel: reads every block below the recorded end, sets position 0, the two switches, the lengths, and all
+ * else as ts11_write_tssr does, and empties the journal. The state that it replaces is not looked at. memory_length
+ * and journal_length are those of the buffers that later calls will be handed. Refusals 2, 3, 4, and 7 with *block;
+ * else *block is 0. Not a step.
  */
-ts11_answer ts11_mount(ts11_state *state, size_t memory_length, const uint8_t *reel, size_t reel_length, size_t journal_length,
-                       size_t recorded_end, bool online, bool write_lock, size_t *block);
+ts11_answer ts11_mount(ts11_state *state, size_t memory_length, const uint8_t *reel, size_t reel_length,
+                       size_t journal_length, size_t recorded_end, bool online, bool write_lock, size_t *block);
 
 /*
- * The CPU writes a word to TSDB: the address of a command packet, see TS11_TSDB. With SSR clear it sets RMR and nothing else.
- * Refusals 1 to 4, 9. A step.
+ * The CPU writes a word to TSDB: the address of a command packet, see TS11_TSDB. It clears RMR, NXM, class and SSR,
+ * and the command waits for ts11_advance. With SSR clear it sets RMR and nothing else: the command that waits is
+ * not touched. Refusals 1 to 4, 9. A step.
  */
 ts11_answer ts11_write_tsdb(ts11_state *state, uint8_t *memory, size_t memory_length, uint8_t *reel, size_t reel_length,
                             uint8_t *journal, size_t journal_length, uint16_t word);
 
-/* The CPU writes a word to TSSR: any value initializes the unit. Refusals 1 to 4, 9. A step. */
+/*
+ * The CPU writes a word to TSSR: any value initializes the unit. The command that waits, a pending attention, the
+ * message buffer and the characteristics are dropped; NBA, SSR and VCK are set, RMR, NXM, class and the pointer
+ * cleared; both buffers are the CPU's; on line the tape goes to position 0. Switches and recorded end stay.
+ * Refusals 1 to 4, 9. A step.
+ */
 ts11_answer ts11_write_tssr(ts11_state *state, uint8_t *memory, size_t memory_length, uint8_t *reel, size_t reel_length,
                             uint8_t *journal, size_t journal_length, uint16_t word);
 
-/* The operator sets a switch. An act that finds the switch already so changes nothing else, and is a step all the same. Refusals 1 to 4, 9. */
+/*
+ * The operator sets a switch. Going on line sets VCK; going on or off line makes an attention pending if EAI is
+ * set. An act that finds its switch already so changes nothing, and is a step all the same. Refusals 1 to 4, 9.
+ */
 #define TS11_SWITCH_ONLINE false
 #define TS11_SWITCH_WRITE_LOCK true
 ts11_answer ts11_operate(ts11_state *state, uint8_t *memory, size_t memory_length, uint8_t *reel, size_t reel_length,
@@ -137,13 +163,16 @@ ts11_answer ts11_operate(ts11_state *state, uint8_t *memory, size_t memory_lengt
 #define TS11_REGISTER_TSSR true
 ts11_answer ts11_read_register(const ts11_state *state, bool which_register, uint16_t *word);
 
-/* The host stores bytes in memory at an address, so that the store is undone with the rest. Refusals 1 to 5, 9. A step. */
-ts11_answer ts11_host_store(ts11_state *state, uint8_t *memory, size_t memory_length, const uint8_t *reel, size_t reel_length,
-                            uint8_t *journal, size_t journal_length, size_t address, const uint8_t *bytes, size_t length);
+/* The host stores bytes in memory at an address; the store is undone with the rest. Refusals 1 to 5, 9. A step. */
+ts11_answer ts11_host_store(ts11_state *state, uint8_t *memory, size_t memory_length, const uint8_t *reel,
+                            size_t reel_length, uint8_t *journal, size_t journal_length, size_t address,
+                            const uint8_t *bytes, size_t length);
 
 /*
- * The unit goes on by one move: it carries out the command that waits, whole, or sends the attention that is pending. *stepped is false if there was
- * nothing to do (idle; answer 0, nothing changed), *interrupt true if the unit interrupts the CPU. Refusals 1 to 4, 7 with *block, 9; refused, *stepped
+ * The unit goes on by one move: it carries out the command that waits, whole. Or, where an attention is pending and
+ * the unit owns the message buffer (since a release, or by the ACK of the command that waits), it sends that
+ * instead, and a command that waits is lost. *stepped is false if there was nothing to do (idle; answer 0, nothing
+ * changed), *interrupt true if the unit interrupts the CPU. Refusals 1 to 4, 7 with *block, 9; refused, *stepped
  * and *interrupt are false. *block is 0 unless the answer is 7. A step, if *stepped.
  */
 ts11_answer ts11_advance(ts11_state *state, uint8_t *memory, size_t memory_length, uint8_t *reel, size_t reel_length,
@@ -153,77 +182,111 @@ ts11_answer ts11_advance(ts11_state *state, uint8_t *memory, size_t memory_lengt
 ts11_answer ts11_step_back(ts11_state *state, uint8_t *memory, size_t memory_length, uint8_t *reel, size_t reel_length,
                            const uint8_t *journal, size_t journal_length);
 
-/* ---- registers ---------------------------------------------------------------------------------------------------------------------- */
+/* ---- registers ----------------------------------------------------------------------------------------------- */
 
-/* The TSDB word that names a command packet at an address: bits 15:2 in place, A17 and A16 in bits 1:0. TSBA reads the low 16 bits back. */
+/*
+ * The TSDB word that names a command packet at an address: bits 15:2 in place, A17 and A16 in bits 1:0, so the
+ * address is a multiple of 4. TSBA reads its low 16 bits back.
+ */
 #define TS11_TSDB(address) ((uint16_t)(((address) & 0xFFFC) | ((address) >> 16 & 3)))
 
-/* TSSR, as it reads. */
-#define TS11_TSSR_SC 0x8000  /* special condition: the class is not 0, or RMR or NXM is set */
-#define TS11_TSSR_RMR 0x1000 /* register modification refused: TSDB was written while SSR was clear */
-#define TS11_TSSR_NXM 0x0800 /* nonexistent memory */
-#define TS11_TSSR_NBA 0x0400 /* need buffer address: no Write Characteristics was accepted */
-#define TS11_TSSR_A17 0x0200 /* bit 17 of the command pointer */
-#define TS11_TSSR_A16 0x0100 /* bit 16 of the command pointer */
-#define TS11_TSSR_SSR 0x0080 /* subsystem ready: no command waits */
-#define TS11_TSSR_OFL 0x0040 /* off line */
+/* TSSR, as it reads. RMR and NXM stay until the next accepted TSDB write. */
+#define TS11_TSSR_SC 0x8000    /* special condition: the class is not 0, or RMR or NXM is set */
+#define TS11_TSSR_RMR 0x1000   /* register modification refused: TSDB was written while SSR was clear */
+#define TS11_TSSR_NXM 0x0800   /* nonexistent memory: packet or data outside memory */
+#define TS11_TSSR_NBA 0x0400   /* need buffer address: no message buffer yet, or the last one named was not allowed */
+#define TS11_TSSR_A17 0x0200   /* bit 17 of the command pointer */
+#define TS11_TSSR_A16 0x0100   /* bit 16 of the command pointer */
+#define TS11_TSSR_SSR 0x0080   /* subsystem ready: no command waits */
+#define TS11_TSSR_OFL 0x0040   /* off line */
 #define TS11_TSSR_CLASS 0x000E /* the termination class, in bits 3:1 */
 
-/* Termination classes. */
+/*
+ * Termination classes.
+ * 0: the command ended as asked; or it was dropped for want of TS11_ACK.
+ * 1: the on-line switch was turned, with EAI; a command that waited is lost.
+ * 2: a Read or Space met a mark; a record was shorter or longer than the count; reverse ran into BOT; logical end of
+ *    tape; a write or format ended at or past EOT.
+ * 3: nothing was done, but that CVC has cleared VCK: see NEF, ILC and ILA; or NBA, and then there is no message.
+ * 5: memory that is not there. Where the packet's first word is not, there is no message and no interrupt.
+ * 6: forward at the recorded end.
+ */
 #define TS11_CLASS(tssr) ((tssr) >> 1 & 7)
-#define TS11_CLASS_NORMAL 0     /* the command ended as asked */
-#define TS11_CLASS_ATTENTION 1  /* a switch was turned; a command that waited is lost */
-#define TS11_CLASS_STATUS 2     /* tape status alert: a mark, a record shorter or longer than the count, BOT, two marks, EOT on a write */
-#define TS11_CLASS_REJECT 3     /* function reject: nothing was done */
+#define TS11_CLASS_NORMAL 0      /* normal termination */
+#define TS11_CLASS_ATTENTION 1   /* attention */
+#define TS11_CLASS_STATUS 2      /* tape status alert */
+#define TS11_CLASS_REJECT 3      /* function reject */
 #define TS11_CLASS_RECOVERABLE 4 /* recoverable error, tape moved: never given by this unit */
-#define TS11_CLASS_UNMOVED 5    /* recoverable error, tape not moved: nonexistent memory */
-#define TS11_CLASS_LOST 6       /* unrecoverable error, position lost: forward at the recorded end */
+#define TS11_CLASS_UNMOVED 5     /* recoverable error, tape not moved */
+#define TS11_CLASS_LOST 6        /* unrecoverable error, position lost */
 
-/* ---- the command packet: four words at the address given by TSDB ---------------------------------------------------------------------- */
+/* ---- the command packet: four words at the address given by TSDB --------------------------------------------- */
 
-/* Word 0, the header. The rest: word 1 pointer low, word 2 pointer high (A17, A16), word 3 byte count; for Position word 1 is the count. */
-#define TS11_ACK 0x8000 /* the message buffer is given to the unit */
-#define TS11_CVC 0x4000 /* clears volume check */
-#define TS11_OPP 0x2000 /* rereads: the read first, then the space back */
-#define TS11_SWB 0x1000 /* swapped bytes: each data byte at its address with the lowest bit flipped */
-#define TS11_IE 0x0080  /* interrupt at the end */
+/*
+ * Word 0 is the header. Then for Read, Write and Write Characteristics: pointer low, pointer high (A17 and A16), byte
+ * count; for Space and Skip: the count. Only the words that a command uses need lie in memory: four, two (Rewind too),
+ * else one. Data that by the whole count would end outside memory is NXM.
+ *
+ * ACK: without it, and the message buffer the CPU's, the command is dropped: SSR set, class 0, no message, nothing done.
+ * CVC: acts first, even if the command is then rejected. While VCK is set every tape command is rejected with NEF.
+ * OPP: Reread Previous reads in reverse, then spaces forward; Reread Next reads forward, then spaces in reverse.
+ * SWB: a data byte lies at its address with the lowest bit flipped, so an odd start or length reaches a byte outside.
+ */
+#define TS11_ACK 0x8000 /* acknowledge: gives the message buffer to the unit, which each message hands back */
+#define TS11_CVC 0x4000 /* clear volume check */
+#define TS11_OPP 0x2000 /* opposite: a reread does its read first */
+#define TS11_SWB 0x1000 /* swap bytes */
+#define TS11_IE 0x0080  /* interrupt enable: at the end, also of a dropped command; of a release, at the attention */
 #define TS11_COMMAND(code, mode) ((uint16_t)((mode) << 8 | (code))) /* or the flags above to it */
 
-#define TS11_READ_NEXT TS11_COMMAND(1, 0)
-#define TS11_READ_PREVIOUS TS11_COMMAND(1, 1)        /* in reverse: fills the buffer from its last place down */
-#define TS11_REREAD_PREVIOUS TS11_COMMAND(1, 2)      /* space reverse, read forward */
-#define TS11_REREAD_NEXT TS11_COMMAND(1, 3)          /* space forward, read reverse */
-#define TS11_WRITE_CHARACTERISTICS TS11_COMMAND(4, 0) /* data: message address low, high, length, mode word */
-#define TS11_WRITE TS11_COMMAND(5, 0)
-#define TS11_WRITE_RETRY TS11_COMMAND(5, 2)          /* space reverse, a gap, then the record */
-#define TS11_SPACE_RECORDS TS11_COMMAND(8, 0)
-#define TS11_SPACE_RECORDS_REVERSE TS11_COMMAND(8, 1)
-#define TS11_SKIP_MARKS TS11_COMMAND(8, 2)
-#define TS11_SKIP_MARKS_REVERSE TS11_COMMAND(8, 3)
-#define TS11_REWIND TS11_COMMAND(8, 4)
-#define TS11_WRITE_MARK TS11_COMMAND(9, 0)
-#define TS11_ERASE TS11_COMMAND(9, 1)                /* a gap of one block */
-#define TS11_WRITE_MARK_RETRY TS11_COMMAND(9, 2)
-#define TS11_RELEASE TS11_COMMAND(10, 0)             /* the message buffer stays the unit's: attentions may come */
-#define TS11_UNLOAD TS11_COMMAND(10, 1)              /* rewinds, and the unit goes off line */
-#define TS11_CLEAN TS11_COMMAND(10, 2)               /* no action */
-#define TS11_INITIALIZE TS11_COMMAND(11, 0)          /* no action */
-#define TS11_GET_STATUS TS11_COMMAND(15, 0)
+/*
+ * Read and Space pass over gaps and stop just after the record or mark. Write, mark and erase cut off what lay behind:
+ * the recorded end is then just after the new object. A reread whose first stage meets a mark, BOT or the end ends there,
+ * and so does a retry that meets BOT.
+ */
+#define TS11_READ_NEXT TS11_COMMAND(1, 0)             /* with count 0 too the record is passed */
+#define TS11_READ_PREVIOUS TS11_COMMAND(1, 1)         /* in reverse: fills the buffer from its last place down */
+#define TS11_REREAD_PREVIOUS TS11_COMMAND(1, 2)       /* space reverse, read forward */
+#define TS11_REREAD_NEXT TS11_COMMAND(1, 3)           /* space forward, read reverse */
+#define TS11_WRITE_CHARACTERISTICS TS11_COMMAND(4, 0) /* data: see the mode word */
+#define TS11_WRITE TS11_COMMAND(5, 0)                 /* a record of 1 to 16,384 bytes */
+#define TS11_WRITE_RETRY TS11_COMMAND(5, 2)           /* space reverse over a record or mark, a gap, the record */
+#define TS11_SPACE_RECORDS TS11_COMMAND(8, 0)         /* a mark stops it, is passed and is not counted */
+#define TS11_SPACE_RECORDS_REVERSE TS11_COMMAND(8, 1) /* the same in reverse */
+#define TS11_SKIP_MARKS TS11_COMMAND(8, 2)            /* passes records, counts marks; see ESS and ENB */
+#define TS11_SKIP_MARKS_REVERSE TS11_COMMAND(8, 3)    /* the same in reverse */
+#define TS11_REWIND TS11_COMMAND(8, 4)                /* to position 0 */
+#define TS11_WRITE_MARK TS11_COMMAND(9, 0)            /* a tape mark */
+#define TS11_ERASE TS11_COMMAND(9, 1)                 /* a gap of one block */
+#define TS11_WRITE_MARK_RETRY TS11_COMMAND(9, 2)      /* space reverse over a record or mark, a gap, the mark */
+#define TS11_RELEASE TS11_COMMAND(10, 0)              /* no message: the unit keeps the buffer for an attention */
+#define TS11_UNLOAD TS11_COMMAND(10, 1)               /* rewinds and goes off line; no attention */
+#define TS11_CLEAN TS11_COMMAND(10, 2)                /* no action */
+#define TS11_INITIALIZE TS11_COMMAND(11, 0)           /* no action */
+#define TS11_GET_STATUS TS11_COMMAND(15, 0)           /* a message, and nothing else */
 
-/* The mode word of Write Characteristics. */
+/*
+ * The data of Write Characteristics, at an even address: the message buffer's address low and high, its length, and the
+ * mode word, which is 0 if the count is 6 or 7. The address is even and the length at least 14, inside memory; if not,
+ * NBA is set and the old values stay unused.
+ */
 #define TS11_ESS 0x0080 /* skipping marks stops at two marks with no record between them */
 #define TS11_ENB 0x0040 /* .. and, with ESS, at a mark met first from block 0 */
-#define TS11_EAI 0x0020 /* going on or off line makes an attention pending */
+#define TS11_EAI 0x0020 /* turning the on-line switch makes an attention pending */
 
-/* ---- the message packet: seven words in the message buffer ------------------------------------------------------------------------------ */
+/* ---- the message packet: seven words in the message buffer --------------------------------------------------- */
 
+/*
+ * The residual is what is left of the count: bytes for Read, records or marks for Space and Skip, 0 for all else. A
+ * command rejected by ILA, by NXM of its data or by NEF leaves the whole count, one rejected before leaves 0.
+ */
 #define TS11_MESSAGE_HEADER 0   /* offset of the header: one of the TS11_END_.. words */
 #define TS11_MESSAGE_LENGTH 2   /* the word 10 */
-#define TS11_MESSAGE_RESIDUAL 4 /* what is left of the count: bytes for Read, records or marks for Position */
-#define TS11_MESSAGE_XST0 6
+#define TS11_MESSAGE_RESIDUAL 4 /* what is left of the count */
+#define TS11_MESSAGE_XST0 6     /* extended status 0 */
 #define TS11_MESSAGE_XST1 8     /* 0 */
 #define TS11_MESSAGE_XST2 10    /* 0 */
-#define TS11_MESSAGE_XST3 12
+#define TS11_MESSAGE_XST3 12    /* extended status 3 */
 
 #define TS11_END 0x8010           /* header: classes 0 and 2 */
 #define TS11_END_ILLEGAL 0x8111   /* class 3 without NEF */
@@ -231,16 +294,22 @@ ts11_answer ts11_step_back(ts11_state *state, uint8_t *memory, size_t memory_len
 #define TS11_END_FAILED 0x8012    /* classes 5 and 6 */
 #define TS11_END_ATTENTION 0x0013 /* an attention */
 
-/* XST0: the high byte is what the command found, the low byte the unit's condition at the end. */
-#define TS11_XST0_TMK 0x8000 /* a tape mark was met or written */
-#define TS11_XST0_RLS 0x4000 /* record length short, or count left over */
-#define TS11_XST0_LET 0x2000 /* logical end of tape */
-#define TS11_XST0_RLL 0x1000 /* record length long */
-#define TS11_XST0_WLE 0x0800 /* write lock error */
+/*
+ * XST0: the high byte is what the command found, the low byte the unit's condition at the end.
+ * RLS: a Read met a shorter record or a mark; a Space or Skip was stopped by a mark, BOT or LET with count left.
+ * NEF: a tape command off line or with VCK set; a write or format under write lock; reverse from BOT; a written length
+ *      of 0 or over 16,384; no room left on the reel.
+ * ILC: unknown code or mode, or header bit 5 or 6 set. ILA: pointer bits above A17, or odd in Write Characteristics.
+ */
+#define TS11_XST0_TMK 0x8000 /* tape mark: one was met or written */
+#define TS11_XST0_RLS 0x4000 /* record length short */
+#define TS11_XST0_LET 0x2000 /* logical end of tape: two marks with ESS, or a mark first from BOT with ENB */
+#define TS11_XST0_RLL 0x1000 /* record length long: the record has more bytes than the count */
+#define TS11_XST0_WLE 0x0800 /* write lock error, beside NEF */
 #define TS11_XST0_NEF 0x0400 /* non-executable function */
 #define TS11_XST0_ILC 0x0200 /* illegal command */
 #define TS11_XST0_ILA 0x0100 /* illegal address */
-#define TS11_XST0_MOT 0x0080 /* motion: the position changed, or blocks were written */
+#define TS11_XST0_MOT 0x0080 /* motion: the position is another than at the start, or blocks were written */
 #define TS11_XST0_ONL 0x0040 /* on line */
 #define TS11_XST0_IE 0x0020  /* interrupt enable */
 #define TS11_XST0_VCK 0x0010 /* volume check */
@@ -253,7 +322,7 @@ ts11_answer ts11_step_back(ts11_state *state, uint8_t *memory, size_t memory_len
 #define TS11_XST3_REV 0x0020 /* the last stage ran in reverse */
 #define TS11_XST3_RIB 0x0001 /* reverse into BOT */
 
-/* ---- the reel's blocks: 256 words --------------------------------------------------------------------------------------------------------- */
+/* ---- the reel's blocks: 256 words ---------------------------------------------------------------------------- */
 
 #define TS11_BLOCK_KIND 0     /* offset of the kind */
 #define TS11_BLOCK_LENGTH 2   /* the record's length in bytes; 0 in a mark or gap */
