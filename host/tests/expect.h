@@ -28,9 +28,18 @@ static inline void context(const char *format, ...)
 	va_end(arguments);
 }
 
+/* Compiled with -DSTOP_AT_FIRST, the program ends at the first failure. */
+#ifdef STOP_AT_FIRST
+enum { STOPS = true };
+#else
+enum { STOPS = false };
+#endif
+
 /* Counts a failure; says whether it is still to be shown. */
 static inline bool failure(const char *file, int line, const char *what)
 {
+	if (STOPS)
+		exit(1);
 	if (++expectations.failed > FAILURES_SHOWN)
 		return false;
 	printf("%s:%d: ", file, line);

@@ -11,8 +11,8 @@ library=${1:?usage: spoil.sh LIBRARY [all]}
 # One directory with a ts11.h: prints how it went.
 try() {
 	local directory=$1 status=0
-	if ! ${CC:-gcc} -std=c11 -O0 -Wall -Wextra -Werror -I"$directory" "$tests/header.c" "$library" -o "$directory/header" \
-		>"$directory/out" 2>&1; then
+	if ! ${CC:-gcc} -std=c11 -O0 -Wall -Wextra -Werror -DSTOP_AT_FIRST -I"$directory" "$tests/header.c" "$library" \
+		-o "$directory/header" >"$directory/out" 2>&1; then
 		echo compile
 		return
 	fi
@@ -39,10 +39,10 @@ fi
 work=$(mktemp -d)
 trap 'rm -rf "$work"' EXIT
 
-# Every name is one that the tests use.
+# Every constant is one that the tests use.
 missing=0
-for name in $(grep -oE '\b(TS11|ts11)_[A-Za-z0-9_]+' "$header" | sort -u); do
-	if ! grep -qw "$name" "$tests/header.c" "$tests/limits.c" "$tests/names.h"; then
+for name in $(sed -nE 's/^#define (TS11_[A-Za-z0-9_]+)[ (].*/\1/p' "$header"); do
+	if ! grep -qw "$name" "$tests/header.c" "$tests/limits.c"; then
 		echo "no test uses $name"
 		missing=$((missing + 1))
 	fi
