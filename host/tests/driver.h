@@ -14,7 +14,8 @@ static struct result (*make)(struct unit *, const struct call *) = checked;
 
 static inline struct result mount(struct unit *u, size_t recorded_end, bool online, bool write_lock)
 {
-	return make(u, &(struct call){ .kind = MOUNT, .recorded_end = recorded_end, .online = online, .write_lock = write_lock });
+	return make(
+		u, &(struct call){ .kind = MOUNT, .recorded_end = recorded_end, .online = online, .write_lock = write_lock });
 }
 
 static inline struct result write_tsdb(struct unit *u, uint16_t word)
@@ -113,7 +114,8 @@ static inline struct ending command(struct unit *u, uint16_t header, size_t poin
 }
 
 /* Write Characteristics, with further flags in its header. */
-static inline struct ending characteristics(struct unit *u, uint16_t flags, size_t address, uint16_t length, uint16_t mode)
+static inline struct ending characteristics(struct unit *u, uint16_t flags, size_t address, uint16_t length,
+                                            uint16_t mode)
 {
 	uint8_t bytes[8];
 	put_word(bytes, address & 0xFFFF);

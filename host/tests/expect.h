@@ -1,4 +1,4 @@
-/* Expectations: each failure says where, what, what was got and what was wanted; a program ends with one summary line. */
+/* Expectations: each failure says where, what, what was got and what was wanted; a program ends with a summary line. */
 #ifndef EXPECT_H
 #define EXPECT_H
 

@@ -1,6 +1,7 @@
 /*
- * header: shows by the library's behaviour that every constant of ts11.h is the library's. Most are measured: what the unit does or
- * shows gives a number, and that number must be the constant, so that any other value in the header is noticed.
+ * header: shows by the library's behaviour that every constant of ts11.h is the library's. Most are measured: what the
+ * unit does or shows gives a number, and that must be the constant, so that any other value in the header is noticed.
+ * Compile with -I host/include and link with libts11.a; spoil.sh shows that this program notices what it should.
  */
 #include "names.h"
 
@@ -14,7 +15,7 @@ _Static_assert(sizeof(ts11_state) == TS11_STATE_BYTES, "a state is its bytes and
 _Static_assert(_Generic(TS11_TSDB(0), uint16_t: 1, default: 0), "the TSDB word is a word");
 _Static_assert(_Generic(TS11_COMMAND(0, 0), uint16_t: 1, default: 0), "a packet's header is a word");
 
-/* ---- the unit under test ------------------------------------------------------------------------------------------------ */
+/* ---- the unit under test ----------------------------------------------------------------------------------------- */
 
 enum { MEMORY_BYTES = 4096, REEL_BLOCKS = 80, JOURNAL_BYTES = 65536, TAPE_END = 9, HERE = 3 };
 
@@ -58,21 +59,22 @@ static struct ending get_status(void)
 	return command(&u, TS11_GET_STATUS | TS11_ACK, 0, 0);
 }
 
-/* ---- offsets lie where they can --------------------------------------------------------------------------------------------- */
+/* ---- offsets lie where they can ---------------------------------------------------------------------------------- */
 
 static const size_t state_offsets[] = {
-	TS11_AT_POSITION, TS11_AT_END,      TS11_AT_POINTER,        TS11_AT_CLASS,  TS11_AT_RMR,       TS11_AT_NXM,
-	TS11_AT_NBA,      TS11_AT_SSR,      TS11_AT_ONLINE,         TS11_AT_LOCKED, TS11_AT_VCK,       TS11_AT_UNIT_OWNS,
-	TS11_AT_PENDING,  TS11_AT_RELEASE_IE, TS11_AT_MESSAGE,      TS11_AT_MESSAGE_LENGTH, TS11_AT_EAI, TS11_AT_ESS,
-	TS11_AT_ENB,      TS11_AT_MEMORY,   TS11_AT_BLOCKS,         TS11_AT_USED,   TS11_AT_JOURNAL,
+	TS11_AT_POSITION, TS11_AT_END,        TS11_AT_POINTER, TS11_AT_CLASS,          TS11_AT_RMR,     TS11_AT_NXM,
+	TS11_AT_NBA,      TS11_AT_SSR,        TS11_AT_ONLINE,  TS11_AT_LOCKED,         TS11_AT_VCK,     TS11_AT_UNIT_OWNS,
+	TS11_AT_PENDING,  TS11_AT_RELEASE_IE, TS11_AT_MESSAGE, TS11_AT_MESSAGE_LENGTH, TS11_AT_EAI,     TS11_AT_ESS,
+	TS11_AT_ENB,      TS11_AT_MEMORY,     TS11_AT_BLOCKS,  TS11_AT_USED,           TS11_AT_JOURNAL,
 };
 enum { NUMBERS = COUNT(state_offsets) };
 
-static const size_t message_offsets[] = { TS11_MESSAGE_HEADER, TS11_MESSAGE_LENGTH, TS11_MESSAGE_RESIDUAL, TS11_MESSAGE_XST0,
-	                                  TS11_MESSAGE_XST1,   TS11_MESSAGE_XST2,   TS11_MESSAGE_XST3 };
+static const size_t message_offsets[] = { TS11_MESSAGE_HEADER, TS11_MESSAGE_LENGTH, TS11_MESSAGE_RESIDUAL,
+	                                      TS11_MESSAGE_XST0,   TS11_MESSAGE_XST1,   TS11_MESSAGE_XST2,
+	                                      TS11_MESSAGE_XST3 };
 
 static const size_t block_offsets[] = { TS11_BLOCK_KIND, TS11_BLOCK_LENGTH, TS11_BLOCK_INDEX, TS11_BLOCK_BYTES,
-	                                TS11_BLOCK_CHECK };
+	                                    TS11_BLOCK_CHECK };
 
 /* Asked first: the rest puts bytes at these places. */
 static bool offsets_inside(void)
@@ -87,7 +89,7 @@ static bool offsets_inside(void)
 	return inside;
 }
 
-/* ---- limits ------------------------------------------------------------------------------------------------------------------ */
+/* ---- limits ------------------------------------------------------------------------------------------------------ */
 
 static void test_mount_limits(void)
 {
@@ -171,8 +173,10 @@ static void test_entry_and_message_sizes(void)
 	EXPECT("entry of a TSDB write", used(&u) - before, TS11_ENTRY_HEAD);
 	ready(0, HERE);
 	EXPECT("entry with a message", get_status().entry - TS11_ENTRY_HEAD, TS11_MESSAGE_BYTES);
-	EXPECT("least message buffer", TS11_CLASS(characteristics(&u, 0, MESSAGE, TS11_MESSAGE_BYTES, 0).tssr), TS11_CLASS_NORMAL);
-	EXPECT("a byte less", TS11_CLASS(characteristics(&u, 0, MESSAGE, TS11_MESSAGE_BYTES - 1, 0).tssr), TS11_CLASS_REJECT);
+	EXPECT("least message buffer", TS11_CLASS(characteristics(&u, 0, MESSAGE, TS11_MESSAGE_BYTES, 0).tssr),
+	       TS11_CLASS_NORMAL);
+	EXPECT("a byte less", TS11_CLASS(characteristics(&u, 0, MESSAGE, TS11_MESSAGE_BYTES - 1, 0).tssr),
+	       TS11_CLASS_REJECT);
 }
 
 static void test_eot_margin(void)
@@ -188,7 +192,7 @@ static void test_eot_margin(void)
 	EXPECT("blocks from the EOT marker to the end", REEL_BLOCKS - marker, TS11_EOT_MARGIN);
 }
 
-/* ---- answers -------------------------------------------------------------------------------------------------------------------- */
+/* ---- answers ----------------------------------------------------------------------------------------------------- */
 
 /* The unit with one buffer handed shorter; its guards are then out of place. */
 static struct unit handed(size_t memory_less, size_t reel_less, size_t journal_less)
@@ -233,13 +237,13 @@ static void test_other_answers(void)
 	EXPECT("an entry with no room", write_tsdb(&u, 0).answer, TS11_JOURNAL_FULL);
 }
 
-/* ---- the state: fields driven ---------------------------------------------------------------------------------------------------- */
+/* ---- the state: fields driven ------------------------------------------------------------------------------------ */
 
 /* In the order of state_offsets. */
 union numbers {
 	struct {
 		uint32_t position, end, pointer, class, rmr, nxm, nba, ssr, online, locked, vck, unit_owns, pending, release_ie,
-		    message, message_length, eai, ess, enb, memory, blocks, used, journal;
+			message, message_length, eai, ess, enb, memory, blocks, used, journal;
 	};
 	uint32_t all[NUMBERS];
 };
@@ -259,8 +263,16 @@ static void expect_state(const char *act)
 
 static void initial(uint32_t used_journal)
 {
-	now = (union numbers){ .end = TAPE_END, .nba = 1, .ssr = 1, .online = now.online, .locked = now.locked, .vck = 1,
-		               .memory = MEMORY_BYTES, .blocks = REEL_BLOCKS, .used = used_journal, .journal = JOURNAL_BYTES };
+	now = (union numbers){ .end = TAPE_END,
+		                   .nba = 1,
+		                   .ssr = 1,
+		                   .online = now.online,
+		                   .locked = now.locked,
+		                   .vck = 1,
+		                   .memory = MEMORY_BYTES,
+		                   .blocks = REEL_BLOCKS,
+		                   .used = used_journal,
+		                   .journal = JOURNAL_BYTES };
 }
 
 static void drive_switches(void)
@@ -304,9 +316,12 @@ static void drive_registers(void)
 	now.class = TS11_CLASS_UNMOVED;
 	now.used += TS11_ENTRY_HEAD;
 	expect_state("a header outside memory");
-	write_tssr(&u, 0);
-	initial(now.used + TS11_ENTRY_HEAD);
-	expect_state("TSSR");
+	static const uint16_t words[] = { 0, 1, 0x8001, 0xFFFF };
+	ROWS(k, words) {
+		write_tssr(&u, words[k]);
+		initial(now.used + TS11_ENTRY_HEAD);
+		expect_state("TSSR");
+	}
 }
 
 static void drive_characteristics(void)
@@ -374,7 +389,7 @@ static void drive_tape(void)
 	expect_state("erase");
 }
 
-/* ---- the state: fields made up ------------------------------------------------------------------------------------------------------ */
+/* ---- the state: fields made up ----------------------------------------------------------------------------------- */
 
 static uint64_t seen_tssr(void)
 {
@@ -518,7 +533,8 @@ static void test_state_bytes(void)
 	u = make_unit(2, TS11_BLOCK, 0, GUARD);
 	memset(u.state.at, 0xFF, TS11_STATE_BYTES);
 	EXPECT("a mount over any bytes", mount(&u, 0, true, false).answer, TS11_DONE);
-	EXPECT("unused bytes after it", all_are(u.state.at + TS11_STATE_UNUSED, TS11_STATE_BYTES - TS11_STATE_UNUSED, 0), true);
+	EXPECT("unused bytes after it", all_are(u.state.at + TS11_STATE_UNUSED, TS11_STATE_BYTES - TS11_STATE_UNUSED, 0),
+	       true);
 	size_t least = TS11_STATE_BYTES;
 	for (; least > 0; least--) {
 		uint8_t *byte = u.state.at + least - 1;
@@ -540,12 +556,13 @@ static void test_state_number(void)
 	EXPECT("the number at 4", ts11_state_number(&s, 4), 0x88878685);
 }
 
-/* ---- registers ----------------------------------------------------------------------------------------------------------------------- */
+/* ---- registers --------------------------------------------------------------------------------------------------- */
 
 static void test_tsdb(void)
 {
-	static const size_t addresses[] = { 0,      0x4,    0x8,    0x10,   0x20,   0x40,    0x80,    0x100,   0x200,   0x400, 0x800,
-		                            0x1000, 0x2000, 0x4000, 0x8000, 0x10000, 0x20000, 0x11234, 0x21234, 0x3FFFC };
+	static const size_t addresses[] = { 0,      0x4,     0x8,     0x10,    0x20,    0x40,   0x80,
+		                                0x100,  0x200,   0x400,   0x800,   0x1000,  0x2000, 0x4000,
+		                                0x8000, 0x10000, 0x20000, 0x11234, 0x21234, 0x3FFFC };
 	ROWS(k, addresses) {
 		context("address %zx", addresses[k]);
 		mounted();
@@ -553,7 +570,8 @@ static void test_tsdb(void)
 		EXPECT("the command pointer", number(&u, TS11_AT_POINTER), addresses[k]);
 		EXPECT("TSBA", read_register(&u, TS11_REGISTER_TSBA).word, addresses[k] & 0xFFFF);
 		EXPECT("TSSR", tssr(&u),
-		       TS11_TSSR_NBA | (addresses[k] & 0x20000 ? TS11_TSSR_A17 : 0) | (addresses[k] & 0x10000 ? TS11_TSSR_A16 : 0));
+		       TS11_TSSR_NBA | (addresses[k] & 0x20000 ? TS11_TSSR_A17 : 0) |
+		           (addresses[k] & 0x10000 ? TS11_TSSR_A16 : 0));
 		EXPECT("with bits that TSDB has no place for", TS11_TSDB(addresses[k] | 0x7C0003), TS11_TSDB(addresses[k]));
 	}
 	context("");
@@ -577,7 +595,8 @@ static void test_tssr_driven(void)
 	EXPECT("TSDB refused", tssr(&u), TS11_TSSR_SC | TS11_TSSR_RMR | TS11_TSSR_NBA | TS11_TSSR_A16);
 	advance(&u);
 	EXPECT("a header outside memory", tssr(&u),
-	       TS11_TSSR_SC | TS11_TSSR_RMR | TS11_TSSR_NXM | TS11_TSSR_NBA | TS11_TSSR_A16 | TS11_TSSR_SSR | TS11_CLASS_UNMOVED << 1);
+	       TS11_TSSR_SC | TS11_TSSR_RMR | TS11_TSSR_NXM | TS11_TSSR_NBA | TS11_TSSR_A16 | TS11_TSSR_SSR |
+	           TS11_CLASS_UNMOVED << 1);
 	ready(0, 2);
 	EXPECT("count 10, record 7", command(&u, TS11_READ_NEXT | TS11_ACK, DATA, 10).tssr, 0x8084);
 	EXPECT("count 10, record 7", tssr(&u), TS11_TSSR_SC | TS11_TSSR_SSR | TS11_CLASS_STATUS << 1);
@@ -592,7 +611,7 @@ static uint16_t tssr_with(size_t at, uint32_t value)
 	return word;
 }
 
-/* Each TSSR bit alone: the difference that one number of the state makes. SC comes with others, and is there already under NXM. */
+/* Each TSSR bit alone: the difference that one number of the state makes. SC comes with others, and stays under NXM. */
 static void test_tssr_measured(void)
 {
 	ready(0, HERE);
@@ -603,8 +622,8 @@ static void test_tssr_measured(void)
 	EXPECT("A16", word ^ tssr_with(TS11_AT_POINTER, 0x10000), TS11_TSSR_A16);
 	EXPECT("A17", word ^ tssr_with(TS11_AT_POINTER, 0x20000), TS11_TSSR_A17);
 	EXPECT("SC", word ^ sc_and_rmr ^ TS11_TSSR_RMR, TS11_TSSR_SC);
-	for (uint32_t class = 1; class < 7; class++)
-		classes |= word ^ tssr_with(TS11_AT_CLASS, class);
+	for (uint32_t c = 1; c < 7; c++)
+		classes |= word ^ tssr_with(TS11_AT_CLASS, c);
 	EXPECT("class", classes ^ TS11_TSSR_SC, TS11_TSSR_CLASS);
 	set_number(&u, TS11_AT_NXM, 1);
 	EXPECT("RMR", tssr(&u) ^ tssr_with(TS11_AT_RMR, 1), TS11_TSSR_RMR);
@@ -621,11 +640,11 @@ static void test_class_macro(void)
 		wrong += TS11_CLASS(word) != (word & TS11_TSSR_CLASS) / 2;
 	EXPECT("words whose class is not bits 3:1", wrong, 0);
 	ready(0, HERE);
-	for (uint32_t class = 0; class < 7; class++)
-		EXPECT("the class of a made-up state", TS11_CLASS(tssr_with(TS11_AT_CLASS, class)), class);
+	for (uint32_t c = 0; c < 7; c++)
+		EXPECT("the class of a made-up state", TS11_CLASS(tssr_with(TS11_AT_CLASS, c)), c);
 }
 
-/* ---- classes and messages ---------------------------------------------------------------------------------------------------------------- */
+/* ---- classes and messages ---------------------------------------------------------------------------------------- */
 
 static void test_classes(void)
 {
@@ -690,14 +709,30 @@ static void test_message_words(void)
 	EXPECT("the bytes that the seven words cover", bytes_covered, (1u << TS11_MESSAGE_BYTES) - 1);
 }
 
-/* ---- commands ------------------------------------------------------------------------------------------------------------------------------- */
+/* ---- commands ---------------------------------------------------------------------------------------------------- */
 
 /* The paper's order, which is that of code and mode. */
 static const uint16_t headers[] = {
-	TS11_READ_NEXT,  TS11_READ_PREVIOUS, TS11_REREAD_PREVIOUS,       TS11_REREAD_NEXT,  TS11_WRITE_CHARACTERISTICS,
-	TS11_WRITE,      TS11_WRITE_RETRY,   TS11_SPACE_RECORDS,         TS11_SPACE_RECORDS_REVERSE, TS11_SKIP_MARKS,
-	TS11_SKIP_MARKS_REVERSE, TS11_REWIND, TS11_WRITE_MARK,           TS11_ERASE,        TS11_WRITE_MARK_RETRY,
-	TS11_RELEASE,    TS11_UNLOAD,        TS11_CLEAN,                 TS11_INITIALIZE,   TS11_GET_STATUS,
+	TS11_READ_NEXT,
+	TS11_READ_PREVIOUS,
+	TS11_REREAD_PREVIOUS,
+	TS11_REREAD_NEXT,
+	TS11_WRITE_CHARACTERISTICS,
+	TS11_WRITE,
+	TS11_WRITE_RETRY,
+	TS11_SPACE_RECORDS,
+	TS11_SPACE_RECORDS_REVERSE,
+	TS11_SKIP_MARKS,
+	TS11_SKIP_MARKS_REVERSE,
+	TS11_REWIND,
+	TS11_WRITE_MARK,
+	TS11_ERASE,
+	TS11_WRITE_MARK_RETRY,
+	TS11_RELEASE,
+	TS11_UNLOAD,
+	TS11_CLEAN,
+	TS11_INITIALIZE,
+	TS11_GET_STATUS,
 };
 
 static bool legal(uint16_t header)
@@ -780,9 +815,15 @@ static void expect_effect(const struct effect *got, const struct effect *wanted)
 }
 
 enum {
-	R = TS11_KIND_RECORD, M = TS11_KIND_MARK, G = TS11_KIND_GAP,
-	STILL = XST0_READY, MOVED = XST0_READY | TS11_XST0_MOT, MARKED = MOVED | TS11_XST0_TMK, ATBOT = MOVED | TS11_XST0_BOT,
-	REV = TS11_XST3_REV, SENT = TS11_ENTRY_HEAD + TS11_MESSAGE_BYTES
+	R = TS11_KIND_RECORD,
+	M = TS11_KIND_MARK,
+	G = TS11_KIND_GAP,
+	STILL = XST0_READY,
+	MOVED = XST0_READY | TS11_XST0_MOT,
+	MARKED = MOVED | TS11_XST0_TMK,
+	ATBOT = MOVED | TS11_XST0_BOT,
+	REV = TS11_XST3_REV,
+	SENT = TS11_ENTRY_HEAD + TS11_MESSAGE_BYTES
 };
 
 /* From block 3, with the record "ABCDEFG" behind and "abcdefghi" ahead. */
@@ -794,26 +835,52 @@ static const struct {
 	struct effect effect; /* position end online owns message class sent residual xst0 xst3 entry kinds data */
 } commands[] = {
 	{ "read next", TS11_READ_NEXT, DATA, 9, { 4, 9, 1, 0, MESSAGE, 0, 1, 0, MOVED, 0, SENT + 9, R, R, "abcdefghi" } },
-	{ "read previous", TS11_READ_PREVIOUS, DATA, 9,
+	{ "read previous",
+	  TS11_READ_PREVIOUS,
+	  DATA,
+	  9,
 	  { 2, 9, 1, 0, MESSAGE, 2, 1, 2, MOVED | TS11_XST0_RLS, REV, SENT + 7, R, R, "..ABCDEFG" } },
-	{ "reread previous", TS11_REREAD_PREVIOUS, DATA, 9,
+	{ "reread previous",
+	  TS11_REREAD_PREVIOUS,
+	  DATA,
+	  9,
 	  { 3, 9, 1, 0, MESSAGE, 2, 1, 2, STILL | TS11_XST0_RLS, 0, SENT + 7, R, R, "ABCDEFG.." } },
-	{ "reread next", TS11_REREAD_NEXT, DATA, 9, { 3, 9, 1, 0, MESSAGE, 0, 1, 0, STILL, REV, SENT + 9, R, R, "abcdefghi" } },
+	{ "reread next",
+	  TS11_REREAD_NEXT,
+	  DATA,
+	  9,
+	  { 3, 9, 1, 0, MESSAGE, 0, 1, 0, STILL, REV, SENT + 9, R, R, "abcdefghi" } },
 	{ "write", TS11_WRITE, DATA, 5, { 4, 4, 1, 0, MESSAGE, 0, 1, 0, MOVED, 0, SENT + 512, R, R, "........." } },
-	{ "write retry", TS11_WRITE_RETRY, DATA, 5, { 4, 4, 1, 0, MESSAGE, 0, 1, 0, MOVED, 0, SENT + 1024, G, R, "........." } },
+	{ "write retry",
+	  TS11_WRITE_RETRY,
+	  DATA,
+	  5,
+	  { 4, 4, 1, 0, MESSAGE, 0, 1, 0, MOVED, 0, SENT + 1024, G, R, "........." } },
 	{ "space records", TS11_SPACE_RECORDS, 1, 0, { 4, 9, 1, 0, MESSAGE, 0, 1, 0, MOVED, 0, SENT, R, R, "........." } },
-	{ "space records reverse", TS11_SPACE_RECORDS_REVERSE, 1, 0,
+	{ "space records reverse",
+	  TS11_SPACE_RECORDS_REVERSE,
+	  1,
+	  0,
 	  { 2, 9, 1, 0, MESSAGE, 0, 1, 0, MOVED, REV, SENT, R, R, "........." } },
 	{ "skip marks", TS11_SKIP_MARKS, 1, 0, { 6, 9, 1, 0, MESSAGE, 0, 1, 0, MARKED, 0, SENT, R, R, "........." } },
-	{ "skip marks reverse", TS11_SKIP_MARKS_REVERSE, 1, 0,
+	{ "skip marks reverse",
+	  TS11_SKIP_MARKS_REVERSE,
+	  1,
+	  0,
 	  { 1, 9, 1, 0, MESSAGE, 0, 1, 0, MARKED, REV, SENT, R, R, "........." } },
 	{ "rewind", TS11_REWIND, 1, 0, { 0, 9, 1, 0, MESSAGE, 0, 1, 0, ATBOT, 0, SENT, R, R, "........." } },
 	{ "write mark", TS11_WRITE_MARK, 0, 0, { 4, 4, 1, 0, MESSAGE, 0, 1, 0, MARKED, 0, SENT + 512, R, M, "........." } },
 	{ "erase", TS11_ERASE, 0, 0, { 4, 4, 1, 0, MESSAGE, 0, 1, 0, MOVED, 0, SENT + 512, R, G, "........." } },
-	{ "write mark retry", TS11_WRITE_MARK_RETRY, 0, 0,
+	{ "write mark retry",
+	  TS11_WRITE_MARK_RETRY,
+	  0,
+	  0,
 	  { 4, 4, 1, 0, MESSAGE, 0, 1, 0, MARKED, 0, SENT + 1024, G, M, "........." } },
 	{ "release", TS11_RELEASE, 0, 0, { 3, 9, 1, 1, MESSAGE, 0, 0, 0, 0, 0, TS11_ENTRY_HEAD, R, R, "........." } },
-	{ "unload", TS11_UNLOAD, 0, 0,
+	{ "unload",
+	  TS11_UNLOAD,
+	  0,
+	  0,
 	  { 0, 9, 0, 0, MESSAGE, 0, 1, 0, ATBOT & ~TS11_XST0_ONL, 0, SENT, R, R, "........." } },
 	{ "clean", TS11_CLEAN, 0, 0, { 3, 9, 1, 0, MESSAGE, 0, 1, 0, STILL, 0, SENT, R, R, "........." } },
 	{ "initialize", TS11_INITIALIZE, 0, 0, { 3, 9, 1, 0, MESSAGE, 0, 1, 0, STILL, 0, SENT, R, R, "........." } },
@@ -860,7 +927,7 @@ static void test_write_characteristics(void)
 	EXPECT("entry", e.entry, SENT);
 }
 
-/* ---- flags: which of the 16 bits of a word has an effect ------------------------------------------------------------------------------------- */
+/* ---- flags: which of the 16 bits of a word has an effect --------------------------------------------------------- */
 
 static bool runs_unowned(uint16_t bit)
 {
@@ -926,14 +993,10 @@ static void test_flags(void)
 		bool (*has_effect)(uint16_t bit);
 		uint16_t flag;
 	} rows[] = {
-		{ "ACK", runs_unowned, TS11_ACK },
-		{ "CVC", clears_vck, TS11_CVC },
-		{ "IE", interrupts, TS11_IE },
-		{ "SWB", swaps, TS11_SWB },
-		{ "OPP", reads_first, TS11_OPP },
-		{ "EAI", makes_attention, TS11_EAI },
-		{ "ESS", stops_at_two_marks, TS11_ESS },
-		{ "ENB", stops_at_first_mark, TS11_ENB },
+		{ "ACK", runs_unowned, TS11_ACK },       { "CVC", clears_vck, TS11_CVC },
+		{ "IE", interrupts, TS11_IE },           { "SWB", swaps, TS11_SWB },
+		{ "OPP", reads_first, TS11_OPP },        { "EAI", makes_attention, TS11_EAI },
+		{ "ESS", stops_at_two_marks, TS11_ESS }, { "ENB", stops_at_first_mark, TS11_ENB },
 	};
 	ROWS(k, rows) {
 		unsigned bits = 0;
@@ -946,7 +1009,7 @@ static void test_flags(void)
 	context("");
 }
 
-/* ---- XST0 and XST3: the difference that one thing makes --------------------------------------------------------------------------------------- */
+/* ---- XST0 and XST3: the difference that one thing makes ---------------------------------------------------------- */
 
 /* The unit made ready at a block with a mode word, write lock and line switch; then a command. */
 struct trial {
@@ -981,27 +1044,50 @@ static void test_xst0(void)
 		unsigned difference;
 	} rows[] = {
 		{ "TMK", { .position = 3, .header = TS11_WRITE_MARK }, { .position = 3, .header = TS11_ERASE }, TS11_XST0_TMK },
-		{ "RLS", { .position = 2, .header = TS11_READ_NEXT, .pointer = DATA, .count = 8 },
-		  { .position = 2, .header = TS11_READ_NEXT, .pointer = DATA, .count = 7 }, TS11_XST0_RLS },
-		{ "RLL", { .position = 2, .header = TS11_READ_NEXT, .pointer = DATA, .count = 6 },
-		  { .position = 2, .header = TS11_READ_NEXT, .pointer = DATA, .count = 7 }, TS11_XST0_RLL },
-		{ "LET", { .mode = TS11_ESS, .position = 5, .header = TS11_SKIP_MARKS, .pointer = 2 },
-		  { .position = 5, .header = TS11_SKIP_MARKS, .pointer = 2 }, TS11_XST0_LET },
-		{ "WLE", { .position = 0, .locked = true, .header = TS11_WRITE, .pointer = DATA, .count = 5 },
-		  { .position = 0, .locked = true, .header = TS11_READ_PREVIOUS, .pointer = DATA, .count = 5 }, TS11_XST0_WLE },
-		{ "NEF", { .position = 3, .header = TS11_WRITE, .pointer = DATA, .count = 0 }, { .position = 3, .header = STATUS },
+		{ "RLS",
+		  { .position = 2, .header = TS11_READ_NEXT, .pointer = DATA, .count = 8 },
+		  { .position = 2, .header = TS11_READ_NEXT, .pointer = DATA, .count = 7 },
+		  TS11_XST0_RLS },
+		{ "RLL",
+		  { .position = 2, .header = TS11_READ_NEXT, .pointer = DATA, .count = 6 },
+		  { .position = 2, .header = TS11_READ_NEXT, .pointer = DATA, .count = 7 },
+		  TS11_XST0_RLL },
+		{ "LET",
+		  { .mode = TS11_ESS, .position = 5, .header = TS11_SKIP_MARKS, .pointer = 2 },
+		  { .position = 5, .header = TS11_SKIP_MARKS, .pointer = 2 },
+		  TS11_XST0_LET },
+		{ "WLE",
+		  { .position = 0, .locked = true, .header = TS11_WRITE, .pointer = DATA, .count = 5 },
+		  { .position = 0, .locked = true, .header = TS11_READ_PREVIOUS, .pointer = DATA, .count = 5 },
+		  TS11_XST0_WLE },
+		{ "NEF",
+		  { .position = 3, .header = TS11_WRITE, .pointer = DATA, .count = 0 },
+		  { .position = 3, .header = STATUS },
 		  TS11_XST0_NEF },
 		{ "ILC", { .position = 3, .header = 0 }, { .position = 3, .header = STATUS }, TS11_XST0_ILC },
-		{ "ILA", { .position = 3, .header = TS11_READ_NEXT, .pointer = 0x40000 }, { .position = 3, .header = STATUS },
+		{ "ILA",
+		  { .position = 3, .header = TS11_READ_NEXT, .pointer = 0x40000 },
+		  { .position = 3, .header = STATUS },
 		  TS11_XST0_ILA },
-		{ "MOT", { .position = 2, .header = TS11_SPACE_RECORDS, .pointer = 1 }, { .position = 3, .header = STATUS },
+		{ "MOT",
+		  { .position = 2, .header = TS11_SPACE_RECORDS, .pointer = 1 },
+		  { .position = 3, .header = STATUS },
 		  TS11_XST0_MOT },
-		{ "ONL", { .position = 3, .header = STATUS }, { .position = 3, .offline = true, .header = STATUS }, TS11_XST0_ONL },
+		{ "ONL",
+		  { .position = 3, .header = STATUS },
+		  { .position = 3, .offline = true, .header = STATUS },
+		  TS11_XST0_ONL },
 		{ "IE", { .position = 3, .header = STATUS | TS11_IE }, { .position = 3, .header = STATUS }, TS11_XST0_IE },
 		{ "VCK", { .position = 3, .vck = true, .header = STATUS }, { .position = 3, .header = STATUS }, TS11_XST0_VCK },
-		{ "WLK", { .position = 3, .locked = true, .header = STATUS }, { .position = 3, .header = STATUS }, TS11_XST0_WLK },
+		{ "WLK",
+		  { .position = 3, .locked = true, .header = STATUS },
+		  { .position = 3, .header = STATUS },
+		  TS11_XST0_WLK },
 		{ "BOT", { .position = 0, .header = STATUS }, { .position = 1, .header = STATUS }, TS11_XST0_BOT },
-		{ "EOT", { .position = MARKER, .header = STATUS }, { .position = MARKER - 1, .header = STATUS }, TS11_XST0_EOT },
+		{ "EOT",
+		  { .position = MARKER, .header = STATUS },
+		  { .position = MARKER - 1, .header = STATUS },
+		  TS11_XST0_EOT },
 	};
 	unsigned always = 0xFFFF;
 	ROWS(k, rows) {
@@ -1022,12 +1108,18 @@ static void test_xst3(void)
 		struct trial one, other;
 		unsigned difference;
 	} rows[] = {
-		{ "OPI", { .position = TAPE_END, .header = TS11_READ_NEXT, .pointer = DATA, .count = 9 },
-		  { .position = 3, .header = TS11_READ_NEXT, .pointer = DATA, .count = 9 }, TS11_XST3_OPI },
-		{ "REV", { .position = 3, .header = TS11_READ_PREVIOUS, .pointer = DATA, .count = 9 },
-		  { .position = 3, .header = TS11_READ_NEXT, .pointer = DATA, .count = 9 }, TS11_XST3_REV },
-		{ "RIB", { .position = 1, .header = TS11_SPACE_RECORDS_REVERSE, .pointer = 2 },
-		  { .position = 1, .header = TS11_SPACE_RECORDS_REVERSE, .pointer = 1 }, TS11_XST3_RIB },
+		{ "OPI",
+		  { .position = TAPE_END, .header = TS11_READ_NEXT, .pointer = DATA, .count = 9 },
+		  { .position = 3, .header = TS11_READ_NEXT, .pointer = DATA, .count = 9 },
+		  TS11_XST3_OPI },
+		{ "REV",
+		  { .position = 3, .header = TS11_READ_PREVIOUS, .pointer = DATA, .count = 9 },
+		  { .position = 3, .header = TS11_READ_NEXT, .pointer = DATA, .count = 9 },
+		  TS11_XST3_REV },
+		{ "RIB",
+		  { .position = 1, .header = TS11_SPACE_RECORDS_REVERSE, .pointer = 2 },
+		  { .position = 1, .header = TS11_SPACE_RECORDS_REVERSE, .pointer = 1 },
+		  TS11_XST3_RIB },
 	};
 	ROWS(k, rows) {
 		context("XST3 %s", rows[k].name);
@@ -1038,7 +1130,7 @@ static void test_xst3(void)
 	context("");
 }
 
-/* ---- the reel's blocks --------------------------------------------------------------------------------------------------------------------------- */
+/* ---- the reel's blocks ------------------------------------------------------------------------------------------- */
 
 static uint8_t *block_at(size_t block)
 {
@@ -1065,8 +1157,10 @@ static void test_written_record(void)
 	expect_block(4, 1, 600, 1);
 	EXPECT("kind", word_at(block_at(3) + TS11_BLOCK_KIND), TS11_KIND_RECORD);
 	EXPECT_BYTES("first data", block_at(3) + TS11_BLOCK_BYTES, u.memory.at + DATA, TS11_BLOCK_DATA);
-	EXPECT_BYTES("second data", block_at(4) + TS11_BLOCK_BYTES, u.memory.at + DATA + TS11_BLOCK_DATA, 600 - TS11_BLOCK_DATA);
-	EXPECT("bytes not used", all_are(block_at(4) + TS11_BLOCK_BYTES + 96, TS11_BLOCK_CHECK - TS11_BLOCK_BYTES - 96, 0), true);
+	EXPECT_BYTES("second data", block_at(4) + TS11_BLOCK_BYTES, u.memory.at + DATA + TS11_BLOCK_DATA,
+	             600 - TS11_BLOCK_DATA);
+	EXPECT("bytes not used", all_are(block_at(4) + TS11_BLOCK_BYTES + 96, TS11_BLOCK_CHECK - TS11_BLOCK_BYTES - 96, 0),
+	       true);
 	uint8_t wanted[2 * TS11_BLOCK];
 	lay_record(wanted, 0, u.memory.at + DATA, 600);
 	EXPECT_BYTES("both blocks", block_at(3), wanted, sizeof wanted);
@@ -1093,7 +1187,7 @@ static void test_written_mark_and_gap(void)
 	EXPECT("check word of the record AB", word_at(block_at(5) + TS11_BLOCK_CHECK), 0x4244);
 }
 
-/* ---- all of it ---------------------------------------------------------------------------------------------------------------------------------------- */
+/* ---- all of it --------------------------------------------------------------------------------------------------- */
 
 static void test_all(void)
 {

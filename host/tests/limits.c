@@ -1,6 +1,7 @@
 /*
- * limits: lengths and numbers at every limit and just outside it, and one session with memory, reel and journal of full size.
- * Every buffer is an allocation of exactly its length. A refused call must have changed nothing.
+ * limits: lengths and numbers at every limit and just outside it, and one session with memory, reel and journal of full
+ * size. Every buffer is an allocation of exactly its length. A refused call must have changed nothing.
+ * Compile with -I host/include and link with libts11.a.
  */
 #include "driver.h"
 
@@ -15,7 +16,7 @@ enum { READY = TS11_XST0_ONL | TS11_XST0_PED };
 /* The bytes of the host's stores. */
 static uint8_t host[TS11_HOST_STORE_MAX + 1];
 
-/* ---- mount ---------------------------------------------------------------------------------------------------------- */
+/* ---- mount ------------------------------------------------------------------------------------------------------- */
 
 /* What a mount is handed besides the reel's bytes. */
 struct lengths {
@@ -42,7 +43,8 @@ static void expect_mounted(const ts11_state *s, const struct lengths *l)
 /* Mounts over a state of any bytes, with a reel of exactly its length; that many whole gaps stand on it. */
 static void expect_mount(const struct lengths *l, size_t gaps, ts11_answer wanted)
 {
-	context("mount: memory %zu, reel %zu, journal %zu, recorded end %zu", l->memory, l->reel, l->journal, l->recorded_end);
+	context("mount: memory %zu, reel %zu, journal %zu, recorded end %zu", l->memory, l->reel, l->journal,
+	        l->recorded_end);
 	struct unit u = make_unit(0, l->reel, 0, 0);
 	struct copy state = { 0 }, reel = { 0 };
 	size_t block = 1;
@@ -50,7 +52,8 @@ static void expect_mount(const struct lengths *l, size_t gaps, ts11_answer wante
 	lay_gaps(u.reel.at, gaps);
 	take_copy(&state, u.state.at, u.state.length);
 	take_copy(&reel, u.reel.at, u.reel.length);
-	EXPECT("answer", ts11_mount(state_of(&u), l->memory, u.reel.at, l->reel, l->journal, l->recorded_end, true, false, &block),
+	EXPECT("answer",
+	       ts11_mount(state_of(&u), l->memory, u.reel.at, l->reel, l->journal, l->recorded_end, true, false, &block),
 	       wanted);
 	EXPECT("*block", block, 0);
 	EXPECT_BYTES("the reel", u.reel.at, reel.bytes, reel.length);
@@ -70,13 +73,20 @@ static void test_mount_memory(void)
 		size_t memory;
 		ts11_answer answer;
 	} rows[] = {
-		{ 0, TS11_BAD_MEMORY },          { 1, TS11_BAD_MEMORY },
-		{ 2, TS11_DONE },                { 3, TS11_BAD_MEMORY },
-		{ 262142, TS11_DONE },           { 262143, TS11_BAD_MEMORY },
-		{ TS11_MEMORY_MAX, TS11_DONE },  { TS11_MEMORY_MAX + 1, TS11_BAD_MEMORY },
-		{ TS11_MEMORY_MAX + 2, TS11_BAD_MEMORY }, { TWO_32, TS11_BAD_MEMORY },
-		{ TWO_32 + 2, TS11_BAD_MEMORY }, { TWO_32 + TS11_MEMORY_MAX, TS11_BAD_MEMORY },
-		{ SIZE_MAX - 1, TS11_BAD_MEMORY }, { SIZE_MAX, TS11_BAD_MEMORY },
+		{ 0, TS11_BAD_MEMORY },
+		{ 1, TS11_BAD_MEMORY },
+		{ 2, TS11_DONE },
+		{ 3, TS11_BAD_MEMORY },
+		{ 262142, TS11_DONE },
+		{ 262143, TS11_BAD_MEMORY },
+		{ TS11_MEMORY_MAX, TS11_DONE },
+		{ TS11_MEMORY_MAX + 1, TS11_BAD_MEMORY },
+		{ TS11_MEMORY_MAX + 2, TS11_BAD_MEMORY },
+		{ TWO_32, TS11_BAD_MEMORY },
+		{ TWO_32 + 2, TS11_BAD_MEMORY },
+		{ TWO_32 + TS11_MEMORY_MAX, TS11_BAD_MEMORY },
+		{ SIZE_MAX - 1, TS11_BAD_MEMORY },
+		{ SIZE_MAX, TS11_BAD_MEMORY },
 	};
 	ROWS(k, rows)
 		expect_mount(&(struct lengths){ rows[k].memory, TS11_BLOCK, 0, 0 }, 0, rows[k].answer);
@@ -88,11 +98,16 @@ static void test_mount_reel(void)
 		size_t reel;
 		ts11_answer answer;
 	} rows[] = {
-		{ 0, TS11_BAD_REEL },            { 511, TS11_BAD_REEL },
-		{ 512, TS11_DONE },              { 513, TS11_BAD_REEL },
-		{ 1023, TS11_BAD_REEL },         { 1024, TS11_DONE },
-		{ REEL_MAX - 1, TS11_BAD_REEL }, { REEL_MAX, TS11_DONE },
-		{ REEL_MAX + 1, TS11_BAD_REEL }, { REEL_MAX + TS11_BLOCK, TS11_BAD_REEL },
+		{ 0, TS11_BAD_REEL },
+		{ 511, TS11_BAD_REEL },
+		{ 512, TS11_DONE },
+		{ 513, TS11_BAD_REEL },
+		{ 1023, TS11_BAD_REEL },
+		{ 1024, TS11_DONE },
+		{ REEL_MAX - 1, TS11_BAD_REEL },
+		{ REEL_MAX, TS11_DONE },
+		{ REEL_MAX + 1, TS11_BAD_REEL },
+		{ REEL_MAX + TS11_BLOCK, TS11_BAD_REEL },
 	};
 	ROWS(k, rows)
 		expect_mount(&(struct lengths){ 2, rows[k].reel, 0, 0 }, 0, rows[k].answer);
@@ -156,7 +171,7 @@ static void test_mount_order(void)
 		expect_mount(&rows[k].lengths, 0, rows[k].answer);
 }
 
-/* ---- lengths other than the mount's -------------------------------------------------------------------------------------- */
+/* ---- lengths other than the mount's ------------------------------------------------------------------------------ */
 
 enum { SMALL_MEMORY = 64, SMALL_REEL = 3 * TS11_BLOCK, SMALL_JOURNAL = 1024 };
 
@@ -215,15 +230,16 @@ static ts11_answer least_refusal(bool bad_state, long memory, long reel, long jo
 
 static void expect_answer_with(const struct call *c, bool bad_state, long memory, long reel, long journal)
 {
-	context("call %d: state %s, memory %+ld, reel %+ld, journal %+ld", (int)c->kind, bad_state ? "wrong" : "right", memory,
-	        reel, journal);
+	context("call %d: state %s, memory %+ld, reel %+ld, journal %+ld", (int)c->kind, bad_state ? "wrong" : "right",
+	        memory, reel, journal);
 	EXPECT("answer", answer_with(c, bad_state, memory, reel, journal), least_refusal(bad_state, memory, reel, journal));
 }
 
 /* 1 before 2 before 3 before 4, whatever else is wrong. */
 static void test_other_lengths(void)
 {
-	static const long memories[] = { 0, -1, 1, -2, 2 }, reels[] = { 0, -1, 1, -TS11_BLOCK, TS11_BLOCK }, journals[] = { 0, -1, 1 };
+	static const long memories[] = { 0, -1, 1, -2, 2 }, reels[] = { 0, -1, 1, -TS11_BLOCK, TS11_BLOCK },
+					  journals[] = { 0, -1, 1 };
 	for (size_t c = 0; c < BUFFERED; c++)
 		ROWS(m, memories)
 			ROWS(r, reels)
@@ -235,9 +251,9 @@ static void test_other_lengths(void)
 	context("");
 }
 
-/* ---- numbers of the state ---------------------------------------------------------------------------------------------------- */
+/* ---- numbers of the state ---------------------------------------------------------------------------------------- */
 
-/* Made-up numbers at their limits and just outside them; -1 is the journal's length. */
+/* Made-up numbers at their limits and just outside them. */
 static const struct {
 	const char *name;
 	size_t at;
@@ -316,7 +332,7 @@ static void test_made_up_message(void)
 	context("");
 }
 
-/* ---- host stores ---------------------------------------------------------------------------------------------------------------- */
+/* ---- host stores ------------------------------------------------------------------------------------------------- */
 
 static void expect_store(struct unit *u, size_t address, size_t length, ts11_answer wanted)
 {
@@ -377,7 +393,50 @@ static void test_small_host_stores(void)
 	free_unit(&u);
 }
 
-/* ---- the ends of memory ------------------------------------------------------------------------------------------------------------ */
+/* A used journal that no entry ends: too short for one, or with a state that 1 refuses where the entry would stand. */
+static void test_no_entries(void)
+{
+	static const struct {
+		uint32_t used;
+		ts11_answer answer;
+	} rows[] = {
+		{ 0, TS11_NO_ENTRY },
+		{ 1, TS11_BAD_ENTRY },
+		{ TS11_ENTRY_HEAD - 1, TS11_BAD_ENTRY },
+		{ SMALL_JOURNAL - 1, TS11_BAD_ENTRY },
+		{ SMALL_JOURNAL, TS11_BAD_ENTRY },
+	};
+	ROWS(k, rows) {
+		context("made up: used journal of %" PRIu32, rows[k].used);
+		struct unit u = small_unit();
+		set_number(&u, TS11_AT_USED, rows[k].used);
+		EXPECT("step back", step_back(&u).answer, rows[k].answer);
+		free_unit(&u);
+	}
+	context("");
+}
+
+/* With length 0 any address will do: nothing is read or written there. */
+static void test_empty_buffers(void)
+{
+	uint8_t *nowhere = (uint8_t *)1;
+	struct unit u = make_unit(2, TS11_BLOCK, SMALL_JOURNAL, 0);
+	EXPECT("the mount", mount(&u, 0, true, false).answer, TS11_DONE);
+	EXPECT("a store of no bytes", host_store(&u, 2, nowhere, 0).answer, TS11_DONE);
+	struct unit no_journal = { u.state, u.memory, u.reel, { nowhere, 0, 0 } };
+	EXPECT("a mount without a journal", mount(&no_journal, 0, true, false).answer, TS11_DONE);
+	EXPECT("a step", write_tsdb(&no_journal, 0).answer, TS11_JOURNAL_FULL);
+	EXPECT("a step back", step_back(&no_journal).answer, TS11_NO_ENTRY);
+	EXPECT("an idle advance", advance(&no_journal).answer, TS11_DONE);
+	struct unit no_memory = { u.state, { nowhere, 0, 0 }, u.reel, { nowhere, 0, 0 } };
+	EXPECT("without memory", write_tsdb(&no_memory, 0).answer, TS11_BAD_MEMORY);
+	struct unit no_reel = { u.state, u.memory, { nowhere, 0, 0 }, { nowhere, 0, 0 } };
+	EXPECT("without a reel", write_tsdb(&no_reel, 0).answer, TS11_BAD_REEL);
+	EXPECT("a mount without a reel", mount(&no_reel, 0, true, false).answer, TS11_BAD_REEL);
+	free_unit(&u);
+}
+
+/* ---- the ends of memory ------------------------------------------------------------------------------------------ */
 
 /* Two bytes of memory hold a header and nothing else. */
 static void test_least_memory(void)
@@ -415,12 +474,13 @@ static void test_end_of_memory(size_t memory)
 {
 	struct unit u = unit_of_memory(memory);
 	context("memory %zu", memory);
-	expect_class("a message buffer at the end", characteristics(&u, TS11_CVC, memory - TS11_MESSAGE_BYTES, TS11_MESSAGE_BYTES, 0),
-	             TS11_CLASS_NORMAL);
+	expect_class("a message buffer at the end",
+	             characteristics(&u, TS11_CVC, memory - TS11_MESSAGE_BYTES, TS11_MESSAGE_BYTES, 0), TS11_CLASS_NORMAL);
 	EXPECT("the message there", word_at(u.memory.at + memory - TS11_MESSAGE_BYTES), TS11_END);
-	expect_class("a message buffer past it", characteristics(&u, 0, memory - TS11_MESSAGE_BYTES + 2, TS11_MESSAGE_BYTES, 0),
-	             TS11_CLASS_REJECT);
-	expect_class("a message buffer in place", characteristics(&u, 0, MESSAGE, TS11_MESSAGE_BYTES, 0), TS11_CLASS_NORMAL);
+	expect_class("a message buffer past it",
+	             characteristics(&u, 0, memory - TS11_MESSAGE_BYTES + 2, TS11_MESSAGE_BYTES, 0), TS11_CLASS_REJECT);
+	expect_class("a message buffer in place", characteristics(&u, 0, MESSAGE, TS11_MESSAGE_BYTES, 0),
+	             TS11_CLASS_NORMAL);
 	expect_class("data past it", command(&u, TS11_READ_NEXT | TS11_ACK, memory - 15, 16), TS11_CLASS_UNMOVED);
 	EXPECT("the position", number(&u, TS11_AT_POSITION), 0);
 	expect_class("data to the end", command(&u, TS11_READ_NEXT | TS11_ACK, memory - 16, 16), TS11_CLASS_NORMAL);
@@ -458,7 +518,7 @@ static void test_memory_ends(void)
 	test_packet_at_the_end(TS11_MEMORY_MAX, TS11_READ_NEXT, TS11_CLASS_UNMOVED);
 }
 
-/* ---- records and small reels --------------------------------------------------------------------------------------------------------- */
+/* ---- records and small reels ------------------------------------------------------------------------------------- */
 
 /* Written, then read back in both directions. */
 static void expect_record(size_t length, size_t blocks)
@@ -520,16 +580,22 @@ static void test_small_reel(size_t blocks)
 	context("");
 }
 
-/* ---- full size: the session -------------------------------------------------------------------------------------------------------------- */
+/* ---- full size: the session -------------------------------------------------------------------------------------- */
 
 /*
- * On the reel: records of 1, 504 and 505 bytes, a gap, a mark, and records of 33 blocks up to PRERECORDED; the unit writes WRITTEN more,
- * then one that fills the reel to its very end.
+ * On the reel: records of 1, 504 and 505 bytes, a gap, a mark, and records of 33 blocks up to PRERECORDED; the unit
+ * writes WRITTEN more, then one that fills the reel to its very end.
  */
 enum {
-	LONG_BLOCKS = 33, AFTER_MARK = 6, LONG_RECORDS = (TS11_REEL_BLOCKS_MAX - AFTER_MARK) / LONG_BLOCKS, WRITTEN = 400,
-	PRERECORDED = AFTER_MARK + (LONG_RECORDS - WRITTEN) * LONG_BLOCKS, LONG_END = AFTER_MARK + LONG_RECORDS * LONG_BLOCKS,
-	LAST_BLOCKS = TS11_REEL_BLOCKS_MAX - LONG_END, LAST = LAST_BLOCKS * TS11_BLOCK_DATA, MEMORY_END = TS11_MEMORY_MAX
+	LONG_BLOCKS = 33,
+	AFTER_MARK = 6,
+	LONG_RECORDS = (TS11_REEL_BLOCKS_MAX - AFTER_MARK) / LONG_BLOCKS,
+	WRITTEN = 400,
+	PRERECORDED = AFTER_MARK + (LONG_RECORDS - WRITTEN) * LONG_BLOCKS,
+	LONG_END = AFTER_MARK + LONG_RECORDS * LONG_BLOCKS,
+	LAST_BLOCKS = TS11_REEL_BLOCKS_MAX - LONG_END,
+	LAST = LAST_BLOCKS * TS11_BLOCK_DATA,
+	MEMORY_END = TS11_MEMORY_MAX
 };
 
 static struct unit full;
@@ -611,13 +677,14 @@ static void full_to_the_end(void)
 /* Records of the greatest length, the first from data that ends where memory ends; a byte further is no memory. */
 static void full_write(void)
 {
-	expect_command("data past memory", TS11_WRITE, MEMORY_END - TS11_RECORD_MAX + 1, TS11_RECORD_MAX, TS11_CLASS_UNMOVED, 0, 0,
-	               PRERECORDED);
+	expect_command("data past memory", TS11_WRITE, MEMORY_END - TS11_RECORD_MAX + 1, TS11_RECORD_MAX,
+	               TS11_CLASS_UNMOVED, 0, 0, PRERECORDED);
 	for (size_t k = 0; k < WRITTEN; k++) {
 		size_t from = MEMORY_END - TS11_RECORD_MAX - 8 * k, end = PRERECORDED + (k + 1) * LONG_BLOCKS;
 		bool eot = end >= TS11_REEL_BLOCKS_MAX - TS11_EOT_MARGIN;
-		struct ending e = expect_command("write", TS11_WRITE, from, TS11_RECORD_MAX, eot ? TS11_CLASS_STATUS : TS11_CLASS_NORMAL,
-		                                 TS11_XST0_MOT | (eot ? TS11_XST0_EOT : 0), 0, end);
+		struct ending e =
+			expect_command("write", TS11_WRITE, from, TS11_RECORD_MAX, eot ? TS11_CLASS_STATUS : TS11_CLASS_NORMAL,
+		                   TS11_XST0_MOT | (eot ? TS11_XST0_EOT : 0), 0, end);
 		EXPECT("entry", e.entry, TS11_ENTRY_HEAD + TS11_MESSAGE_BYTES + LONG_BLOCKS * TS11_BLOCK);
 		EXPECT("recorded end", number(&full, TS11_AT_END), end);
 	}
@@ -632,7 +699,8 @@ static void full_fill_reel(void)
 	size_t from = MEMORY_END - LAST;
 	expect_command("a long record", TS11_WRITE, DATA, TS11_RECORD_MAX, TS11_CLASS_REJECT, NO_ROOM, 0, LONG_END);
 	expect_command("a byte too many", TS11_WRITE, from - 1, LAST + 1, TS11_CLASS_REJECT, NO_ROOM, 0, LONG_END);
-	expect_command("to the very end", TS11_WRITE, from, LAST, TS11_CLASS_STATUS, TS11_XST0_MOT | TS11_XST0_EOT, 0, FILLED);
+	expect_command("to the very end", TS11_WRITE, from, LAST, TS11_CLASS_STATUS, TS11_XST0_MOT | TS11_XST0_EOT, 0,
+	               FILLED);
 	EXPECT("recorded end", number(&full, TS11_AT_END), FILLED);
 	expect_command("a byte", TS11_WRITE, DATA, 1, TS11_CLASS_REJECT, NO_ROOM, 0, FILLED);
 	expect_command("a mark", TS11_WRITE_MARK, 0, 0, TS11_CLASS_REJECT, NO_ROOM, 0, FILLED);
@@ -647,8 +715,9 @@ static void full_read_last(void)
 	uint8_t *bytes = need(malloc(LAST));
 	memcpy(bytes, full.memory.at + MEMORY_END - LAST, LAST);
 	host_store(&full, MEMORY_END - LAST, host, LAST);
-	struct ending e = expect_command("the last record in reverse", TS11_READ_PREVIOUS, MEMORY_END - TS11_RECORD_MAX, TS11_RECORD_MAX,
-	                                 TS11_CLASS_STATUS, TS11_XST0_RLS | TS11_XST0_MOT | TS11_XST0_EOT, TS11_RECORD_MAX - LAST, LONG_END);
+	struct ending e = expect_command("the last record in reverse", TS11_READ_PREVIOUS, MEMORY_END - TS11_RECORD_MAX,
+	                                 TS11_RECORD_MAX, TS11_CLASS_STATUS, TS11_XST0_RLS | TS11_XST0_MOT | TS11_XST0_EOT,
+	                                 TS11_RECORD_MAX - LAST, LONG_END);
 	EXPECT("XST3", e.xst3, TS11_XST3_REV);
 	EXPECT("entry", e.entry, TS11_ENTRY_HEAD + TS11_MESSAGE_BYTES + LAST);
 	EXPECT_BYTES("its bytes", full.memory.at + MEMORY_END - LAST, bytes, LAST);
@@ -660,11 +729,12 @@ static void full_mount_whole(void)
 {
 	struct unit other = full;
 	other.state = make_buffer(TS11_STATE_BYTES, 0);
-	EXPECT("an end beyond capacity", perform(&other, &(struct call){ .kind = MOUNT, .recorded_end = TS11_REEL_BLOCKS_MAX + 1 }).answer,
+	EXPECT("an end beyond capacity",
+	       perform(&other, &(struct call){ .kind = MOUNT, .recorded_end = TS11_REEL_BLOCKS_MAX + 1 }).answer,
 	       TS11_BAD_REEL);
 	EXPECT("its state", all_are(other.state.at, TS11_STATE_BYTES, 0), true);
-	EXPECT("an end at capacity", perform(&other, &(struct call){ .kind = MOUNT, .recorded_end = TS11_REEL_BLOCKS_MAX }).answer,
-	       TS11_DONE);
+	EXPECT("an end at capacity",
+	       perform(&other, &(struct call){ .kind = MOUNT, .recorded_end = TS11_REEL_BLOCKS_MAX }).answer, TS11_DONE);
 	EXPECT("its end", number(&other, TS11_AT_END), TS11_REEL_BLOCKS_MAX);
 	free_buffer(&other.state);
 }
@@ -674,28 +744,32 @@ static void full_to_bot(void)
 {
 	enum { MOST = 65535, SHORT = TS11_XST0_RLS | TS11_XST0_MOT, RIB = TS11_XST3_RIB | TS11_XST3_REV };
 	expect_command("back to the mark", TS11_SPACE_RECORDS_REVERSE, LONG_RECORDS, 0, 0, TS11_XST0_MOT, 0, AFTER_MARK);
-	expect_command("over it", TS11_SPACE_RECORDS_REVERSE, MOST, 0, TS11_CLASS_STATUS, TS11_XST0_TMK | SHORT, MOST, AFTER_MARK - 1);
-	struct ending e = expect_command("to BOT", TS11_SPACE_RECORDS_REVERSE, MOST, 0, TS11_CLASS_STATUS, SHORT | TS11_XST0_BOT, MOST - 3, 0);
+	expect_command("over it", TS11_SPACE_RECORDS_REVERSE, MOST, 0, TS11_CLASS_STATUS, TS11_XST0_TMK | SHORT, MOST,
+	               AFTER_MARK - 1);
+	struct ending e = expect_command("to BOT", TS11_SPACE_RECORDS_REVERSE, MOST, 0, TS11_CLASS_STATUS,
+	                                 SHORT | TS11_XST0_BOT, MOST - 3, 0);
 	EXPECT("XST3 at BOT", e.xst3, RIB);
-	expect_command("reverse at BOT", TS11_SPACE_RECORDS_REVERSE, 1, 0, TS11_CLASS_REJECT, TS11_XST0_NEF | TS11_XST0_BOT, 1, 0);
-	expect_command("marks to the end", TS11_SKIP_MARKS, MOST, 0, TS11_CLASS_LOST, TS11_XST0_TMK | TS11_XST0_MOT | TS11_XST0_EOT, MOST - 1,
-	               TS11_REEL_BLOCKS_MAX);
-	e = expect_command("marks to BOT", TS11_SKIP_MARKS_REVERSE, MOST, 0, TS11_CLASS_STATUS, SHORT | TS11_XST0_TMK | TS11_XST0_BOT,
-	                   MOST - 1, 0);
+	expect_command("reverse at BOT", TS11_SPACE_RECORDS_REVERSE, 1, 0, TS11_CLASS_REJECT, TS11_XST0_NEF | TS11_XST0_BOT,
+	               1, 0);
+	expect_command("marks to the end", TS11_SKIP_MARKS, MOST, 0, TS11_CLASS_LOST,
+	               TS11_XST0_TMK | TS11_XST0_MOT | TS11_XST0_EOT, MOST - 1, TS11_REEL_BLOCKS_MAX);
+	e = expect_command("marks to BOT", TS11_SKIP_MARKS_REVERSE, MOST, 0, TS11_CLASS_STATUS,
+	                   SHORT | TS11_XST0_TMK | TS11_XST0_BOT, MOST - 1, 0);
 	EXPECT("XST3 at BOT", e.xst3, RIB);
 }
 
-/* A write at BOT ends the reel after one block: the end alone forgets 65,535 others, and step back must bring it back. */
+/* A write at BOT ends the reel after one block; the 65,535 others are forgotten, and step back must bring them back. */
 static void full_write_at_bot(void)
 {
 	expect_command("a mark at BOT", TS11_WRITE_MARK, 0, 0, 0, TS11_XST0_TMK | TS11_XST0_MOT, 0, 1);
 	EXPECT("recorded end", number(&full, TS11_AT_END), 1);
 }
 
-/* ---- full size: the journal ---------------------------------------------------------------------------------------------------------------- */
+/* ---- full size: the journal -------------------------------------------------------------------------------------- */
 
-static const struct call store_most = { .kind = HOST_STORE, .address = MEMORY_END - TS11_HOST_STORE_MAX, .bytes = host,
-	                                .length = TS11_HOST_STORE_MAX };
+static const struct call store_most = {
+	.kind = HOST_STORE, .address = MEMORY_END - TS11_HOST_STORE_MAX, .bytes = host, .length = TS11_HOST_STORE_MAX
+};
 
 /* The largest stores, at the end of memory, as long as the free room holds their entry. */
 static void full_fill_journal(void)
@@ -719,7 +793,7 @@ static void leave_room(size_t room)
 	EXPECT("free room", free_room(), room);
 }
 
-/* A step whose entry has this length: refused with a byte less of room, answered 0 with just enough; then undone with its filler. */
+/* A step with an entry of this length: refused with a byte less of room, answered 0 with just enough; then undone. */
 static void expect_fits_exactly(const char *what, const struct call *c, size_t entry)
 {
 	leave_room(entry - 1);
@@ -733,7 +807,8 @@ static void expect_fits_exactly(const char *what, const struct call *c, size_t e
 }
 
 /* The command waits while the room is made. */
-static void expect_command_fits_exactly(const char *what, uint16_t header, size_t pointer, uint16_t count, size_t stored)
+static void expect_command_fits_exactly(const char *what, uint16_t header, size_t pointer, uint16_t count,
+                                        size_t stored)
 {
 	put_packet(&full, header | TS11_ACK, pointer, count);
 	write_tsdb(&full, TS11_TSDB(PACKET));
@@ -747,9 +822,11 @@ static void full_exact_room(void)
 	enum { SENT = TS11_MESSAGE_BYTES };
 	expect_fits_exactly("TSDB", &(struct call){ .kind = WRITE_TSDB, .word = 4 }, TS11_ENTRY_HEAD);
 	expect_fits_exactly("TSSR", &(struct call){ .kind = WRITE_TSSR }, TS11_ENTRY_HEAD);
-	expect_fits_exactly("a switch", &(struct call){ .kind = OPERATE, .which = TS11_SWITCH_WRITE_LOCK, .on = true }, TS11_ENTRY_HEAD);
+	expect_fits_exactly("a switch", &(struct call){ .kind = OPERATE, .which = TS11_SWITCH_WRITE_LOCK, .on = true },
+	                    TS11_ENTRY_HEAD);
 	expect_fits_exactly("a store of 0", &(struct call){ .kind = HOST_STORE, .bytes = host }, TS11_ENTRY_HEAD);
-	expect_fits_exactly("a store of 77", &(struct call){ .kind = HOST_STORE, .bytes = host, .length = 77 }, TS11_ENTRY_HEAD + 77);
+	expect_fits_exactly("a store of 77", &(struct call){ .kind = HOST_STORE, .bytes = host, .length = 77 },
+	                    TS11_ENTRY_HEAD + 77);
 	expect_command_fits_exactly("release", TS11_RELEASE, 0, 0, 0);
 	expect_command_fits_exactly("get status", TS11_GET_STATUS, 0, 0, SENT);
 	expect_command_fits_exactly("read a mark", TS11_READ_PREVIOUS, DATA, 9, SENT);
@@ -767,7 +844,8 @@ static void full_no_room(void)
 	expect_refused("TSSR", &(struct call){ .kind = WRITE_TSSR }, TS11_JOURNAL_FULL);
 	expect_refused("a switch", &(struct call){ .kind = OPERATE }, TS11_JOURNAL_FULL);
 	expect_refused("a store of 0", &(struct call){ .kind = HOST_STORE, .bytes = host }, TS11_JOURNAL_FULL);
-	expect_refused("a store past memory", &(struct call){ .kind = HOST_STORE, .address = SIZE_MAX, .bytes = host, .length = 1 },
+	expect_refused("a store past memory",
+	               &(struct call){ .kind = HOST_STORE, .address = SIZE_MAX, .bytes = host, .length = 1 },
 	               TS11_BAD_STORE);
 	expect_refused("an idle advance", &(struct call){ .kind = ADVANCE }, TS11_DONE);
 	expect_refused("TSBA", &(struct call){ .kind = READ_REGISTER, .which = TS11_REGISTER_TSBA }, TS11_DONE);
@@ -852,6 +930,8 @@ int main(void)
 	test_made_up_message();
 	test_host_stores();
 	test_small_host_stores();
+	test_no_entries();
+	test_empty_buffers();
 	test_least_memory();
 	test_memory_ends();
 	test_records();

@@ -1,6 +1,6 @@
 /*
- * The prototypes of ts11.h, with the parameters' names: each name is made to give its parameter a type of its own, so that
- * a declaration with two names exchanged is another type and does not compile. The library's order is the one written here.
+ * The prototypes of ts11.h, with the parameters' names: each name is made to give its parameter a type of its own, so
+ * that a declaration with two names exchanged has another type and does not compile. The library's order is that here.
  */
 #ifndef NAMES_H
 #define NAMES_H
@@ -22,8 +22,24 @@
 #define ts11_step_back named_step_back
 
 enum name {
-	MEMORY_ = 1, MEMORY_LENGTH_, REEL_, REEL_LENGTH_, JOURNAL_, JOURNAL_LENGTH_, RECORDED_END_, ONLINE_, WRITE_LOCK_, BLOCK_,
-	WORD_, WHICH_SWITCH_, ON_, WHICH_REGISTER_, ADDRESS_, LENGTH_, STEPPED_, INTERRUPT_
+	MEMORY_ = 1,
+	MEMORY_LENGTH_,
+	REEL_,
+	REEL_LENGTH_,
+	JOURNAL_,
+	JOURNAL_LENGTH_,
+	RECORDED_END_,
+	ONLINE_,
+	WRITE_LOCK_,
+	BLOCK_,
+	WORD_,
+	WHICH_SWITCH_,
+	ON_,
+	WHICH_REGISTER_,
+	ADDRESS_,
+	LENGTH_,
+	STEPPED_,
+	INTERRUPT_
 };
 
 #define memory (*memory)[MEMORY_]
@@ -66,10 +82,10 @@ enum name {
 #undef stepped
 #undef interrupt
 
-/* Another type here than in the header is an error. `state`, and `bytes` of the host store, have types of their own already. */
-#define NAMED_BUFFERS                                                                                                       \
-	ts11_state *, uint8_t *(*)[MEMORY_], size_t (*)[MEMORY_LENGTH_], uint8_t *(*)[REEL_], size_t (*)[REEL_LENGTH_], \
-	    uint8_t *(*)[JOURNAL_], size_t (*)[JOURNAL_LENGTH_]
+/* A type other than the header's is an error. `state`, and `bytes` of the host store, have their own types anyway. */
+#define NAMED_BUFFERS                                                                                                  \
+	ts11_state *, uint8_t *(*)[MEMORY_], size_t(*)[MEMORY_LENGTH_], uint8_t *(*)[REEL_], size_t(*)[REEL_LENGTH_],      \
+		uint8_t *(*)[JOURNAL_], size_t(*)[JOURNAL_LENGTH_]
 
 size_t ts11_mount(ts11_state *, size_t (*)[MEMORY_LENGTH_], const uint8_t *(*)[REEL_], size_t (*)[REEL_LENGTH_],
                   size_t (*)[JOURNAL_LENGTH_], size_t (*)[RECORDED_END_], bool (*)[ONLINE_], bool (*)[WRITE_LOCK_],

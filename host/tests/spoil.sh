@@ -1,7 +1,7 @@
 #!/usr/bin/env bash
-# spoil.sh LIBRARY [all]: header.c must notice any change of ts11.h. Compiles and runs it against copies of the header with one thing
-# spoiled in each; every one must fail to compile or make the program exit with 1.
-# CC is the compiler (gcc), with its options; RUN is what runs a program (nothing), such as an emulator.
+# spoil.sh LIBRARY [all]: header.c must notice any change of ts11.h. Compiles and runs it against copies of the header
+# with one thing spoiled in each (spoils.py); every one must fail to compile or make the program exit with 1.
+# CC is the compiler with its options (gcc), RUN what runs a program, such as an emulator (nothing).
 set -eu
 
 tests=$(cd "$(dirname "$0")" && pwd)

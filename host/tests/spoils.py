@@ -1,8 +1,8 @@
 #!/usr/bin/env python3
-"""spoils.py HEADER DIRECTORY [all]: copies of a C header with one thing spoiled in each, DIRECTORY/N/ts11.h, and what in DIRECTORY/N/what.
+"""spoils.py HEADER DIRECTORY [all]: copies of ts11.h with one thing spoiled in each.
 
-Spoiled are the values of constants, the numbers in macros and in the inline function, the types, and the prototypes' parameters.
-With `all`, constants are also spoiled in each of 18 bits.
+Each is DIRECTORY/N/ts11.h, with what is spoiled in DIRECTORY/N/what: the value of a constant, a number in a macro or in
+the inline function, a type, or a prototype's parameters. With `all`, constants are also spoiled in each of 18 bits.
 """
 import itertools
 import os
@@ -74,7 +74,8 @@ def spoiled_lists(parameters):
         if ti == tj:
             yield f"{ni} <-> {nj}", [ti + nj if k == i else tj + ni if k == j else p for k, p in enumerate(parameters)]
     for i in range(n - 1):
-        yield f"parameters {i}, {i + 1} exchanged", parameters[:i] + [parameters[i + 1], parameters[i]] + parameters[i + 2 :]
+        exchanged = parameters[:i] + [parameters[i + 1], parameters[i]] + parameters[i + 2 :]
+        yield f"parameters {i}, {i + 1} exchanged", exchanged
     for i in range(n):
         yield f"{parts[i][1]} dropped", parameters[:i] + parameters[i + 1 :]
     for i, (t, name) in enumerate(parts):

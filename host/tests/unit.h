@@ -1,6 +1,6 @@
 /*
- * One unit and all that a host keeps for it, the library's calls as values, and what every call promises: nothing outside the handed
- * buffers changes, a refused call changes nothing, and a step is undone and done again exactly.
+ * One unit and all that a host keeps for it, the library's calls as values, and what every call promises: nothing
+ * outside the handed buffers changes, a refused call changes nothing, and a step is undone and done again exactly.
  */
 #ifndef UNIT_H
 #define UNIT_H
@@ -8,9 +8,10 @@
 #include "expect.h"
 #include "ts11.h"
 
-/* ---- buffers -------------------------------------------------------------------------------------------------------- */
+/* ---- buffers ----------------------------------------------------------------------------------------------------- */
 
-enum { GUARD = 512, GUARD_BYTE = 0xA7 };
+/* More than a block, and odd: between guards no buffer is aligned. */
+enum { GUARD = 513, GUARD_BYTE = 0xA7 };
 
 /* Bytes with `guard` guard bytes before and after them; 0 guard bytes make an allocation of exactly the length. */
 struct buffer {
@@ -20,7 +21,8 @@ struct buffer {
 
 static inline struct buffer make_buffer(size_t length, size_t guard)
 {
-	uint8_t *room = need(calloc(1, length + guard ? length + 2 * guard : 1));
+	size_t whole = length + 2 * guard;
+	uint8_t *room = need(calloc(1, whole + (whole == 0)));
 	memset(room, GUARD_BYTE, guard);
 	memset(room + guard + length, GUARD_BYTE, guard);
 	return (struct buffer){ room + guard, length, guard };
@@ -56,7 +58,7 @@ struct unit {
 static inline struct unit make_unit(size_t memory, size_t reel, size_t journal, size_t guard)
 {
 	return (struct unit){ make_buffer(TS11_STATE_BYTES, guard), make_buffer(memory, guard), make_buffer(reel, guard),
-	                      make_buffer(journal, guard) };
+		                  make_buffer(journal, guard) };
 }
 
 static inline void free_unit(struct unit *u)
@@ -91,7 +93,7 @@ static inline size_t used_part(const struct unit *u)
 	return used < u->journal.length ? used : u->journal.length;
 }
 
-/* ---- the calls as values ---------------------------------------------------------------------------------------------- */
+/* ---- the calls as values ----------------------------------------------------------------------------------------- */
 
 enum kind { MOUNT, WRITE_TSDB, WRITE_TSSR, OPERATE, READ_REGISTER, HOST_STORE, ADVANCE, STEP_BACK };
 
@@ -154,10 +156,11 @@ static inline void expect_outs_apart(const struct outs *o, uint8_t fill)
 {
 	EXPECT("bytes beside the out-parameters are as before",
 	       all_are(o->first, 16, fill) && all_are(o->second, 16, fill) && all_are(o->third, 16, fill) &&
-	           all_are(o->fourth, 16, fill) && all_are(o->last, 16, fill), true);
+	           all_are(o->fourth, 16, fill) && all_are(o->last, 16, fill),
+	       true);
 }
 
-/* Makes the call with out-parameters that hold `fill` (0 or 1) in every byte; those that the call has not are given as 0. */
+/* Makes the call with `fill` (0 or 1) in every byte of the out-parameters; those that it has not are given as 0. */
 static inline struct result perform_over(struct unit *u, const struct call *c, uint8_t fill)
 {
 	struct outs o;
@@ -187,7 +190,7 @@ static inline bool is_step(const struct call *c, const struct result *r)
 	return c->kind != ADVANCE || r->stepped;
 }
 
-/* ---- pictures: what a unit's bytes were --------------------------------------------------------------------------------- */
+/* ---- pictures: what a unit's bytes were -------------------------------------------------------------------------- */
 
 struct copy {
 	uint8_t *bytes;
@@ -248,7 +251,7 @@ static inline void expect_same(const char *when, const struct unit *u, const str
 	expectations.when = NULL;
 }
 
-/* ---- what every call promises ------------------------------------------------------------------------------------------- */
+/* ---- what every call promises ------------------------------------------------------------------------------------ */
 
 static inline void expect_guarded(const struct unit *u)
 {

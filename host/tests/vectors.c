@@ -1,6 +1,7 @@
 /*
- * vectors SCRIPT EXPECTED: drives a script of set-up and call lines through the library and compares what comes out, line by line.
- * Every call is also held to what all calls promise (unit.h): guards, refusals that change nothing, each step undone and done again.
+ * vectors SCRIPT EXPECTED: drives a script of set-up and call lines through the library and compares what comes out,
+ * line by line. Every call is also held to what all calls promise (unit.h): guards stay whole, a refusal changes
+ * nothing, each step is undone and done again. Compile with -I host/include and link with libts11.a.
  */
 #include "expect.h"
 #include "tape.h"
@@ -9,7 +10,7 @@
 
 enum { LINE = 8192, WORDS = 5, BYTES_MAX = 131072 };
 
-/* ---- the script's state ----------------------------------------------------------------------------------------------- */
+/* ---- the script's state ------------------------------------------------------------------------------------------ */
 
 struct sizes {
 	size_t memory, reel, journal;
@@ -20,8 +21,8 @@ static struct {
 	size_t script_line, expected_line, cases, calls;
 	FILE *from, *with;
 	struct unit unit;
-	size_t cursor;      /* the block at which the next object is laid */
-	bool cut;           /* the calls are handed these lengths */
+	size_t cursor; /* the block at which the next object is laid */
+	bool cut;      /* the calls are handed these lengths */
 	struct sizes handed;
 	struct buffer host; /* a host store's bytes */
 } run;
@@ -32,7 +33,7 @@ static void give_up(const char *why)
 	exit(1);
 }
 
-/* ---- words of a line ---------------------------------------------------------------------------------------------------- */
+/* ---- words of a line --------------------------------------------------------------------------------------------- */
 
 static size_t number_in(const char *word)
 {
@@ -74,21 +75,36 @@ static size_t made_in(const char *length, const char *seed, uint8_t *bytes)
 	return n;
 }
 
-/* ---- the result line ------------------------------------------------------------------------------------------------------ */
+/* ---- the result line --------------------------------------------------------------------------------------------- */
 
 /* In the order of the result line; the last three are not printed. */
 static const struct {
 	const char *name;
 	size_t at;
 } fields[] = {
-	{ "pos", TS11_AT_POSITION },   { "end", TS11_AT_END },         { "ptr", TS11_AT_POINTER },
-	{ "class", TS11_AT_CLASS },    { "rmr", TS11_AT_RMR },         { "nxm", TS11_AT_NXM },
-	{ "nba", TS11_AT_NBA },        { "ssr", TS11_AT_SSR },         { "online", TS11_AT_ONLINE },
-	{ "lock", TS11_AT_LOCKED },    { "vck", TS11_AT_VCK },         { "unit_owns", TS11_AT_UNIT_OWNS },
-	{ "attn", TS11_AT_PENDING },   { "eai", TS11_AT_EAI },         { "ess", TS11_AT_ESS },
-	{ "enb", TS11_AT_ENB },        { "msgaddr", TS11_AT_MESSAGE }, { "msglen", TS11_AT_MESSAGE_LENGTH },
-	{ "release_ie", TS11_AT_RELEASE_IE }, { "used", TS11_AT_USED },
-	{ "memlen", TS11_AT_MEMORY },  { "reelblocks", TS11_AT_BLOCKS }, { "jrnllen", TS11_AT_JOURNAL },
+	{ "pos", TS11_AT_POSITION },
+	{ "end", TS11_AT_END },
+	{ "ptr", TS11_AT_POINTER },
+	{ "class", TS11_AT_CLASS },
+	{ "rmr", TS11_AT_RMR },
+	{ "nxm", TS11_AT_NXM },
+	{ "nba", TS11_AT_NBA },
+	{ "ssr", TS11_AT_SSR },
+	{ "online", TS11_AT_ONLINE },
+	{ "lock", TS11_AT_LOCKED },
+	{ "vck", TS11_AT_VCK },
+	{ "unit_owns", TS11_AT_UNIT_OWNS },
+	{ "attn", TS11_AT_PENDING },
+	{ "eai", TS11_AT_EAI },
+	{ "ess", TS11_AT_ESS },
+	{ "enb", TS11_AT_ENB },
+	{ "msgaddr", TS11_AT_MESSAGE },
+	{ "msglen", TS11_AT_MESSAGE_LENGTH },
+	{ "release_ie", TS11_AT_RELEASE_IE },
+	{ "used", TS11_AT_USED },
+	{ "memlen", TS11_AT_MEMORY },
+	{ "reelblocks", TS11_AT_BLOCKS },
+	{ "jrnllen", TS11_AT_JOURNAL },
 };
 enum { FIELDS = sizeof fields / sizeof fields[0], PRINTED = 20 };
 
@@ -178,7 +194,7 @@ static void compare_line(const char *got)
 		printf("\n\tgot    %s\n\twanted %s\n", got, there ? wanted : "(no more lines)");
 }
 
-/* ---- a call line ----------------------------------------------------------------------------------------------------------- */
+/* ---- a call line ------------------------------------------------------------------------------------------------- */
 
 static struct buffer resized(const struct buffer *b, size_t length)
 {
@@ -198,7 +214,7 @@ static struct result checked_cut(const struct call *c)
 {
 	struct unit *u = &run.unit;
 	struct unit cut = { u->state, resized(&u->memory, run.handed.memory), resized(&u->reel, run.handed.reel),
-	                    resized(&u->journal, run.handed.journal) };
+		                resized(&u->journal, run.handed.journal) };
 	struct result r = checked(&cut, c);
 	take_back(&u->memory, &cut.memory);
 	take_back(&u->reel, &cut.reel);
@@ -251,8 +267,10 @@ static void call_op(char **w)
 	static const struct {
 		const char *name;
 		bool which, on;
-	} acts[] = { { "on", TS11_SWITCH_ONLINE, true }, { "off", TS11_SWITCH_ONLINE, false },
-	             { "lock", TS11_SWITCH_WRITE_LOCK, true }, { "unlock", TS11_SWITCH_WRITE_LOCK, false } };
+	} acts[] = { { "on", TS11_SWITCH_ONLINE, true },
+		         { "off", TS11_SWITCH_ONLINE, false },
+		         { "lock", TS11_SWITCH_WRITE_LOCK, true },
+		         { "unlock", TS11_SWITCH_WRITE_LOCK, false } };
 	for (int k = 0; k < 4; k++)
 		if (w[1] && strcmp(w[1], acts[k].name) == 0) {
 			make_call(&(struct call){ .kind = OPERATE, .which = acts[k].which, .on = acts[k].on });
@@ -266,7 +284,8 @@ static void call_store(const char *address, const uint8_t *bytes, size_t length)
 {
 	run.host = make_buffer(length, GUARD);
 	memcpy(run.host.at, bytes, length);
-	make_call(&(struct call){ .kind = HOST_STORE, .address = number_in(address), .bytes = run.host.at, .length = length });
+	make_call(
+		&(struct call){ .kind = HOST_STORE, .address = number_in(address), .bytes = run.host.at, .length = length });
 	EXPECT_BYTES("the host store's own bytes", run.host.at, bytes, length);
 	EXPECT("bytes beside the host store's are as before", guarded(&run.host), true);
 	free_buffer(&run.host);
@@ -296,7 +315,7 @@ static void call_back(char **w)
 	make_call(&(struct call){ .kind = STEP_BACK });
 }
 
-/* ---- set-up lines ------------------------------------------------------------------------------------------------------------ */
+/* ---- set-up lines ------------------------------------------------------------------------------------------------ */
 
 static void set_up_sizes(char **w)
 {
@@ -399,18 +418,33 @@ static void start_case(char **w)
 	compare_line(line);
 }
 
-/* ---- the lines in turn --------------------------------------------------------------------------------------------------------- */
+/* ---- the lines in turn ------------------------------------------------------------------------------------------- */
 
 static const struct {
 	const char *name;
 	void (*carry_out)(char **words);
 } lines[] = {
-	{ "case", start_case },      { "sizes", set_up_sizes },       { "lens", set_up_lens },     { "set", set_up_field },
-	{ "poke", set_up_poke },     { "word", set_up_word },         { "pokereel", set_up_pokereel },
-	{ "fixsum", set_up_fixsum }, { "R", set_up_record },          { "RN", set_up_record_made },
-	{ "M", set_up_mark },        { "G", set_up_gap },             { "mount", call_mount },     { "tsdb", call_tsdb },
-	{ "tssr", call_tssr },       { "reg", call_reg },             { "op", call_op },           { "host", call_host },
-	{ "hostn", call_hostn },     { "adv", call_adv },             { "back", call_back },
+	{ "case", start_case },
+	{ "sizes", set_up_sizes },
+	{ "lens", set_up_lens },
+	{ "set", set_up_field },
+	{ "poke", set_up_poke },
+	{ "word", set_up_word },
+	{ "pokereel", set_up_pokereel },
+	{ "fixsum", set_up_fixsum },
+	{ "R", set_up_record },
+	{ "RN", set_up_record_made },
+	{ "M", set_up_mark },
+	{ "G", set_up_gap },
+	{ "mount", call_mount },
+	{ "tsdb", call_tsdb },
+	{ "tssr", call_tssr },
+	{ "reg", call_reg },
+	{ "op", call_op },
+	{ "host", call_host },
+	{ "hostn", call_hostn },
+	{ "adv", call_adv },
+	{ "back", call_back },
 };
 
 static void carry_out(char **w)
