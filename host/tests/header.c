@@ -221,7 +221,7 @@ static void test_other_answers(void)
 {
 	mounted();
 	EXPECT("step back with no entry", step_back(&u).answer, TS11_NO_ENTRY);
-	EXPECT("a store past memory", host_store(&u, MEMORY_BYTES, u.memory.at, 1).answer, TS11_BAD_STORE);
+	EXPECT("a store past memory", host_store(&u, MEMORY_BYTES, (const uint8_t *)"A", 1).answer, TS11_BAD_STORE);
 	EXPECT("a step", write_tsdb(&u, 0).answer, TS11_DONE);
 	memset(u.journal.at, 0xFF, TS11_ENTRY_HEAD);
 	EXPECT("an entry that does not fit", step_back(&u).answer, TS11_BAD_ENTRY);

@@ -416,6 +416,39 @@ static void test_no_entries(void)
 	context("");
 }
 
+/* Steps back over an entry with one byte damaged: 0 with a state that 1 accepts, or 8. Gives whether it was 8. */
+static bool damaged_refused(struct unit *u, size_t at, uint8_t damage)
+{
+	u->journal.at[at] ^= damage;
+	ts11_answer answer = step_back(u).answer;
+	EXPECT("0 or 8", answer == TS11_DONE || answer == TS11_BAD_ENTRY, true);
+	EXPECT("the state then", read_register(u, TS11_REGISTER_TSSR).answer, TS11_DONE);
+	return answer == TS11_BAD_ENTRY;
+}
+
+/* An entry with memory and reel bytes, each of its bytes damaged in turn; guards stand around all buffers. */
+static void test_damaged_entry(void)
+{
+	struct unit u = make_unit(SMALL_JOURNAL, SMALL_REEL, 4 * SMALL_JOURNAL, GUARD);
+	struct picture whole = { 0 };
+	size_t refused = 0;
+	EXPECT("the mount", mount(&u, 0, true, false).answer, TS11_DONE);
+	characteristics(&u, TS11_CVC, MESSAGE, TS11_MESSAGE_BYTES, 0);
+	size_t entry = command(&u, TS11_ERASE | TS11_ACK, 0, 0).entry;
+	EXPECT("the entry", entry, TS11_ENTRY_HEAD + TS11_MESSAGE_BYTES + TS11_BLOCK);
+	take_picture(&whole, &u);
+	for (size_t k = 0; k < 2 * entry; k++) {
+		context("byte %zu of an entry damaged", k / 2);
+		refused += damaged_refused(&u, used(&u) - entry + k / 2, k % 2 ? 0xFF : (uint8_t)(1 << k / 2 % 8));
+		put_back(&u, &whole);
+	}
+	context("");
+	EXPECT("some are refused, not all", refused > 0 && refused < 2 * entry, true);
+	EXPECT("the entry as it was", step_back(&u).answer, TS11_DONE);
+	free_picture(&whole);
+	free_unit(&u);
+}
+
 /* With length 0 any address will do: nothing is read or written there. */
 static void test_empty_buffers(void)
 {
@@ -931,6 +964,7 @@ int main(void)
 	test_host_stores();
 	test_small_host_stores();
 	test_no_entries();
+	test_damaged_entry();
 	test_empty_buffers();
 	test_least_memory();
 	test_memory_ends();

@@ -231,6 +231,15 @@ static inline void take_picture(struct picture *p, const struct unit *u)
 	take_copy(&p->used, u->journal.at, used_part(u));
 }
 
+/* The unit as it was when the picture was taken. */
+static inline void put_back(struct unit *u, const struct picture *p)
+{
+	memcpy(u->state.at, p->state.bytes, p->state.length);
+	memcpy(u->memory.at, p->memory.bytes, p->memory.length);
+	memcpy(u->reel.at, p->reel.bytes, p->reel.length);
+	memcpy(u->journal.at, p->used.bytes, p->used.length);
+}
+
 static inline void free_picture(struct picture *p)
 {
 	free(p->state.bytes);
