@@ -761,9 +761,12 @@ static void test_known_commands(void)
 	EXPECT("known commands", found, COUNT(headers));
 }
 
+/* The data buffer before a command. */
+#define UNTOUCHED "........."
+
 /* All that tells one command from another. */
 struct effect {
-	uint32_t position, end, online, unit_owns, message;
+	uint32_t position, end, online, unit_owns;
 	unsigned class;
 	bool sent;
 	uint16_t residual, xst0, xst3;
@@ -775,7 +778,7 @@ struct effect {
 static struct effect effect_of(uint16_t header, size_t pointer, uint16_t count)
 {
 	ready(0, HERE);
-	memset(u.memory.at + DATA, '.', 9);
+	memcpy(u.memory.at + DATA, UNTOUCHED, 9);
 	struct ending e = command(&u, header | TS11_ACK, pointer, count);
 	struct effect f;
 	memset(&f, 0, sizeof f);
@@ -783,7 +786,6 @@ static struct effect effect_of(uint16_t header, size_t pointer, uint16_t count)
 	f.end = number(&u, TS11_AT_END);
 	f.online = number(&u, TS11_AT_ONLINE);
 	f.unit_owns = number(&u, TS11_AT_UNIT_OWNS);
-	f.message = number(&u, TS11_AT_MESSAGE);
 	f.class = TS11_CLASS(e.tssr);
 	f.sent = e.sent;
 	f.residual = e.sent ? e.residual : 0;
@@ -802,7 +804,6 @@ static void expect_effect(const struct effect *got, const struct effect *wanted)
 	EXPECT("recorded end", got->end, wanted->end);
 	EXPECT("on line", got->online, wanted->online);
 	EXPECT("unit owns", got->unit_owns, wanted->unit_owns);
-	EXPECT("message address", got->message, wanted->message);
 	EXPECT("class", got->class, wanted->class);
 	EXPECT("sent", got->sent, wanted->sent);
 	EXPECT("residual", got->residual, wanted->residual);
@@ -814,17 +815,10 @@ static void expect_effect(const struct effect *got, const struct effect *wanted)
 	EXPECT_BYTES("data", (const uint8_t *)got->data, (const uint8_t *)wanted->data, 9);
 }
 
-enum {
-	R = TS11_KIND_RECORD,
-	M = TS11_KIND_MARK,
-	G = TS11_KIND_GAP,
-	STILL = XST0_READY,
-	MOVED = XST0_READY | TS11_XST0_MOT,
-	MARKED = MOVED | TS11_XST0_TMK,
-	ATBOT = MOVED | TS11_XST0_BOT,
-	REV = TS11_XST3_REV,
-	SENT = TS11_ENTRY_HEAD + TS11_MESSAGE_BYTES
-};
+enum { R = TS11_KIND_RECORD, M = TS11_KIND_MARK, G = TS11_KIND_GAP };
+enum { STILL = XST0_READY, MOVED = STILL | TS11_XST0_MOT, MARKED = MOVED | TS11_XST0_TMK };
+enum { RLS = TS11_XST0_RLS, BOT = TS11_XST0_BOT, ONL = TS11_XST0_ONL, REV = TS11_XST3_REV };
+enum { HEAD = TS11_ENTRY_HEAD, SENT = HEAD + TS11_MESSAGE_BYTES };
 
 /* From block 3, with the record "ABCDEFG" behind and "abcdefghi" ahead. */
 static const struct {
@@ -832,59 +826,27 @@ static const struct {
 	uint16_t header;
 	size_t pointer;
 	uint16_t count;
-	struct effect effect; /* position end online owns message class sent residual xst0 xst3 entry kinds data */
+	struct effect effect; /* position end online owns class sent residual xst0 xst3 entry kinds data */
 } commands[] = {
-	{ "read next", TS11_READ_NEXT, DATA, 9, { 4, 9, 1, 0, MESSAGE, 0, 1, 0, MOVED, 0, SENT + 9, R, R, "abcdefghi" } },
-	{ "read previous",
-	  TS11_READ_PREVIOUS,
-	  DATA,
-	  9,
-	  { 2, 9, 1, 0, MESSAGE, 2, 1, 2, MOVED | TS11_XST0_RLS, REV, SENT + 7, R, R, "..ABCDEFG" } },
-	{ "reread previous",
-	  TS11_REREAD_PREVIOUS,
-	  DATA,
-	  9,
-	  { 3, 9, 1, 0, MESSAGE, 2, 1, 2, STILL | TS11_XST0_RLS, 0, SENT + 7, R, R, "ABCDEFG.." } },
-	{ "reread next",
-	  TS11_REREAD_NEXT,
-	  DATA,
-	  9,
-	  { 3, 9, 1, 0, MESSAGE, 0, 1, 0, STILL, REV, SENT + 9, R, R, "abcdefghi" } },
-	{ "write", TS11_WRITE, DATA, 5, { 4, 4, 1, 0, MESSAGE, 0, 1, 0, MOVED, 0, SENT + 512, R, R, "........." } },
-	{ "write retry",
-	  TS11_WRITE_RETRY,
-	  DATA,
-	  5,
-	  { 4, 4, 1, 0, MESSAGE, 0, 1, 0, MOVED, 0, SENT + 1024, G, R, "........." } },
-	{ "space records", TS11_SPACE_RECORDS, 1, 0, { 4, 9, 1, 0, MESSAGE, 0, 1, 0, MOVED, 0, SENT, R, R, "........." } },
-	{ "space records reverse",
-	  TS11_SPACE_RECORDS_REVERSE,
-	  1,
-	  0,
-	  { 2, 9, 1, 0, MESSAGE, 0, 1, 0, MOVED, REV, SENT, R, R, "........." } },
-	{ "skip marks", TS11_SKIP_MARKS, 1, 0, { 6, 9, 1, 0, MESSAGE, 0, 1, 0, MARKED, 0, SENT, R, R, "........." } },
-	{ "skip marks reverse",
-	  TS11_SKIP_MARKS_REVERSE,
-	  1,
-	  0,
-	  { 1, 9, 1, 0, MESSAGE, 0, 1, 0, MARKED, REV, SENT, R, R, "........." } },
-	{ "rewind", TS11_REWIND, 1, 0, { 0, 9, 1, 0, MESSAGE, 0, 1, 0, ATBOT, 0, SENT, R, R, "........." } },
-	{ "write mark", TS11_WRITE_MARK, 0, 0, { 4, 4, 1, 0, MESSAGE, 0, 1, 0, MARKED, 0, SENT + 512, R, M, "........." } },
-	{ "erase", TS11_ERASE, 0, 0, { 4, 4, 1, 0, MESSAGE, 0, 1, 0, MOVED, 0, SENT + 512, R, G, "........." } },
-	{ "write mark retry",
-	  TS11_WRITE_MARK_RETRY,
-	  0,
-	  0,
-	  { 4, 4, 1, 0, MESSAGE, 0, 1, 0, MARKED, 0, SENT + 1024, G, M, "........." } },
-	{ "release", TS11_RELEASE, 0, 0, { 3, 9, 1, 1, MESSAGE, 0, 0, 0, 0, 0, TS11_ENTRY_HEAD, R, R, "........." } },
-	{ "unload",
-	  TS11_UNLOAD,
-	  0,
-	  0,
-	  { 0, 9, 0, 0, MESSAGE, 0, 1, 0, ATBOT & ~TS11_XST0_ONL, 0, SENT, R, R, "........." } },
-	{ "clean", TS11_CLEAN, 0, 0, { 3, 9, 1, 0, MESSAGE, 0, 1, 0, STILL, 0, SENT, R, R, "........." } },
-	{ "initialize", TS11_INITIALIZE, 0, 0, { 3, 9, 1, 0, MESSAGE, 0, 1, 0, STILL, 0, SENT, R, R, "........." } },
-	{ "get status", TS11_GET_STATUS, 0, 0, { 3, 9, 1, 0, MESSAGE, 0, 1, 0, STILL, 0, SENT, R, R, "........." } },
+	{ "read next", TS11_READ_NEXT, DATA, 9, { 4, 9, 1, 0, 0, 1, 0, MOVED, 0, SENT + 9, R, R, "abcdefghi" } },
+	{ "previous", TS11_READ_PREVIOUS, DATA, 9, { 2, 9, 1, 0, 2, 1, 2, MOVED | RLS, REV, SENT + 7, R, R, "..ABCDEFG" } },
+	{ "reread", TS11_REREAD_PREVIOUS, DATA, 9, { 3, 9, 1, 0, 2, 1, 2, STILL | RLS, 0, SENT + 7, R, R, "ABCDEFG.." } },
+	{ "reread next", TS11_REREAD_NEXT, DATA, 9, { 3, 9, 1, 0, 0, 1, 0, STILL, REV, SENT + 9, R, R, "abcdefghi" } },
+	{ "write", TS11_WRITE, DATA, 5, { 4, 4, 1, 0, 0, 1, 0, MOVED, 0, SENT + 512, R, R, UNTOUCHED } },
+	{ "write retry", TS11_WRITE_RETRY, DATA, 5, { 4, 4, 1, 0, 0, 1, 0, MOVED, 0, SENT + 1024, G, R, UNTOUCHED } },
+	{ "space", TS11_SPACE_RECORDS, 1, 0, { 4, 9, 1, 0, 0, 1, 0, MOVED, 0, SENT, R, R, UNTOUCHED } },
+	{ "space reverse", TS11_SPACE_RECORDS_REVERSE, 1, 0, { 2, 9, 1, 0, 0, 1, 0, MOVED, REV, SENT, R, R, UNTOUCHED } },
+	{ "skip", TS11_SKIP_MARKS, 1, 0, { 6, 9, 1, 0, 0, 1, 0, MARKED, 0, SENT, R, R, UNTOUCHED } },
+	{ "skip reverse", TS11_SKIP_MARKS_REVERSE, 1, 0, { 1, 9, 1, 0, 0, 1, 0, MARKED, REV, SENT, R, R, UNTOUCHED } },
+	{ "rewind", TS11_REWIND, 1, 0, { 0, 9, 1, 0, 0, 1, 0, MOVED | BOT, 0, SENT, R, R, UNTOUCHED } },
+	{ "mark", TS11_WRITE_MARK, 0, 0, { 4, 4, 1, 0, 0, 1, 0, MARKED, 0, SENT + 512, R, M, UNTOUCHED } },
+	{ "erase", TS11_ERASE, 0, 0, { 4, 4, 1, 0, 0, 1, 0, MOVED, 0, SENT + 512, R, G, UNTOUCHED } },
+	{ "mark retry", TS11_WRITE_MARK_RETRY, 0, 0, { 4, 4, 1, 0, 0, 1, 0, MARKED, 0, SENT + 1024, G, M, UNTOUCHED } },
+	{ "release", TS11_RELEASE, 0, 0, { 3, 9, 1, 1, 0, 0, 0, 0, 0, HEAD, R, R, UNTOUCHED } },
+	{ "unload", TS11_UNLOAD, 0, 0, { 0, 9, 0, 0, 0, 1, 0, (MOVED | BOT) & ~ONL, 0, SENT, R, R, UNTOUCHED } },
+	{ "clean", TS11_CLEAN, 0, 0, { 3, 9, 1, 0, 0, 1, 0, STILL, 0, SENT, R, R, UNTOUCHED } },
+	{ "initialize", TS11_INITIALIZE, 0, 0, { 3, 9, 1, 0, 0, 1, 0, STILL, 0, SENT, R, R, UNTOUCHED } },
+	{ "get status", TS11_GET_STATUS, 0, 0, { 3, 9, 1, 0, 0, 1, 0, STILL, 0, SENT, R, R, UNTOUCHED } },
 };
 enum { WITHOUT_ACTION = 3 }; /* the last of the table: nothing tells clean, initialize and get status apart */
 
