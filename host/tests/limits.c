@@ -1,0 +1,978 @@
+/*
+ * limits: lengths and numbers at every limit and just outside it, and one session with memory, reel and journal of full
+ * size. Every buffer is an allocation of exactly its length. A refused call must have changed nothing.
+ * Compile with -I host/include and link with libts11.a.
+ */
+#include "driver.h"
+
+#define COUNT(table) (sizeof(table) / sizeof(table)[0])
+#define ROWS(k, table) for (size_t k = 0; k < COUNT(table); k++)
+
+#define TWO_32 ((size_t)1 << 32)
+#define REEL_MAX ((size_t)TS11_REEL_BLOCKS_MAX * TS11_BLOCK)
+
+enum { READY = TS11_XST0_ONL | TS11_XST0_PED };
+
+/* The bytes of the host's stores. */
+static uint8_t host[TS11_HOST_STORE_MAX + 1];
+
+/* ---- mount ------------------------------------------------------------------------------------------------------- */
+
+/* What a mount is handed besides the reel's bytes. */
+struct lengths {
+	size_t memory, reel, journal, recorded_end;
+};
+
+/* Fills the reel with gaps, the shortest objects. */
+static void lay_gaps(uint8_t *reel, size_t blocks)
+{
+	for (size_t at = 0; at < blocks;)
+		at = lay_gap(reel, at);
+}
+
+static void expect_mounted(const ts11_state *s, const struct lengths *l)
+{
+	EXPECT("position", ts11_state_number(s, TS11_AT_POSITION), 0);
+	EXPECT("recorded end", ts11_state_number(s, TS11_AT_END), l->recorded_end);
+	EXPECT("memory", ts11_state_number(s, TS11_AT_MEMORY), l->memory);
+	EXPECT("blocks", ts11_state_number(s, TS11_AT_BLOCKS), l->reel / TS11_BLOCK);
+	EXPECT("journal", ts11_state_number(s, TS11_AT_JOURNAL), l->journal);
+	EXPECT("used journal", ts11_state_number(s, TS11_AT_USED), 0);
+}
+
+/* Mounts over a state of any bytes, with a reel of exactly its length; that many whole gaps stand on it. */
+static void expect_mount(const struct lengths *l, size_t gaps, ts11_answer wanted)
+{
+	context("mount: memory %zu, reel %zu, journal %zu, recorded end %zu", l->memory, l->reel, l->journal,
+	        l->recorded_end);
+	struct unit u = make_unit(0, l->reel, 0, 0);
+	struct copy state = { 0 }, reel = { 0 };
+	size_t block = 1;
+	memset(u.state.at, 0xD5, u.state.length);
+	lay_gaps(u.reel.at, gaps);
+	take_copy(&state, u.state.at, u.state.length);
+	take_copy(&reel, u.reel.at, u.reel.length);
+	EXPECT("answer",
+	       ts11_mount(state_of(&u), l->memory, u.reel.at, l->reel, l->journal, l->recorded_end, true, false, &block),
+	       wanted);
+	EXPECT("*block", block, 0);
+	EXPECT_BYTES("the reel", u.reel.at, reel.bytes, reel.length);
+	if (wanted == TS11_DONE)
+		expect_mounted(state_of(&u), l);
+	else
+		EXPECT_BYTES("refused: the state", u.state.at, state.bytes, state.length);
+	free(state.bytes);
+	free(reel.bytes);
+	free_unit(&u);
+	context("");
+}
+
+static void test_mount_memory(void)
+{
+	static const struct {
+		size_t memory;
+		ts11_answer answer;
+	} rows[] = {
+		{ 0, TS11_BAD_MEMORY },
+		{ 1, TS11_BAD_MEMORY },
+		{ 2, TS11_DONE },
+		{ 3, TS11_BAD_MEMORY },
+		{ 262142, TS11_DONE },
+		{ 262143, TS11_BAD_MEMORY },
+		{ TS11_MEMORY_MAX, TS11_DONE },
+		{ TS11_MEMORY_MAX + 1, TS11_BAD_MEMORY },
+		{ TS11_MEMORY_MAX + 2, TS11_BAD_MEMORY },
+		{ TWO_32, TS11_BAD_MEMORY },
+		{ TWO_32 + 2, TS11_BAD_MEMORY },
+		{ TWO_32 + TS11_MEMORY_MAX, TS11_BAD_MEMORY },
+		{ SIZE_MAX - 1, TS11_BAD_MEMORY },
+		{ SIZE_MAX, TS11_BAD_MEMORY },
+	};
+	ROWS(k, rows)
+		expect_mount(&(struct lengths){ rows[k].memory, TS11_BLOCK, 0, 0 }, 0, rows[k].answer);
+}
+
+static void test_mount_reel(void)
+{
+	static const struct {
+		size_t reel;
+		ts11_answer answer;
+	} rows[] = {
+		{ 0, TS11_BAD_REEL },
+		{ 511, TS11_BAD_REEL },
+		{ 512, TS11_DONE },
+		{ 513, TS11_BAD_REEL },
+		{ 1023, TS11_BAD_REEL },
+		{ 1024, TS11_DONE },
+		{ REEL_MAX - 1, TS11_BAD_REEL },
+		{ REEL_MAX, TS11_DONE },
+		{ REEL_MAX + 1, TS11_BAD_REEL },
+		{ REEL_MAX + TS11_BLOCK, TS11_BAD_REEL },
+	};
+	ROWS(k, rows)
+		expect_mount(&(struct lengths){ 2, rows[k].reel, 0, 0 }, 0, rows[k].answer);
+}
+
+static void test_mount_journal(void)
+{
+	static const struct {
+		size_t journal;
+		ts11_answer answer;
+	} rows[] = {
+		{ 0, TS11_DONE },
+		{ 1, TS11_DONE },
+		{ TS11_JOURNAL_MAX - 1, TS11_DONE },
+		{ TS11_JOURNAL_MAX, TS11_DONE },
+		{ TS11_JOURNAL_MAX + 1, TS11_BAD_JOURNAL },
+		{ TWO_32, TS11_BAD_JOURNAL },
+		{ TWO_32 + 1, TS11_BAD_JOURNAL },
+		{ SIZE_MAX, TS11_BAD_JOURNAL },
+	};
+	ROWS(k, rows)
+		expect_mount(&(struct lengths){ 2, TS11_BLOCK, rows[k].journal, 0 }, 0, rows[k].answer);
+}
+
+/* A reel of three gaps; ends whose bytes, or whose low 32 bits, would be small are no smaller for that. */
+static void test_mount_recorded_end(void)
+{
+	static const struct {
+		size_t end;
+		ts11_answer answer;
+	} rows[] = {
+		{ 0, TS11_DONE },
+		{ 2, TS11_DONE },
+		{ 3, TS11_DONE },
+		{ 4, TS11_BAD_REEL },
+		{ TWO_32, TS11_BAD_REEL },
+		{ TWO_32 + 3, TS11_BAD_REEL },
+		{ SIZE_MAX / TS11_BLOCK + 1, TS11_BAD_REEL },
+		{ SIZE_MAX / TS11_BLOCK + 3, TS11_BAD_REEL },
+		{ SIZE_MAX - 1, TS11_BAD_REEL },
+		{ SIZE_MAX, TS11_BAD_REEL },
+	};
+	ROWS(k, rows)
+		expect_mount(&(struct lengths){ 2, 3 * TS11_BLOCK, 0, rows[k].end }, 3, rows[k].answer);
+}
+
+/* Of several refusals the least is given; a block at fault comes last. */
+static void test_mount_order(void)
+{
+	static const struct {
+		struct lengths lengths;
+		ts11_answer answer;
+	} rows[] = {
+		{ { 1, 511, TS11_JOURNAL_MAX + 1, SIZE_MAX }, TS11_BAD_MEMORY },
+		{ { 2, 511, TS11_JOURNAL_MAX + 1, SIZE_MAX }, TS11_BAD_REEL },
+		{ { 2, 512, TS11_JOURNAL_MAX + 1, 2 }, TS11_BAD_REEL },
+		{ { 2, 512, TS11_JOURNAL_MAX + 1, 1 }, TS11_BAD_JOURNAL },
+		{ { 2, 512, TS11_JOURNAL_MAX, 1 }, TS11_BAD_BLOCK },
+	};
+	ROWS(k, rows)
+		expect_mount(&rows[k].lengths, 0, rows[k].answer);
+}
+
+/* ---- lengths other than the mount's ------------------------------------------------------------------------------ */
+
+enum { SMALL_MEMORY = 64, SMALL_REEL = 3 * TS11_BLOCK, SMALL_JOURNAL = 1024 };
+
+/* The seven calls that a mounted unit takes, each answered 0 when all is right. */
+static const struct call calls[] = {
+	{ .kind = WRITE_TSDB, .word = 8 },
+	{ .kind = WRITE_TSSR, .word = 1 },
+	{ .kind = OPERATE, .which = TS11_SWITCH_ONLINE, .on = false },
+	{ .kind = HOST_STORE, .address = 3, .bytes = host, .length = 5 },
+	{ .kind = ADVANCE },
+	{ .kind = STEP_BACK },
+	{ .kind = READ_REGISTER, .which = TS11_REGISTER_TSSR },
+};
+enum { BUFFERED = COUNT(calls) - 1 }; /* all but the last are handed memory, reel and journal */
+
+/* A small unit with one entry in its journal. */
+static struct unit small_unit(void)
+{
+	struct unit u = make_unit(SMALL_MEMORY, SMALL_REEL, SMALL_JOURNAL, 0);
+	lay_gaps(u.reel.at, 3);
+	EXPECT("the mount", mount(&u, 3, true, false).answer, TS11_DONE);
+	EXPECT("a step", operate(&u, TS11_SWITCH_WRITE_LOCK, true).answer, TS11_DONE);
+	return u;
+}
+
+static struct buffer exact(const struct buffer *b, long more)
+{
+	struct buffer other = make_buffer(b->length + (size_t)more, 0);
+	memcpy(other.at, b->at, other.length < b->length ? other.length : b->length);
+	return other;
+}
+
+/* The call is handed buffers whose lengths differ by so much, each allocated anew. */
+static ts11_answer answer_with(const struct call *c, bool bad_state, long memory, long reel, long journal)
+{
+	struct unit u = small_unit();
+	if (bad_state)
+		set_number(&u, TS11_AT_CLASS, 7);
+	struct unit v = { exact(&u.state, 0), exact(&u.memory, memory), exact(&u.reel, reel), exact(&u.journal, journal) };
+	ts11_answer answer = checked(&v, c).answer;
+	free_unit(&u);
+	free_unit(&v);
+	return answer;
+}
+
+static ts11_answer least_refusal(bool bad_state, long memory, long reel, long journal)
+{
+	if (bad_state)
+		return TS11_BAD_STATE;
+	if (memory)
+		return TS11_BAD_MEMORY;
+	if (reel)
+		return TS11_BAD_REEL;
+	return journal ? TS11_BAD_JOURNAL : TS11_DONE;
+}
+
+static void expect_answer_with(const struct call *c, bool bad_state, long memory, long reel, long journal)
+{
+	context("call %d: state %s, memory %+ld, reel %+ld, journal %+ld", (int)c->kind, bad_state ? "wrong" : "right",
+	        memory, reel, journal);
+	EXPECT("answer", answer_with(c, bad_state, memory, reel, journal), least_refusal(bad_state, memory, reel, journal));
+}
+
+/* 1 before 2 before 3 before 4, whatever else is wrong. */
+static void test_other_lengths(void)
+{
+	static const long memories[] = { 0, -1, 1, -2, 2 }, reels[] = { 0, -1, 1, -TS11_BLOCK, TS11_BLOCK },
+					  journals[] = { 0, -1, 1 };
+	for (size_t c = 0; c < BUFFERED; c++)
+		ROWS(m, memories)
+			ROWS(r, reels)
+				ROWS(j, journals) {
+					expect_answer_with(&calls[c], false, memories[m], reels[r], journals[j]);
+					if (m < 2 && r < 2 && j < 2)
+						expect_answer_with(&calls[c], true, memories[m], reels[r], journals[j]);
+				}
+	context("");
+}
+
+/* ---- numbers of the state ---------------------------------------------------------------------------------------- */
+
+/* Made-up numbers at their limits and just outside them. */
+static const struct {
+	const char *name;
+	size_t at;
+	uint32_t value;
+	ts11_answer answer;
+} made_up[] = {
+	{ "position at the end", TS11_AT_POSITION, 3, TS11_DONE },
+	{ "position beyond the end", TS11_AT_POSITION, 4, TS11_BAD_STATE },
+	{ "huge position", TS11_AT_POSITION, UINT32_MAX, TS11_BAD_STATE },
+	{ "end at 0", TS11_AT_END, 0, TS11_DONE },
+	{ "end beyond capacity", TS11_AT_END, 4, TS11_BAD_STATE },
+	{ "huge end", TS11_AT_END, UINT32_MAX, TS11_BAD_STATE },
+	{ "pointer of 18 bits", TS11_AT_POINTER, 0x3FFFF, TS11_DONE },
+	{ "pointer of 19 bits", TS11_AT_POINTER, 0x40000, TS11_BAD_STATE },
+	{ "huge pointer", TS11_AT_POINTER, UINT32_MAX, TS11_BAD_STATE },
+	{ "class 6", TS11_AT_CLASS, 6, TS11_DONE },
+	{ "class 7", TS11_AT_CLASS, 7, TS11_BAD_STATE },
+	{ "no message buffer", TS11_AT_NBA, 0, TS11_BAD_STATE },
+	{ "message address while NBA", TS11_AT_MESSAGE, UINT32_MAX, TS11_DONE },
+	{ "message length while NBA", TS11_AT_MESSAGE_LENGTH, UINT32_MAX, TS11_DONE },
+	{ "memory of 0", TS11_AT_MEMORY, 0, TS11_BAD_STATE },
+	{ "odd memory", TS11_AT_MEMORY, SMALL_MEMORY + 1, TS11_BAD_STATE },
+	{ "memory beyond", TS11_AT_MEMORY, TS11_MEMORY_MAX + 2, TS11_BAD_STATE },
+	{ "no blocks", TS11_AT_BLOCKS, 0, TS11_BAD_STATE },
+	{ "blocks below the end", TS11_AT_BLOCKS, 2, TS11_BAD_STATE },
+	{ "blocks beyond", TS11_AT_BLOCKS, TS11_REEL_BLOCKS_MAX + 1, TS11_BAD_STATE },
+	{ "journal below the used", TS11_AT_JOURNAL, TS11_ENTRY_HEAD - 1, TS11_BAD_STATE },
+	{ "journal beyond", TS11_AT_JOURNAL, TS11_JOURNAL_MAX + 1, TS11_BAD_STATE },
+	{ "used beyond", TS11_AT_USED, SMALL_JOURNAL + 1, TS11_BAD_STATE },
+	{ "RMR of 2", TS11_AT_RMR, 2, TS11_BAD_STATE },
+	{ "on line of 256", TS11_AT_ONLINE, 256, TS11_BAD_STATE },
+	{ "first unused number", TS11_STATE_UNUSED, 1, TS11_BAD_STATE },
+	{ "last unused byte", TS11_STATE_BYTES - 4, 0x80000000, TS11_BAD_STATE },
+};
+
+static void test_made_up_states(void)
+{
+	ROWS(k, made_up)
+		ROWS(c, calls) {
+			context("made up: %s, call %d", made_up[k].name, (int)calls[c].kind);
+			struct unit u = small_unit();
+			set_number(&u, made_up[k].at, made_up[k].value);
+			EXPECT("answer", checked(&u, &calls[c]).answer, made_up[k].answer);
+			free_unit(&u);
+		}
+	context("");
+}
+
+/* With NBA clear, the message buffer must be even, hold a message and lie in memory. */
+static void test_made_up_message(void)
+{
+	static const struct {
+		uint32_t address, length;
+		ts11_answer answer;
+	} rows[] = {
+		{ 0, TS11_MESSAGE_BYTES, TS11_DONE },
+		{ 0, TS11_MESSAGE_BYTES - 1, TS11_BAD_STATE },
+		{ 1, TS11_MESSAGE_BYTES, TS11_BAD_STATE },
+		{ 0, SMALL_MEMORY, TS11_DONE },
+		{ 0, SMALL_MEMORY + 1, TS11_BAD_STATE },
+		{ SMALL_MEMORY - TS11_MESSAGE_BYTES, TS11_MESSAGE_BYTES, TS11_DONE },
+		{ SMALL_MEMORY - TS11_MESSAGE_BYTES, TS11_MESSAGE_BYTES + 1, TS11_BAD_STATE },
+		{ SMALL_MEMORY - TS11_MESSAGE_BYTES + 2, TS11_MESSAGE_BYTES, TS11_BAD_STATE },
+		{ UINT32_MAX - 1, TS11_MESSAGE_BYTES, TS11_BAD_STATE },
+		{ 2, UINT32_MAX, TS11_BAD_STATE },
+	};
+	ROWS(k, rows) {
+		context("made up: message buffer at %" PRIu32 " of %" PRIu32, rows[k].address, rows[k].length);
+		struct unit u = small_unit();
+		set_number(&u, TS11_AT_NBA, 0);
+		set_number(&u, TS11_AT_MESSAGE, rows[k].address);
+		set_number(&u, TS11_AT_MESSAGE_LENGTH, rows[k].length);
+		EXPECT("answer", write_tsdb(&u, 8).answer, rows[k].answer);
+		free_unit(&u);
+	}
+	context("");
+}
+
+/* ---- host stores ------------------------------------------------------------------------------------------------- */
+
+static void expect_store(struct unit *u, size_t address, size_t length, ts11_answer wanted)
+{
+	context("memory %zu: host store of %zu bytes at %zu", u->memory.length, length, address);
+	struct buffer bytes = make_buffer(length, 0);
+	make_bytes(bytes.at, length, (unsigned)address);
+	size_t before = used(u);
+	EXPECT("answer", host_store(u, address, bytes.at, length).answer, wanted);
+	EXPECT("entry", used(u) - before, wanted == TS11_DONE ? TS11_ENTRY_HEAD + length : 0);
+	if (wanted == TS11_DONE)
+		EXPECT_BYTES("memory there", u->memory.at + address, bytes.at, length);
+	free_buffer(&bytes);
+	context("");
+}
+
+static void test_host_stores(void)
+{
+	enum { END = TS11_MEMORY_MAX, MOST = TS11_HOST_STORE_MAX };
+	static const struct {
+		size_t address, length;
+		ts11_answer answer;
+	} rows[] = {
+		{ 0, 0, TS11_DONE },
+		{ 0, MOST, TS11_DONE },
+		{ 0, MOST + 1, TS11_BAD_STORE },
+		{ END - MOST - 1, MOST + 1, TS11_BAD_STORE },
+		{ END - MOST, MOST, TS11_DONE },
+		{ END - MOST + 1, MOST, TS11_BAD_STORE },
+		{ END - 1, 1, TS11_DONE },
+		{ END - 1, 2, TS11_BAD_STORE },
+		{ END, 0, TS11_DONE },
+		{ END, 1, TS11_BAD_STORE },
+		{ END + 1, 0, TS11_BAD_STORE },
+		{ TWO_32, 0, TS11_BAD_STORE },
+		{ TWO_32, 1, TS11_BAD_STORE },
+		{ SIZE_MAX, 0, TS11_BAD_STORE },
+		{ SIZE_MAX, 1, TS11_BAD_STORE },
+		{ SIZE_MAX - MOST + 1, MOST, TS11_BAD_STORE },
+		{ SIZE_MAX, MOST, TS11_BAD_STORE },
+	};
+	struct unit u = make_unit(END, TS11_BLOCK, TS11_JOURNAL_MAX / 16, 0);
+	EXPECT("the mount", mount(&u, 0, true, false).answer, TS11_DONE);
+	ROWS(k, rows)
+		expect_store(&u, rows[k].address, rows[k].length, rows[k].answer);
+	free_unit(&u);
+}
+
+/* Memory smaller than a store; 5 is given before 9. */
+static void test_small_host_stores(void)
+{
+	struct unit u = small_unit();
+	expect_store(&u, 0, SMALL_MEMORY, TS11_DONE);
+	expect_store(&u, 0, SMALL_MEMORY + 1, TS11_BAD_STORE);
+	expect_store(&u, 1, SMALL_MEMORY, TS11_BAD_STORE);
+	set_number(&u, TS11_AT_USED, SMALL_JOURNAL);
+	expect_store(&u, SMALL_MEMORY, 1, TS11_BAD_STORE);
+	expect_store(&u, SMALL_MEMORY, 0, TS11_JOURNAL_FULL);
+	free_unit(&u);
+}
+
+/* A used journal that no entry ends: too short for one, or with a state that 1 refuses where the entry would stand. */
+static void test_no_entries(void)
+{
+	static const struct {
+		uint32_t used;
+		ts11_answer answer;
+	} rows[] = {
+		{ 0, TS11_NO_ENTRY },
+		{ 1, TS11_BAD_ENTRY },
+		{ TS11_ENTRY_HEAD - 1, TS11_BAD_ENTRY },
+		{ SMALL_JOURNAL - 1, TS11_BAD_ENTRY },
+		{ SMALL_JOURNAL, TS11_BAD_ENTRY },
+	};
+	ROWS(k, rows) {
+		context("made up: used journal of %" PRIu32, rows[k].used);
+		struct unit u = small_unit();
+		set_number(&u, TS11_AT_USED, rows[k].used);
+		EXPECT("step back", step_back(&u).answer, rows[k].answer);
+		free_unit(&u);
+	}
+	context("");
+}
+
+/* Steps back over an entry with one byte damaged: 0 with a state that 1 accepts, or 8. Gives whether it was 8. */
+static bool damaged_refused(struct unit *u, size_t at, uint8_t damage)
+{
+	u->journal.at[at] ^= damage;
+	ts11_answer answer = step_back(u).answer;
+	EXPECT("0 or 8", answer == TS11_DONE || answer == TS11_BAD_ENTRY, true);
+	EXPECT("the state then", read_register(u, TS11_REGISTER_TSSR).answer, TS11_DONE);
+	return answer == TS11_BAD_ENTRY;
+}
+
+/* An entry with memory and reel bytes, each of its bytes damaged in turn; guards stand around all buffers. */
+static void test_damaged_entry(void)
+{
+	struct unit u = make_unit(SMALL_JOURNAL, SMALL_REEL, 4 * SMALL_JOURNAL, GUARD);
+	struct picture whole = { 0 };
+	size_t refused = 0;
+	EXPECT("the mount", mount(&u, 0, true, false).answer, TS11_DONE);
+	characteristics(&u, TS11_CVC, MESSAGE, TS11_MESSAGE_BYTES, 0);
+	size_t entry = command(&u, TS11_ERASE | TS11_ACK, 0, 0).entry;
+	EXPECT("the entry", entry, TS11_ENTRY_HEAD + TS11_MESSAGE_BYTES + TS11_BLOCK);
+	take_picture(&whole, &u);
+	for (size_t k = 0; k < 2 * entry; k++) {
+		context("byte %zu of an entry damaged", k / 2);
+		refused += damaged_refused(&u, used(&u) - entry + k / 2, k % 2 ? 0xFF : (uint8_t)(1 << k / 2 % 8));
+		put_back(&u, &whole);
+	}
+	context("");
+	EXPECT("some are refused, not all", refused > 0 && refused < 2 * entry, true);
+	EXPECT("the entry as it was", step_back(&u).answer, TS11_DONE);
+	free_picture(&whole);
+	free_unit(&u);
+}
+
+/* With length 0 any address will do: nothing is read or written there. */
+static void test_empty_buffers(void)
+{
+	uint8_t *nowhere = (uint8_t *)1;
+	struct unit u = make_unit(2, TS11_BLOCK, SMALL_JOURNAL, 0);
+	EXPECT("the mount", mount(&u, 0, true, false).answer, TS11_DONE);
+	EXPECT("a store of no bytes", host_store(&u, 2, nowhere, 0).answer, TS11_DONE);
+	struct unit no_journal = { u.state, u.memory, u.reel, { nowhere, 0, 0 } };
+	EXPECT("a mount without a journal", mount(&no_journal, 0, true, false).answer, TS11_DONE);
+	EXPECT("a step", write_tsdb(&no_journal, 0).answer, TS11_JOURNAL_FULL);
+	EXPECT("a step back", step_back(&no_journal).answer, TS11_NO_ENTRY);
+	EXPECT("an idle advance", advance(&no_journal).answer, TS11_DONE);
+	struct unit no_memory = { u.state, { nowhere, 0, 0 }, u.reel, { nowhere, 0, 0 } };
+	EXPECT("without memory", write_tsdb(&no_memory, 0).answer, TS11_BAD_MEMORY);
+	struct unit no_reel = { u.state, u.memory, { nowhere, 0, 0 }, { nowhere, 0, 0 } };
+	EXPECT("without a reel", write_tsdb(&no_reel, 0).answer, TS11_BAD_REEL);
+	EXPECT("a mount without a reel", mount(&no_reel, 0, true, false).answer, TS11_BAD_REEL);
+	free_unit(&u);
+}
+
+/* ---- the ends of memory ------------------------------------------------------------------------------------------ */
+
+/* Two bytes of memory hold a header and nothing else. */
+static void test_least_memory(void)
+{
+	static const uint8_t get_status[] = { TS11_GET_STATUS & 255, (TS11_GET_STATUS | TS11_ACK) >> 8 };
+	struct unit u = make_unit(2, TS11_BLOCK, SMALL_JOURNAL, 0);
+	EXPECT("the mount", mount(&u, 0, true, false).answer, TS11_DONE);
+	EXPECT("the header's store", host_store(&u, 0, get_status, 2).answer, TS11_DONE);
+	write_tsdb(&u, 0);
+	EXPECT("the command", advance(&u).answer, TS11_DONE);
+	EXPECT("TSSR", tssr(&u), TS11_TSSR_SC | TS11_TSSR_NBA | TS11_TSSR_SSR | TS11_CLASS_REJECT << 1);
+	write_tsdb(&u, TS11_TSDB(4));
+	EXPECT("a command beyond", advance(&u).answer, TS11_DONE);
+	EXPECT("TSSR", tssr(&u), TS11_TSSR_SC | TS11_TSSR_NXM | TS11_TSSR_NBA | TS11_TSSR_SSR | TS11_CLASS_UNMOVED << 1);
+	free_unit(&u);
+}
+
+static struct unit unit_of_memory(size_t memory)
+{
+	static const uint8_t record[] = "to the last byte";
+	struct unit u = make_unit(memory, 128 * TS11_BLOCK, TS11_JOURNAL_MAX / 16, 0);
+	lay_record(u.reel.at, 0, record, 16);
+	EXPECT("the mount", mount(&u, 1, true, false).answer, TS11_DONE);
+	return u;
+}
+
+static void expect_class(const char *what, struct ending e, unsigned class)
+{
+	EXPECT(what, e.answer, TS11_DONE);
+	EXPECT(what, TS11_CLASS(e.tssr), class);
+}
+
+/* A message buffer, and data, that end where memory ends, and two bytes or one byte further. */
+static void test_end_of_memory(size_t memory)
+{
+	struct unit u = unit_of_memory(memory);
+	context("memory %zu", memory);
+	expect_class("a message buffer at the end",
+	             characteristics(&u, TS11_CVC, memory - TS11_MESSAGE_BYTES, TS11_MESSAGE_BYTES, 0), TS11_CLASS_NORMAL);
+	EXPECT("the message there", word_at(u.memory.at + memory - TS11_MESSAGE_BYTES), TS11_END);
+	expect_class("a message buffer past it",
+	             characteristics(&u, 0, memory - TS11_MESSAGE_BYTES + 2, TS11_MESSAGE_BYTES, 0), TS11_CLASS_REJECT);
+	expect_class("a message buffer in place", characteristics(&u, 0, MESSAGE, TS11_MESSAGE_BYTES, 0),
+	             TS11_CLASS_NORMAL);
+	expect_class("data past it", command(&u, TS11_READ_NEXT | TS11_ACK, memory - 15, 16), TS11_CLASS_UNMOVED);
+	EXPECT("the position", number(&u, TS11_AT_POSITION), 0);
+	expect_class("data to the end", command(&u, TS11_READ_NEXT | TS11_ACK, memory - 16, 16), TS11_CLASS_NORMAL);
+	EXPECT_BYTES("the data", u.memory.at + memory - 16, (const uint8_t *)"to the last byte", 16);
+	expect_class("no data at the end", command(&u, TS11_REREAD_PREVIOUS | TS11_ACK, memory, 0),
+	             memory < TS11_MEMORY_MAX ? TS11_CLASS_STATUS : TS11_CLASS_REJECT); /* the pointer has no 19th bit */
+	free_unit(&u);
+	context("");
+}
+
+/* A packet whose last words are missing: only the words that a command uses must be there. */
+static void test_packet_at_the_end(size_t memory, uint16_t header, unsigned class)
+{
+	struct unit u = unit_of_memory(memory);
+	size_t at = (memory - 1) / 4 * 4;
+	uint8_t bytes[2];
+	context("memory %zu, header %x at its end", memory, header);
+	characteristics(&u, TS11_CVC, MESSAGE, TS11_MESSAGE_BYTES, 0);
+	put_word(bytes, header | TS11_ACK);
+	EXPECT("the header's store", host_store(&u, at, bytes, 2).answer, TS11_DONE);
+	write_tsdb(&u, TS11_TSDB(at));
+	expect_class("the command", advance_to_end(&u), class);
+	free_unit(&u);
+	context("");
+}
+
+static void test_memory_ends(void)
+{
+	static const size_t memories[] = { 0x1002, TS11_MEMORY_MAX - 2, TS11_MEMORY_MAX };
+	ROWS(k, memories)
+		test_end_of_memory(memories[k]);
+	test_packet_at_the_end(TS11_MEMORY_MAX - 2, TS11_GET_STATUS, TS11_CLASS_NORMAL);
+	test_packet_at_the_end(TS11_MEMORY_MAX - 2, TS11_REWIND, TS11_CLASS_UNMOVED);
+	test_packet_at_the_end(TS11_MEMORY_MAX, TS11_REWIND, TS11_CLASS_NORMAL);
+	test_packet_at_the_end(TS11_MEMORY_MAX, TS11_READ_NEXT, TS11_CLASS_UNMOVED);
+}
+
+/* ---- records and small reels ------------------------------------------------------------------------------------- */
+
+/* Written, then read back in both directions. */
+static void expect_record(size_t length, size_t blocks)
+{
+	struct unit u = unit_of_memory(TS11_MEMORY_MAX / 2);
+	size_t entry = TS11_ENTRY_HEAD + TS11_MESSAGE_BYTES;
+	bool written = blocks > 0;
+	context("record of %zu bytes", length);
+	characteristics(&u, TS11_CVC, MESSAGE, TS11_MESSAGE_BYTES, 0);
+	make_bytes(u.memory.at + DATA, length, 3);
+	struct ending e = command(&u, TS11_WRITE | TS11_ACK, DATA, (uint16_t)length);
+	expect_class("write", e, written ? TS11_CLASS_NORMAL : TS11_CLASS_REJECT);
+	EXPECT("XST0 of the write", e.xst0, READY | (written ? TS11_XST0_MOT : TS11_XST0_NEF | TS11_XST0_BOT));
+	EXPECT("entry of the write", e.entry, entry + blocks * TS11_BLOCK);
+	EXPECT("position", number(&u, TS11_AT_POSITION), blocks);
+	EXPECT("recorded end", number(&u, TS11_AT_END), written ? blocks : 1);
+	for (int reverse = 1; written && reverse >= 0; reverse--) {
+		size_t to = DATA + 2 * TS11_RECORD_MAX;
+		memset(u.memory.at + to, 0, length);
+		e = command(&u, (reverse ? TS11_READ_PREVIOUS : TS11_READ_NEXT) | TS11_ACK, to, (uint16_t)length);
+		expect_class("read", e, TS11_CLASS_NORMAL);
+		EXPECT("entry of the read", e.entry, entry + length);
+		EXPECT("position", number(&u, TS11_AT_POSITION), reverse ? 0 : blocks);
+		EXPECT_BYTES("data", u.memory.at + to, u.memory.at + DATA, length);
+	}
+	free_unit(&u);
+	context("");
+}
+
+static void test_records(void)
+{
+	expect_record(0, 0);
+	expect_record(1, 1);
+	expect_record(TS11_BLOCK_DATA, 1);
+	expect_record(TS11_BLOCK_DATA + 1, 2);
+	expect_record(TS11_RECORD_MAX, 33);
+	expect_record(TS11_RECORD_MAX + 1, 0);
+	expect_record(65535, 0);
+}
+
+/* A reel of few blocks filled with marks: class 2 from the one that ends at the marker on, then no room. */
+static void test_small_reel(size_t blocks)
+{
+	size_t marker = blocks < TS11_EOT_MARGIN ? 0 : blocks - TS11_EOT_MARGIN;
+	struct unit u = make_unit(SMALL_JOURNAL, blocks * TS11_BLOCK, TS11_JOURNAL_MAX / 16, 0);
+	context("reel of %zu blocks", blocks);
+	EXPECT("the mount", mount(&u, 0, true, false).answer, TS11_DONE);
+	characteristics(&u, TS11_CVC, MESSAGE, TS11_MESSAGE_BYTES, 0);
+	for (size_t k = 1; k <= blocks; k++) {
+		struct ending e = command(&u, TS11_WRITE_MARK | TS11_ACK, 0, 0);
+		expect_class("a mark", e, k < marker ? TS11_CLASS_NORMAL : TS11_CLASS_STATUS);
+		EXPECT("XST0", e.xst0, READY | TS11_XST0_TMK | TS11_XST0_MOT | (k < marker ? 0 : TS11_XST0_EOT));
+	}
+	struct ending e = command(&u, TS11_WRITE_MARK | TS11_ACK, 0, 0);
+	expect_class("a mark too many", e, TS11_CLASS_REJECT);
+	EXPECT("XST0", e.xst0, READY | TS11_XST0_NEF | TS11_XST0_EOT);
+	EXPECT("position", number(&u, TS11_AT_POSITION), blocks);
+	free_unit(&u);
+	context("");
+}
+
+/* ---- full size: the session -------------------------------------------------------------------------------------- */
+
+/*
+ * On the reel: records of 1, 504 and 505 bytes, a gap, a mark, and records of 33 blocks up to PRERECORDED; the unit
+ * writes WRITTEN more, then one that fills the reel to its very end.
+ */
+enum {
+	LONG_BLOCKS = 33,
+	AFTER_MARK = 6,
+	LONG_RECORDS = (TS11_REEL_BLOCKS_MAX - AFTER_MARK) / LONG_BLOCKS,
+	WRITTEN = 400,
+	PRERECORDED = AFTER_MARK + (LONG_RECORDS - WRITTEN) * LONG_BLOCKS,
+	LONG_END = AFTER_MARK + LONG_RECORDS * LONG_BLOCKS,
+	LAST_BLOCKS = TS11_REEL_BLOCKS_MAX - LONG_END,
+	LAST = LAST_BLOCKS * TS11_BLOCK_DATA,
+	MEMORY_END = TS11_MEMORY_MAX
+};
+
+static struct unit full;
+static struct picture fresh; /* right after the mount */
+static size_t standing;      /* entries in the journal, counted here */
+
+static struct result counted(struct unit *u, const struct call *c)
+{
+	struct result r = perform(u, c);
+	if (is_step(c, &r))
+		standing++;
+	if (c->kind == STEP_BACK && r.answer == TS11_DONE)
+		standing--;
+	return r;
+}
+
+static size_t free_room(void)
+{
+	return TS11_JOURNAL_MAX - used(&full);
+}
+
+/* A refusal, with nothing changed in 50 million bytes. */
+static void expect_refused(const char *what, const struct call *c, ts11_answer wanted)
+{
+	static struct picture before;
+	take_picture(&before, &full);
+	EXPECT(what, counted(&full, c).answer, wanted);
+	expect_same(what, &full, &before);
+}
+
+static void lay_full_reel(void)
+{
+	uint8_t *reel = full.reel.at, *bytes = need(malloc(TS11_RECORD_MAX));
+	make_bytes(bytes, TS11_RECORD_MAX, 9);
+	size_t at = lay_record(reel, 0, bytes, 1);
+	at = lay_record(reel, at, bytes, TS11_BLOCK_DATA);
+	at = lay_record(reel, at, bytes, TS11_BLOCK_DATA + 1);
+	at = lay_gap(reel, at);
+	at = lay_mark(reel, at);
+	EXPECT("the block after the mark", at, AFTER_MARK);
+	for (; at < PRERECORDED; bytes[0]++)
+		at = lay_record(reel, at, bytes, TS11_RECORD_MAX);
+	EXPECT("the prerecorded end", at, PRERECORDED);
+	memset(reel + at * TS11_BLOCK, 0xC3, full.reel.length - at * TS11_BLOCK);
+	free(bytes);
+}
+
+static void full_mount(void)
+{
+	full = make_unit(MEMORY_END, REEL_MAX, TS11_JOURNAL_MAX, 0);
+	make_bytes(full.memory.at, full.memory.length, 77);
+	lay_full_reel();
+	EXPECT("the mount", mount(&full, PRERECORDED, true, false).answer, TS11_DONE);
+	take_picture(&fresh, &full);
+	standing = 0;
+}
+
+/* A command, with its class, XST0 beside ONL and PED, residual and the position it ends at. */
+static struct ending expect_command(const char *what, uint16_t header, size_t pointer, uint16_t count, unsigned class,
+                                    unsigned xst0, unsigned residual, size_t position)
+{
+	struct ending e = command(&full, header | TS11_ACK, pointer, count);
+	expect_class(what, e, class);
+	EXPECT(what, e.xst0, READY | xst0);
+	EXPECT(what, e.residual, residual);
+	EXPECT(what, number(&full, TS11_AT_POSITION), position);
+	return e;
+}
+
+static void full_to_the_end(void)
+{
+	characteristics(&full, TS11_CVC, MESSAGE, TS11_MESSAGE_BYTES, 0);
+	expect_command("skip to the mark", TS11_SKIP_MARKS, 1, 0, 0, TS11_XST0_MOT | TS11_XST0_TMK, 0, AFTER_MARK);
+	expect_command("space to the end", TS11_SPACE_RECORDS, LONG_RECORDS - WRITTEN, 0, 0, TS11_XST0_MOT, 0, PRERECORDED);
+	struct ending e = expect_command("space past it", TS11_SPACE_RECORDS, 2, 0, TS11_CLASS_LOST, 0, 2, PRERECORDED);
+	EXPECT("XST3 past the end", e.xst3, TS11_XST3_OPI);
+}
+
+/* Records of the greatest length, the first from data that ends where memory ends; a byte further is no memory. */
+static void full_write(void)
+{
+	expect_command("data past memory", TS11_WRITE, MEMORY_END - TS11_RECORD_MAX + 1, TS11_RECORD_MAX,
+	               TS11_CLASS_UNMOVED, 0, 0, PRERECORDED);
+	for (size_t k = 0; k < WRITTEN; k++) {
+		size_t from = MEMORY_END - TS11_RECORD_MAX - 8 * k, end = PRERECORDED + (k + 1) * LONG_BLOCKS;
+		bool eot = end >= TS11_REEL_BLOCKS_MAX - TS11_EOT_MARGIN;
+		struct ending e =
+			expect_command("write", TS11_WRITE, from, TS11_RECORD_MAX, eot ? TS11_CLASS_STATUS : TS11_CLASS_NORMAL,
+		                   TS11_XST0_MOT | (eot ? TS11_XST0_EOT : 0), 0, end);
+		EXPECT("entry", e.entry, TS11_ENTRY_HEAD + TS11_MESSAGE_BYTES + LONG_BLOCKS * TS11_BLOCK);
+		EXPECT("recorded end", number(&full, TS11_AT_END), end);
+	}
+	EXPECT_BYTES("the first record's first piece", full.reel.at + (size_t)PRERECORDED * TS11_BLOCK + TS11_BLOCK_BYTES,
+	             full.memory.at + MEMORY_END - TS11_RECORD_MAX, TS11_BLOCK_DATA);
+}
+
+/* Step 11: what does not fit is rejected, what just fits is written, and then nothing fits. */
+static void full_fill_reel(void)
+{
+	enum { NO_ROOM = TS11_XST0_NEF | TS11_XST0_EOT, FILLED = TS11_REEL_BLOCKS_MAX };
+	size_t from = MEMORY_END - LAST;
+	expect_command("a long record", TS11_WRITE, DATA, TS11_RECORD_MAX, TS11_CLASS_REJECT, NO_ROOM, 0, LONG_END);
+	expect_command("a byte too many", TS11_WRITE, from - 1, LAST + 1, TS11_CLASS_REJECT, NO_ROOM, 0, LONG_END);
+	expect_command("to the very end", TS11_WRITE, from, LAST, TS11_CLASS_STATUS, TS11_XST0_MOT | TS11_XST0_EOT, 0,
+	               FILLED);
+	EXPECT("recorded end", number(&full, TS11_AT_END), FILLED);
+	expect_command("a byte", TS11_WRITE, DATA, 1, TS11_CLASS_REJECT, NO_ROOM, 0, FILLED);
+	expect_command("a mark", TS11_WRITE_MARK, 0, 0, TS11_CLASS_REJECT, NO_ROOM, 0, FILLED);
+	expect_command("a gap", TS11_ERASE, 0, 0, TS11_CLASS_REJECT, NO_ROOM, 0, FILLED);
+	expect_command("a retry with its gap", TS11_WRITE_RETRY, from, LAST, TS11_CLASS_REJECT, NO_ROOM, 0, FILLED);
+	expect_command("forward", TS11_READ_NEXT, DATA, 1, TS11_CLASS_LOST, TS11_XST0_EOT, 1, FILLED);
+}
+
+/* The last record in reverse, to data that ends where memory ends; the buffer is longer than the record. */
+static void full_read_last(void)
+{
+	uint8_t *bytes = need(malloc(LAST));
+	memcpy(bytes, full.memory.at + MEMORY_END - LAST, LAST);
+	host_store(&full, MEMORY_END - LAST, host, LAST);
+	struct ending e = expect_command("the last record in reverse", TS11_READ_PREVIOUS, MEMORY_END - TS11_RECORD_MAX,
+	                                 TS11_RECORD_MAX, TS11_CLASS_STATUS, TS11_XST0_RLS | TS11_XST0_MOT | TS11_XST0_EOT,
+	                                 TS11_RECORD_MAX - LAST, LONG_END);
+	EXPECT("XST3", e.xst3, TS11_XST3_REV);
+	EXPECT("entry", e.entry, TS11_ENTRY_HEAD + TS11_MESSAGE_BYTES + LAST);
+	EXPECT_BYTES("its bytes", full.memory.at + MEMORY_END - LAST, bytes, LAST);
+	free(bytes);
+}
+
+/* A full reel is mounted whole by another unit; an end one block further is refused. */
+static void full_mount_whole(void)
+{
+	struct unit other = full;
+	other.state = make_buffer(TS11_STATE_BYTES, 0);
+	EXPECT("an end beyond capacity",
+	       perform(&other, &(struct call){ .kind = MOUNT, .recorded_end = TS11_REEL_BLOCKS_MAX + 1 }).answer,
+	       TS11_BAD_REEL);
+	EXPECT("its state", all_are(other.state.at, TS11_STATE_BYTES, 0), true);
+	EXPECT("an end at capacity",
+	       perform(&other, &(struct call){ .kind = MOUNT, .recorded_end = TS11_REEL_BLOCKS_MAX }).answer, TS11_DONE);
+	EXPECT("its end", number(&other, TS11_AT_END), TS11_REEL_BLOCKS_MAX);
+	free_buffer(&other.state);
+}
+
+/* Back over everything: to the mark, over it, to BOT; then by marks, there and back. */
+static void full_to_bot(void)
+{
+	enum { MOST = 65535, SHORT = TS11_XST0_RLS | TS11_XST0_MOT, RIB = TS11_XST3_RIB | TS11_XST3_REV };
+	expect_command("back to the mark", TS11_SPACE_RECORDS_REVERSE, LONG_RECORDS, 0, 0, TS11_XST0_MOT, 0, AFTER_MARK);
+	expect_command("over it", TS11_SPACE_RECORDS_REVERSE, MOST, 0, TS11_CLASS_STATUS, TS11_XST0_TMK | SHORT, MOST,
+	               AFTER_MARK - 1);
+	struct ending e = expect_command("to BOT", TS11_SPACE_RECORDS_REVERSE, MOST, 0, TS11_CLASS_STATUS,
+	                                 SHORT | TS11_XST0_BOT, MOST - 3, 0);
+	EXPECT("XST3 at BOT", e.xst3, RIB);
+	expect_command("reverse at BOT", TS11_SPACE_RECORDS_REVERSE, 1, 0, TS11_CLASS_REJECT, TS11_XST0_NEF | TS11_XST0_BOT,
+	               1, 0);
+	expect_command("marks to the end", TS11_SKIP_MARKS, MOST, 0, TS11_CLASS_LOST,
+	               TS11_XST0_TMK | TS11_XST0_MOT | TS11_XST0_EOT, MOST - 1, TS11_REEL_BLOCKS_MAX);
+	e = expect_command("marks to BOT", TS11_SKIP_MARKS_REVERSE, MOST, 0, TS11_CLASS_STATUS,
+	                   SHORT | TS11_XST0_TMK | TS11_XST0_BOT, MOST - 1, 0);
+	EXPECT("XST3 at BOT", e.xst3, RIB);
+}
+
+/* A write at BOT ends the reel after one block; the 65,535 others are forgotten, and step back must bring them back. */
+static void full_write_at_bot(void)
+{
+	expect_command("a mark at BOT", TS11_WRITE_MARK, 0, 0, 0, TS11_XST0_TMK | TS11_XST0_MOT, 0, 1);
+	EXPECT("recorded end", number(&full, TS11_AT_END), 1);
+}
+
+/* ---- full size: the journal -------------------------------------------------------------------------------------- */
+
+static const struct call store_most = {
+	.kind = HOST_STORE, .address = MEMORY_END - TS11_HOST_STORE_MAX, .bytes = host, .length = TS11_HOST_STORE_MAX
+};
+
+/* The largest stores, at the end of memory, as long as the free room holds their entry. */
+static void full_fill_journal(void)
+{
+	enum { ENTRY = TS11_ENTRY_HEAD + TS11_HOST_STORE_MAX };
+	while (free_room() >= ENTRY) {
+		size_t before = used(&full);
+		make_bytes(host, TS11_HOST_STORE_MAX, (unsigned)before);
+		EXPECT("a store that fits", counted(&full, &store_most).answer, TS11_DONE);
+		EXPECT("its entry", used(&full) - before, ENTRY);
+	}
+	EXPECT_BYTES("memory's end", full.memory.at + MEMORY_END - TS11_HOST_STORE_MAX, host, TS11_HOST_STORE_MAX);
+	expect_refused("a store that does not fit", &store_most, TS11_JOURNAL_FULL);
+}
+
+/* One store that leaves exactly this much room, far from packet and message. */
+static void leave_room(size_t room)
+{
+	size_t length = free_room() - TS11_ENTRY_HEAD - room;
+	EXPECT("the store that leaves room", host_store(&full, MEMORY_END - length, host, length).answer, TS11_DONE);
+	EXPECT("free room", free_room(), room);
+}
+
+/* A step with an entry of this length: refused with a byte less of room, answered 0 with just enough; then undone. */
+static void expect_fits_exactly(const char *what, const struct call *c, size_t entry)
+{
+	leave_room(entry - 1);
+	expect_refused(what, c, TS11_JOURNAL_FULL);
+	EXPECT("step back over the filler", step_back(&full).answer, TS11_DONE);
+	leave_room(entry);
+	EXPECT(what, counted(&full, c).answer, TS11_DONE);
+	EXPECT("free room after it", free_room(), 0);
+	EXPECT("step back over it", step_back(&full).answer, TS11_DONE);
+	EXPECT("step back over the filler", step_back(&full).answer, TS11_DONE);
+}
+
+/* The command waits while the room is made. */
+static void expect_command_fits_exactly(const char *what, uint16_t header, size_t pointer, uint16_t count,
+                                        size_t stored)
+{
+	put_packet(&full, header | TS11_ACK, pointer, count);
+	write_tsdb(&full, TS11_TSDB(PACKET));
+	expect_fits_exactly(what, &(struct call){ .kind = ADVANCE }, TS11_ENTRY_HEAD + stored);
+	EXPECT("step back over TSDB", step_back(&full).answer, TS11_DONE);
+	EXPECT("step back over the packet", step_back(&full).answer, TS11_DONE);
+}
+
+static void full_exact_room(void)
+{
+	enum { SENT = TS11_MESSAGE_BYTES };
+	expect_fits_exactly("TSDB", &(struct call){ .kind = WRITE_TSDB, .word = 4 }, TS11_ENTRY_HEAD);
+	expect_fits_exactly("TSSR", &(struct call){ .kind = WRITE_TSSR }, TS11_ENTRY_HEAD);
+	expect_fits_exactly("a switch", &(struct call){ .kind = OPERATE, .which = TS11_SWITCH_WRITE_LOCK, .on = true },
+	                    TS11_ENTRY_HEAD);
+	expect_fits_exactly("a store of 0", &(struct call){ .kind = HOST_STORE, .bytes = host }, TS11_ENTRY_HEAD);
+	expect_fits_exactly("a store of 77", &(struct call){ .kind = HOST_STORE, .bytes = host, .length = 77 },
+	                    TS11_ENTRY_HEAD + 77);
+	expect_command_fits_exactly("release", TS11_RELEASE, 0, 0, 0);
+	expect_command_fits_exactly("get status", TS11_GET_STATUS, 0, 0, SENT);
+	expect_command_fits_exactly("read a mark", TS11_READ_PREVIOUS, DATA, 9, SENT);
+	expect_command_fits_exactly("erase", TS11_ERASE, 0, 0, SENT + TS11_BLOCK);
+	expect_command_fits_exactly("write", TS11_WRITE, DATA, 505, SENT + 2 * TS11_BLOCK);
+	expect_command_fits_exactly("write retry", TS11_WRITE_RETRY, DATA, 505, SENT + 3 * TS11_BLOCK);
+}
+
+/* No room at all: every step is refused, also with a command waiting; an idle advance and the registers need none. */
+static void full_no_room(void)
+{
+	leave_room(0);
+	EXPECT("used journal", used(&full), TS11_JOURNAL_MAX);
+	expect_refused("TSDB", &(struct call){ .kind = WRITE_TSDB }, TS11_JOURNAL_FULL);
+	expect_refused("TSSR", &(struct call){ .kind = WRITE_TSSR }, TS11_JOURNAL_FULL);
+	expect_refused("a switch", &(struct call){ .kind = OPERATE }, TS11_JOURNAL_FULL);
+	expect_refused("a store of 0", &(struct call){ .kind = HOST_STORE, .bytes = host }, TS11_JOURNAL_FULL);
+	expect_refused("a store past memory",
+	               &(struct call){ .kind = HOST_STORE, .address = SIZE_MAX, .bytes = host, .length = 1 },
+	               TS11_BAD_STORE);
+	expect_refused("an idle advance", &(struct call){ .kind = ADVANCE }, TS11_DONE);
+	expect_refused("TSBA", &(struct call){ .kind = READ_REGISTER, .which = TS11_REGISTER_TSBA }, TS11_DONE);
+	EXPECT("step back over the filler", step_back(&full).answer, TS11_DONE);
+	put_packet(&full, TS11_READ_PREVIOUS | TS11_ACK, DATA, 9);
+	write_tsdb(&full, TS11_TSDB(PACKET));
+	leave_room(0);
+	expect_refused("a command", &(struct call){ .kind = ADVANCE }, TS11_JOURNAL_FULL);
+	full.reel.at[TS11_BLOCK_CHECK] ^= 1;
+	expect_refused("a command at a damaged block", &(struct call){ .kind = ADVANCE }, TS11_BAD_BLOCK);
+	full.reel.at[TS11_BLOCK_CHECK] ^= 1;
+}
+
+/* One byte more or less of any buffer, at full size. */
+static void full_other_lengths(void)
+{
+	struct unit whole = full;
+	const struct call c = { .kind = STEP_BACK };
+	full.memory.length = whole.memory.length - 1;
+	expect_refused("memory less one", &c, TS11_BAD_MEMORY);
+	full.memory.length = whole.memory.length - 2;
+	expect_refused("memory less two", &c, TS11_BAD_MEMORY);
+	full.memory = whole.memory;
+	full.reel.length = whole.reel.length - 1;
+	expect_refused("reel less one", &c, TS11_BAD_REEL);
+	full.reel.length = whole.reel.length - TS11_BLOCK;
+	expect_refused("reel less a block", &c, TS11_BAD_REEL);
+	full.reel = whole.reel;
+	full.journal.length = whole.journal.length - 1;
+	expect_refused("journal less one", &c, TS11_BAD_JOURNAL);
+	full.journal = whole.journal;
+}
+
+/* Back over all entries: state, memory and reel are those of the mount. */
+static size_t full_all_back(void)
+{
+	size_t steps = 0, entries = standing;
+	while (steps <= entries && counted(&full, &(struct call){ .kind = STEP_BACK }).answer == TS11_DONE)
+		steps++;
+	EXPECT("steps back", steps, entries);
+	expect_refused("one more", &(struct call){ .kind = STEP_BACK }, TS11_NO_ENTRY);
+	expect_same("all stepped back", &full, &fresh);
+	EXPECT("used journal", used(&full), 0);
+	return steps;
+}
+
+static size_t test_full_size(void)
+{
+	context("full size");
+	make = counted;
+	full_mount();
+	full_to_the_end();
+	full_write();
+	full_fill_reel();
+	full_read_last();
+	full_mount_whole();
+	full_to_bot();
+	full_write_at_bot();
+	full_fill_journal();
+	full_exact_room();
+	full_no_room();
+	full_other_lengths();
+	size_t steps = full_all_back();
+	make = checked;
+	free_unit(&full);
+	free_picture(&fresh);
+	context("");
+	return steps;
+}
+
+int main(void)
+{
+	char done[100];
+	make_bytes(host, sizeof host, 42);
+	test_mount_memory();
+	test_mount_reel();
+	test_mount_journal();
+	test_mount_recorded_end();
+	test_mount_order();
+	test_other_lengths();
+	test_made_up_states();
+	test_made_up_message();
+	test_host_stores();
+	test_small_host_stores();
+	test_no_entries();
+	test_damaged_entry();
+	test_empty_buffers();
+	test_least_memory();
+	test_memory_ends();
+	test_records();
+	test_small_reel(1);
+	test_small_reel(TS11_EOT_MARGIN);
+	test_small_reel(TS11_EOT_MARGIN + 2);
+	size_t steps = test_full_size();
+	snprintf(done, sizeof done, "every limit, and %zu steps of full size stepped back", steps);
+	return summary("limits", done);
+}

@@ -1,0 +1,346 @@
+/*
+ * One unit and all that a host keeps for it, the library's calls as values, and what every call promises: nothing
+ * outside the handed buffers changes, a refused call changes nothing, and a step is undone and done again exactly.
+ */
+#ifndef UNIT_H
+#define UNIT_H
+
+#include "expect.h"
+#include "ts11.h"
+
+/* ---- buffers ----------------------------------------------------------------------------------------------------- */
+
+/* More than a block, and odd: between guards no buffer is aligned. */
+enum { GUARD = 513, GUARD_BYTE = 0xA7 };
+
+/* Bytes with `guard` guard bytes before and after them; 0 guard bytes make an allocation of exactly the length. */
+struct buffer {
+	uint8_t *at;
+	size_t length, guard;
+};
+
+static inline struct buffer make_buffer(size_t length, size_t guard)
+{
+	size_t whole = length + 2 * guard;
+	uint8_t *room = need(calloc(1, whole + (whole == 0)));
+	memset(room, GUARD_BYTE, guard);
+	memset(room + guard + length, GUARD_BYTE, guard);
+	return (struct buffer){ room + guard, length, guard };
+}
+
+static inline void free_buffer(struct buffer *b)
+{
+	if (b->at)
+		free(b->at - b->guard);
+	*b = (struct buffer){ 0 };
+}
+
+static inline bool all_are(const uint8_t *bytes, size_t length, uint8_t value)
+{
+	for (size_t i = 0; i < length; i++)
+		if (bytes[i] != value)
+			return false;
+	return true;
+}
+
+static inline bool guarded(const struct buffer *b)
+{
+	static uint8_t guard[GUARD];
+	if (guard[0] != GUARD_BYTE)
+		memset(guard, GUARD_BYTE, GUARD);
+	return memcmp(b->at - b->guard, guard, b->guard) == 0 && memcmp(b->at + b->length, guard, b->guard) == 0;
+}
+
+struct unit {
+	struct buffer state, memory, reel, journal;
+};
+
+static inline struct unit make_unit(size_t memory, size_t reel, size_t journal, size_t guard)
+{
+	return (struct unit){ make_buffer(TS11_STATE_BYTES, guard), make_buffer(memory, guard), make_buffer(reel, guard),
+		                  make_buffer(journal, guard) };
+}
+
+static inline void free_unit(struct unit *u)
+{
+	free_buffer(&u->state);
+	free_buffer(&u->memory);
+	free_buffer(&u->reel);
+	free_buffer(&u->journal);
+}
+
+static inline ts11_state *state_of(const struct unit *u)
+{
+	return (ts11_state *)u->state.at;
+}
+
+static inline uint32_t number(const struct unit *u, size_t at)
+{
+	return ts11_state_number(state_of(u), at);
+}
+
+/* Makes up one number of the state. */
+static inline void set_number(struct unit *u, size_t at, uint32_t value)
+{
+	for (int i = 0; i < 4; i++)
+		u->state.at[at + i] = (uint8_t)(value >> 8 * i);
+}
+
+/* The used journal, as far as the handed buffer has it: a made-up state may say anything. */
+static inline size_t used_part(const struct unit *u)
+{
+	size_t used = number(u, TS11_AT_USED);
+	return used < u->journal.length ? used : u->journal.length;
+}
+
+/* ---- the calls as values ----------------------------------------------------------------------------------------- */
+
+enum kind { MOUNT, WRITE_TSDB, WRITE_TSSR, OPERATE, READ_REGISTER, HOST_STORE, ADVANCE, STEP_BACK };
+
+struct call {
+	enum kind kind;
+	size_t recorded_end;     /* mount */
+	bool online, write_lock; /* mount */
+	bool which, on;          /* operate: the switch; read: the register */
+	uint16_t word;           /* the register writes */
+	size_t address, length;  /* host store */
+	const uint8_t *bytes;    /* host store */
+};
+
+struct result {
+	ts11_answer answer;
+	bool stepped, interrupt;
+	uint16_t word;
+	size_t block;
+};
+
+/* The out-parameters, apart from each other. */
+struct outs {
+	uint8_t first[16];
+	bool stepped;
+	uint8_t second[16];
+	bool interrupt;
+	uint8_t third[16];
+	uint16_t word;
+	uint8_t fourth[16];
+	size_t block;
+	uint8_t last[16];
+};
+
+static inline ts11_answer put_call(struct unit *u, const struct call *c, struct outs *o)
+{
+	ts11_state *s = state_of(u);
+	uint8_t *m = u->memory.at, *r = u->reel.at, *j = u->journal.at;
+	size_t mn = u->memory.length, rn = u->reel.length, jn = u->journal.length;
+	switch (c->kind) {
+	case MOUNT:
+		return ts11_mount(s, mn, r, rn, jn, c->recorded_end, c->online, c->write_lock, &o->block);
+	case WRITE_TSDB:
+		return ts11_write_tsdb(s, m, mn, r, rn, j, jn, c->word);
+	case WRITE_TSSR:
+		return ts11_write_tssr(s, m, mn, r, rn, j, jn, c->word);
+	case OPERATE:
+		return ts11_operate(s, m, mn, r, rn, j, jn, c->which, c->on);
+	case READ_REGISTER:
+		return ts11_read_register(s, c->which, &o->word);
+	case HOST_STORE:
+		return ts11_host_store(s, m, mn, r, rn, j, jn, c->address, c->bytes, c->length);
+	case ADVANCE:
+		return ts11_advance(s, m, mn, r, rn, j, jn, &o->stepped, &o->interrupt, &o->block);
+	default:
+		return ts11_step_back(s, m, mn, r, rn, j, jn);
+	}
+}
+
+static inline void expect_outs_apart(const struct outs *o, uint8_t fill)
+{
+	EXPECT("bytes beside the out-parameters are as before",
+	       all_are(o->first, 16, fill) && all_are(o->second, 16, fill) && all_are(o->third, 16, fill) &&
+	           all_are(o->fourth, 16, fill) && all_are(o->last, 16, fill),
+	       true);
+}
+
+/* Makes the call with `fill` (0 or 1) in every byte of the out-parameters; those that it has not are given as 0. */
+static inline struct result perform_over(struct unit *u, const struct call *c, uint8_t fill)
+{
+	struct outs o;
+	memset(&o, fill, sizeof o);
+	struct result r = { .answer = put_call(u, c, &o) };
+	expect_outs_apart(&o, fill);
+	if (c->kind == MOUNT || c->kind == ADVANCE)
+		r.block = o.block;
+	if (c->kind == READ_REGISTER)
+		r.word = o.word;
+	if (c->kind == ADVANCE) {
+		r.stepped = o.stepped;
+		r.interrupt = o.interrupt;
+	}
+	return r;
+}
+
+static inline struct result perform(struct unit *u, const struct call *c)
+{
+	return perform_over(u, c, 1);
+}
+
+static inline bool is_step(const struct call *c, const struct result *r)
+{
+	if (r->answer != TS11_DONE || c->kind == MOUNT || c->kind == READ_REGISTER || c->kind == STEP_BACK)
+		return false;
+	return c->kind != ADVANCE || r->stepped;
+}
+
+/* ---- pictures: what a unit's bytes were -------------------------------------------------------------------------- */
+
+struct copy {
+	uint8_t *bytes;
+	size_t length, room;
+};
+
+struct picture {
+	struct copy state, memory, reel, used;
+};
+
+static inline void make_room(struct copy *c, size_t length)
+{
+	if (c->room >= length)
+		return;
+	free(c->bytes);
+	c->bytes = need(calloc(1, length));
+	c->room = length;
+}
+
+/* From one picture to the next most bytes stay: only pieces that differ are copied. */
+static inline void take_copy(struct copy *c, const uint8_t *bytes, size_t length)
+{
+	enum { PIECE = 4096 };
+	make_room(c, length);
+	for (size_t at = 0; at < length; at += PIECE) {
+		size_t n = length - at < PIECE ? length - at : PIECE;
+		if (memcmp(c->bytes + at, bytes + at, n) != 0)
+			memcpy(c->bytes + at, bytes + at, n);
+	}
+	c->length = length;
+}
+
+static inline void take_picture(struct picture *p, const struct unit *u)
+{
+	take_copy(&p->state, u->state.at, u->state.length);
+	take_copy(&p->memory, u->memory.at, u->memory.length);
+	take_copy(&p->reel, u->reel.at, u->reel.length);
+	take_copy(&p->used, u->journal.at, used_part(u));
+}
+
+/* The unit as it was when the picture was taken. */
+static inline void put_back(struct unit *u, const struct picture *p)
+{
+	memcpy(u->state.at, p->state.bytes, p->state.length);
+	memcpy(u->memory.at, p->memory.bytes, p->memory.length);
+	memcpy(u->reel.at, p->reel.bytes, p->reel.length);
+	memcpy(u->journal.at, p->used.bytes, p->used.length);
+}
+
+static inline void free_picture(struct picture *p)
+{
+	free(p->state.bytes);
+	free(p->memory.bytes);
+	free(p->reel.bytes);
+	free(p->used.bytes);
+	*p = (struct picture){ 0 };
+}
+
+/* State, memory, reel and used journal are those of the picture, byte for byte. */
+static inline void expect_same(const char *when, const struct unit *u, const struct picture *p)
+{
+	expectations.when = when;
+	EXPECT_BYTES("the state", u->state.at, p->state.bytes, p->state.length);
+	EXPECT_BYTES("memory", u->memory.at, p->memory.bytes, p->memory.length);
+	EXPECT_BYTES("the reel", u->reel.at, p->reel.bytes, p->reel.length);
+	EXPECT_BYTES("the used journal", u->journal.at, p->used.bytes, p->used.length);
+	expectations.when = NULL;
+}
+
+/* ---- what every call promises ------------------------------------------------------------------------------------ */
+
+static inline void expect_guarded(const struct unit *u)
+{
+	EXPECT("bytes beside the state are as before", guarded(&u->state), true);
+	EXPECT("bytes beside memory are as before", guarded(&u->memory), true);
+	EXPECT("bytes beside the reel are as before", guarded(&u->reel), true);
+	EXPECT("bytes beside the journal are as before", guarded(&u->journal), true);
+}
+
+static inline void expect_outs(const struct call *c, const struct result *r)
+{
+	if (r->answer != TS11_BAD_BLOCK)
+		EXPECT("*block without refusal 7", r->block, 0);
+	if (r->answer != TS11_DONE)
+		EXPECT("*stepped, *interrupt and *word refused", r->stepped || r->interrupt || r->word, false);
+	if (c->kind == ADVANCE && !r->stepped)
+		EXPECT("*interrupt without a step", r->interrupt, false);
+}
+
+static inline void expect_same_result(const struct result *got, const struct result *wanted)
+{
+	EXPECT("done again: answer", got->answer, wanted->answer);
+	EXPECT("done again: *stepped", got->stepped, wanted->stepped);
+	EXPECT("done again: *interrupt", got->interrupt, wanted->interrupt);
+	EXPECT("done again: *word", got->word, wanted->word);
+	EXPECT("done again: *block", got->block, wanted->block);
+}
+
+/* What stands in the journal above the used part is nobody's: other bytes there must make no difference. */
+static inline void scribble(struct unit *u, size_t entry)
+{
+	size_t used = used_part(u), room = u->journal.length - used;
+	size_t n = entry + GUARD < room ? entry + GUARD : room;
+	memset(u->journal.at + used, 0x5A, n);
+}
+
+/* A step that was just taken is undone, then taken again. */
+static inline void expect_undone_and_redone(struct unit *u, const struct call *c, const struct result *r,
+                                            const struct picture *before)
+{
+	static struct picture after;
+	take_picture(&after, u);
+	struct result back = perform(u, &(struct call){ .kind = STEP_BACK });
+	EXPECT("step back over the step", back.answer, TS11_DONE);
+	expect_guarded(u);
+	expect_same("step back", u, before);
+	scribble(u, after.used.length - before->used.length);
+	struct result again = perform_over(u, c, 0);
+	expect_guarded(u);
+	expect_same_result(&again, r);
+	expect_same("done again", u, &after);
+}
+
+/* Buffers that a call is handed as const, or not at all, are as before even where it is answered 0. */
+static inline void expect_read_only(const struct unit *u, const struct call *c, const struct picture *before)
+{
+	if (c->kind == MOUNT)
+		EXPECT_BYTES("mount: memory", u->memory.at, before->memory.bytes, before->memory.length);
+	if (c->kind == MOUNT || c->kind == HOST_STORE)
+		EXPECT_BYTES("mount or host store: the reel", u->reel.at, before->reel.bytes, before->reel.length);
+	EXPECT_BYTES("the journal that was in use", u->journal.at, before->used.bytes, before->used.length);
+}
+
+/* Makes a call and holds it to all that every call promises. The unit is left as the call leaves it. */
+static inline struct result checked(struct unit *u, const struct call *c)
+{
+	static struct picture before;
+	take_picture(&before, u);
+	struct result r = perform(u, c);
+	expect_guarded(u);
+	expect_outs(c, &r);
+	if (r.answer != TS11_DONE)
+		expect_same("refused", u, &before);
+	else if (c->kind == READ_REGISTER || (c->kind == ADVANCE && !r.stepped))
+		expect_same("no step", u, &before);
+	else
+		expect_read_only(u, c, &before);
+	if (is_step(c, &r))
+		expect_undone_and_redone(u, c, &r, &before);
+	return r;
+}
+
+#endif
