@@ -1,16 +1,23 @@
-# The exported signatures of crates/ts11/src/calls.rt as C types: a file of assertions that the header declares just these.
+# The exported signatures of crates/ts11/src/calls.rt, as assertions that a host's declarations are just these:
+#   awk -f signatures.awk calls.rt                   C, of ts11.h
+#   awk -v rust=PATH -f signatures.awk calls.rt      Rust, of the file ts11.rs at PATH
+function set(type, in_c, in_rust) { name_of[type] = rust ? in_rust : in_c }
+
 BEGIN {
-	c["&mut [u8; 128]"] = "ts11_state *"
-	c["&[u8; 128]"] = "const ts11_state *"
-	c["&mut [u8]"] = "uint8_t *, size_t"
-	c["&[u8]"] = "const uint8_t *, size_t"
-	c["&mut usize"] = "size_t *"
-	c["&mut bool"] = "bool *"
-	c["&mut u16"] = "uint16_t *"
-	c["usize"] = "size_t"
-	c["u16"] = "uint16_t"
-	c["bool"] = "bool"
-	print "#include \"ts11.h\""
+	set("&mut [u8; 128]", "ts11_state *", "*mut State")
+	set("&[u8; 128]", "const ts11_state *", "*const State")
+	set("&mut [u8]", "uint8_t *, size_t", "*mut u8, usize")
+	set("&[u8]", "const uint8_t *, size_t", "*const u8, usize")
+	set("&mut usize", "size_t *", "*mut usize")
+	set("&mut bool", "bool *", "*mut bool")
+	set("&mut u16", "uint16_t *", "*mut u16")
+	set("usize", "size_t", "usize")
+	set("u16", "uint16_t", "u16")
+	set("bool", "bool", "bool")
+	if (rust)
+		printf "#[path = \"%s\"]\nmod ts11;\nuse ts11::{exported::*, State};\nfn main() {}\n", rust
+	else
+		print "#include \"ts11.h\""
 }
 
 /^pub extern "C" fn / {
@@ -30,21 +37,16 @@ BEGIN {
 	n = split(text, parameter, ",")
 	types = ""
 	for (i = 1; i <= n; i++) {
+		if (parameter[i] !~ /:/)
+			continue
 		type = parameter[i]
 		sub(/^[^:]*: */, "", type)
 		sub(/ *$/, "", type)
-		if (parameter[i] !~ /:/)
-			continue
-		if (!(type in c)) {
-			print "#error \"" name ": no C type for " type "\""
-			continue
-		}
-		types = types (types == "" ? "" : ", ") c[type]
+		# A type that is not in the table ends the test: nothing compiles it.
+		types = types (types == "" ? "" : ", ") (type in name_of ? name_of[type] : "no type for " type)
 	}
-	printf "_Static_assert(__builtin_types_compatible_p(__typeof__(%s), %s(%s)), \"%s\");\n", name, c[result], types, name
-	count++
-}
-
-END {
-	printf "/* %d signatures */\n", count
+	if (rust)
+		printf "const _: unsafe extern \"C\" fn(%s) -> %s = %s;\n", types, name_of[result], name
+	else
+		printf "_Static_assert(__builtin_types_compatible_p(__typeof__(%s), %s(%s)), \"%s\");\n", name, name_of[result], types, name
 }

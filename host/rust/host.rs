@@ -1,0 +1,62 @@
+//! A host in Rust: a record written and read back, and every step undone.
+mod ts11;
+
+use ts11::{Advanced, Buffers, Refused, Register, State, Switch};
+
+const PACKET: usize = 0x100;
+const MESSAGE: usize = 0x200;
+const DATA: usize = 0x400;
+const BACK: usize = 0x600;
+
+const AT_ONLINE: usize = 32;
+const AT_LOCKED: usize = 36;
+
+const ACK: u16 = 0x8000;
+const CVC: u16 = 0x4000;
+const READ_PREVIOUS: u16 = 0x0101;
+const WRITE_CHARACTERISTICS: u16 = 0x0004;
+const WRITE: u16 = 0x0005;
+
+fn words(words: &[u16]) -> Vec<u8> {
+    words.iter().flat_map(|w| w.to_le_bytes()).collect()
+}
+
+fn command(state: &mut State, b: &mut Buffers, header: u16, pointer: usize, count: u16) -> Advanced {
+    state.host_store(b, PACKET, &words(&[header | ACK, pointer as u16, 0, count])).unwrap();
+    state.write_tsdb(b, PACKET as u16).unwrap();
+    state.advance(b).unwrap()
+}
+
+fn main() {
+    let (mut memory, mut reel, mut journal) = (vec![0; 8192], vec![0; 128 * 512], vec![0; 65536]);
+    let mut b = Buffers { memory: &mut memory, reel: &mut reel, journal: &mut journal };
+    let mut state = State::NONE;
+    assert_eq!(state.read_register(Register::Tssr), Err(1));
+    assert_eq!(state.mount(&b, 1, true, false), Err(Refused { number: 7, block: 0 }));
+    assert_eq!(state, State::NONE);
+    state.mount(&b, 0, true, false).unwrap();
+    assert_eq!(state.read_register(Register::Tssr), Ok(0x0480));
+    let (first, memory_then, reel_then) = (state, b.memory.to_vec(), b.reel.to_vec());
+
+    state.host_store(&mut b, DATA, &words(&[MESSAGE as u16, 0, 14, 0])).unwrap();
+    command(&mut state, &mut b, WRITE_CHARACTERISTICS | CVC, DATA, 8);
+    state.host_store(&mut b, DATA, b"MONTH END").unwrap();
+    command(&mut state, &mut b, WRITE, DATA, 9);
+    command(&mut state, &mut b, READ_PREVIOUS, BACK, 10);
+    assert_eq!(&b.memory[BACK..BACK + 10], b"\0MONTH END");
+    assert_eq!(state.read_register(Register::Tssr), Ok(0x8084));
+    assert_eq!(state.read_register(Register::Tsba), Ok(PACKET as u16));
+    state.operate(&mut b, Switch::WriteLock, true).unwrap();
+    state.operate(&mut b, Switch::Online, false).unwrap();
+    assert_eq!((state.number(AT_ONLINE), state.number(AT_LOCKED)), (0, 1));
+    state.write_tssr(&mut b, 0).unwrap();
+    assert_eq!(state.advance(&mut b), Ok(Advanced { stepped: false, interrupt: false }));
+
+    let mut steps = 0;
+    while state.step_back(&mut b).is_ok() {
+        steps += 1;
+    }
+    assert_eq!(state.step_back(&mut b), Err(6));
+    assert!(state == first && b.memory[..] == memory_then[..] && b.reel[..] == reel_then[..]);
+    println!("Rust: {steps} steps undone, and state, memory and reel are what they were");
+}

@@ -1,0 +1,215 @@
+//! The library for a Rust host: the exported calls, and a safe function over each. What a call does and answers stands in `ts11.h`.
+//!
+//! The rules that a C host must keep about its buffers, that they are as long as it says and do not overlap, hold here by the types.
+
+/// A refusal's number, 1 to 9.
+pub type Refusal = usize;
+
+/// The unit's state: bytes that may be copied, compared and stored. Two states are the same exactly when their bytes are.
+#[repr(C)]
+#[derive(Clone, Copy, PartialEq, Eq, Debug)]
+pub struct State(pub [u8; 128]);
+
+/// The buffers of a unit, which every step is handed.
+pub struct Buffers<'a> {
+    pub memory: &'a mut [u8],
+    pub reel: &'a mut [u8],
+    pub journal: &'a mut [u8],
+}
+
+/// How an advance went: whether a step was taken at all, and whether the unit interrupts.
+#[derive(Clone, Copy, PartialEq, Eq, Debug)]
+pub struct Advanced {
+    pub stepped: bool,
+    pub interrupt: bool,
+}
+
+/// A refusal, and with 7 the block at fault.
+#[derive(Clone, Copy, PartialEq, Eq, Debug)]
+pub struct Refused {
+    pub number: Refusal,
+    pub block: usize,
+}
+
+#[derive(Clone, Copy, PartialEq, Eq, Debug)]
+pub enum Switch {
+    Online,
+    WriteLock,
+}
+
+#[derive(Clone, Copy, PartialEq, Eq, Debug)]
+pub enum Register {
+    Tsba,
+    Tssr,
+}
+
+pub mod exported {
+    use super::State;
+
+    #[link(name = "ts11", kind = "static")]
+    extern "C" {
+        pub fn ts11_mount(
+            state: *mut State,
+            memory_length: usize,
+            reel: *const u8,
+            reel_length: usize,
+            journal_length: usize,
+            recorded_end: usize,
+            online: bool,
+            write_lock: bool,
+            block: *mut usize,
+        ) -> usize;
+        pub fn ts11_write_tsdb(
+            state: *mut State,
+            memory: *mut u8,
+            memory_length: usize,
+            reel: *mut u8,
+            reel_length: usize,
+            journal: *mut u8,
+            journal_length: usize,
+            word: u16,
+        ) -> usize;
+        pub fn ts11_write_tssr(
+            state: *mut State,
+            memory: *mut u8,
+            memory_length: usize,
+            reel: *mut u8,
+            reel_length: usize,
+            journal: *mut u8,
+            journal_length: usize,
+            word: u16,
+        ) -> usize;
+        pub fn ts11_operate(
+            state: *mut State,
+            memory: *mut u8,
+            memory_length: usize,
+            reel: *mut u8,
+            reel_length: usize,
+            journal: *mut u8,
+            journal_length: usize,
+            which_switch: bool,
+            on: bool,
+        ) -> usize;
+        pub fn ts11_read_register(state: *const State, which_register: bool, word: *mut u16) -> usize;
+        pub fn ts11_host_store(
+            state: *mut State,
+            memory: *mut u8,
+            memory_length: usize,
+            reel: *const u8,
+            reel_length: usize,
+            journal: *mut u8,
+            journal_length: usize,
+            address: usize,
+            bytes: *const u8,
+            length: usize,
+        ) -> usize;
+        pub fn ts11_advance(
+            state: *mut State,
+            memory: *mut u8,
+            memory_length: usize,
+            reel: *mut u8,
+            reel_length: usize,
+            journal: *mut u8,
+            journal_length: usize,
+            stepped: *mut bool,
+            interrupt: *mut bool,
+            block: *mut usize,
+        ) -> usize;
+        pub fn ts11_step_back(
+            state: *mut State,
+            memory: *mut u8,
+            memory_length: usize,
+            reel: *mut u8,
+            reel_length: usize,
+            journal: *const u8,
+            journal_length: usize,
+        ) -> usize;
+    }
+}
+
+fn answered(number: usize) -> Result<(), Refusal> {
+    if number == 0 {
+        Ok(())
+    } else {
+        Err(number)
+    }
+}
+
+/// A step on the state and all three buffers, with its further arguments.
+macro_rules! step {
+    ($call:ident, $state:expr, $b:expr $(, $more:expr)*) => {
+        unsafe {
+            exported::$call(
+                $state,
+                $b.memory.as_mut_ptr(),
+                $b.memory.len(),
+                $b.reel.as_mut_ptr(),
+                $b.reel.len(),
+                $b.journal.as_mut_ptr(),
+                $b.journal.len()
+                $(, $more)*
+            )
+        }
+    };
+}
+
+impl State {
+    /// No unit's state yet: every call but a mount refuses it.
+    pub const NONE: State = State([0; 128]);
+
+    /// The number at one of the header's `TS11_AT_..` offsets.
+    pub fn number(&self, at: usize) -> u32 {
+        u32::from_le_bytes([self.0[at], self.0[at + 1], self.0[at + 2], self.0[at + 3]])
+    }
+
+    pub fn mount(&mut self, b: &Buffers, recorded_end: usize, online: bool, write_lock: bool) -> Result<(), Refused> {
+        let mut block = 0;
+        let number = unsafe {
+            exported::ts11_mount(
+                self,
+                b.memory.len(),
+                b.reel.as_ptr(),
+                b.reel.len(),
+                b.journal.len(),
+                recorded_end,
+                online,
+                write_lock,
+                &mut block,
+            )
+        };
+        answered(number).map_err(|number| Refused { number, block })
+    }
+
+    pub fn write_tsdb(&mut self, b: &mut Buffers, word: u16) -> Result<(), Refusal> {
+        answered(step!(ts11_write_tsdb, self, b, word))
+    }
+
+    pub fn write_tssr(&mut self, b: &mut Buffers, word: u16) -> Result<(), Refusal> {
+        answered(step!(ts11_write_tssr, self, b, word))
+    }
+
+    pub fn operate(&mut self, b: &mut Buffers, which: Switch, on: bool) -> Result<(), Refusal> {
+        answered(step!(ts11_operate, self, b, which == Switch::WriteLock, on))
+    }
+
+    pub fn read_register(&self, which: Register) -> Result<u16, Refusal> {
+        let mut word = 0;
+        let number = unsafe { exported::ts11_read_register(self, which == Register::Tssr, &mut word) };
+        answered(number).map(|()| word)
+    }
+
+    pub fn host_store(&mut self, b: &mut Buffers, address: usize, bytes: &[u8]) -> Result<(), Refusal> {
+        answered(step!(ts11_host_store, self, b, address, bytes.as_ptr(), bytes.len()))
+    }
+
+    pub fn advance(&mut self, b: &mut Buffers) -> Result<Advanced, Refused> {
+        let (mut stepped, mut interrupt, mut block) = (false, false, 0);
+        let number = step!(ts11_advance, self, b, &mut stepped, &mut interrupt, &mut block);
+        answered(number).map_err(|number| Refused { number, block })?;
+        Ok(Advanced { stepped, interrupt })
+    }
+
+    pub fn step_back(&mut self, b: &mut Buffers) -> Result<(), Refusal> {
+        answered(step!(ts11_step_back, self, b))
+    }
+}
