@@ -28,6 +28,12 @@ def spoiled_numbers(text, every_bit):
             yield text[: m.start()] + value + text[m.end() :]
 
 
+def word_of(value):
+    """The word that a code and a mode give: where it stays the same, nothing is spoiled."""
+    m = re.fullmatch(r"TS11_COMMAND\((\d+), (\d+)\)", value)
+    return (int(m.group(2)) << 8 | int(m.group(1))) & 0xFFFF if m else value
+
+
 def spoiled_constants(header, every_bit):
     for m in re.finditer(r"^#define (TS11_\w+)(\([^)]*\))? (.*?)[ \t]*(/\*.*)?$", header, re.M):
         name, parameters, value = m.group(1), m.group(2), m.group(3)
@@ -36,7 +42,8 @@ def spoiled_constants(header, every_bit):
         else:
             values = spoiled_numbers(value, every_bit and not parameters)
         for v in values:
-            yield f"{name} {value} -> {v}", m.start(3), m.end(3), v
+            if word_of(v) != word_of(value):
+                yield f"{name} {value} -> {v}", m.start(3), m.end(3), v
 
 
 def spoiled_inline(header):
