@@ -1,9 +1,9 @@
 /*
  * ts11.h: the command side of one TS11-compatible tape unit, its reel image, and a journal that steps back.
  *
- * Link with libts11.a (x86-64 Linux; it needs nothing of the C library but memset, memcpy and memmove). Every
- * function of the archive is proved to meet its contract on all inputs, to return, and to touch nothing but the
- * buffers named in its call.
+ * Link with libts11.a (x86-64 Linux; of the C library it needs memset and nothing else). Every function of the
+ * archive is proved to meet its contract on all inputs, to return, and to touch nothing but the buffers named in
+ * its call.
  *
  * THE HOST OWNS EVERYTHING. The library has no memory of its own. A host keeps, for one unit:
  *   state    one ts11_state, 128 bytes
@@ -186,7 +186,7 @@ ts11_answer ts11_step_back(ts11_state *state, uint8_t *memory, size_t memory_len
 
 /*
  * The TSDB word that names a command packet at an address: bits 15:2 in place, A17 and A16 in bits 1:0, so the
- * address is a multiple of 4. TSBA reads its low 16 bits back.
+ * address is a multiple of 4 (it is evaluated twice). TSBA reads its low 16 bits back.
  */
 #define TS11_TSDB(address) ((uint16_t)(((address) & 0xFFFC) | ((address) >> 16 & 3)))
 
