@@ -1,0 +1,3 @@
+-- The laws of words.
+pub mod Passing
+pub mod Found
