@@ -1,3 +1,4 @@
--- The laws of words.
+-- The laws of words, digits and numbers.
 pub mod Passing
 pub mod Found
+pub mod Said
