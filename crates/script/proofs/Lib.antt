@@ -1,4 +1,6 @@
--- The laws of words, digits and numbers.
+-- The laws of words, digits, numbers and bytes put into a slice.
 pub mod Passing
 pub mod Found
 pub mod Said
+pub mod Filled
+pub mod Paired
