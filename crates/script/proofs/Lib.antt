@@ -4,3 +4,4 @@ pub mod Found
 pub mod Said
 pub mod Filled
 pub mod Paired
+pub mod Xors
