@@ -12,7 +12,7 @@ use lib.ListN.{length, take, drop, getD, length-drop}
 use lib.Seq.{drop-cons, drop-length, length-take-le, take-suc}
 use Rattle.lists.specs.Pick.{pick}
 use Rattle.lists.proofs.Cases.{by-test}
-use Rattle.script.specs.Words.{lastEnd, eqs, placeFrom, wordOf}
+use Rattle.script.specs.Words.{lastEnd, eqs, part, placeFrom, wordOf}
 
 clash : {A : Type 0} → _≡_ {A = ℕ} 0 1 → A
 clash e = absurd (omega arith)
@@ -97,22 +97,24 @@ same-eqs (x ∷ a) (y ∷ b) e =
     let f = and-both (eqb x y) (eqs a b) e in
     cc (eqb-true x y (f .0), same-eqs a b (f .1))
 
--- the walk of `place_in`: word k is w, or the rest of the words are looked at
-module _ (l w : List ℕ) (k n : ℕ) where
-  pub place-stop : k < n → eqs (wordOf l k) w ≡ true → placeFrom l w k (n - k) ≡ k
-  unfolding placeFrom
-  place-stop h e =
-      let f : n - k ≡ suc (n - (k + 1)) = omega arith in
-      rw (f, e)
+-- the walk of `place_in`: word k, from s to e, is w, or the words behind it are looked at
+module _ (l w : List ℕ) (k n s e : ℕ) (r : Bool) (h : k < n) (p : part l s e ≡ wordOf l k) (q : r ≡ eqs (part l s e) w) where
+  left : n - k ≡ suc (n - (k + 1))
+  left = omega arith
 
-  pub place-on : k < n → eqs (wordOf l k) w ≡ false → placeFrom l w k (n - k) ≡ placeFrom l w (k + 1) (n - (k + 1))
-  unfolding placeFrom
-  place-on h e =
-      let f : n - k ≡ suc (n - (k + 1)) = omega arith in
-      rw (f, e, add-one k)
+  test : eqs (wordOf l k) w ≡ r
+  test = rw (← p) (sym q)
 
-  pub place-end : n ≤ k → placeFrom l w k (n - k) ≡ k
+  pub place-stop : r ≡ true → placeFrom l w k (n - k) ≡ k
   unfolding placeFrom
-  place-end h =
-      let f : n - k ≡ 0 = omega arith in
-      rw f
+  place-stop f = rw (left, test, f)
+
+  pub place-on : r ≡ false → placeFrom l w k (n - k) ≡ placeFrom l w (k + 1) (n - (k + 1))
+  unfolding placeFrom
+  place-on f = rw (left, test, f, add-one k)
+
+pub place-end : (l w : List ℕ) (k n : ℕ) → n ≤ k → placeFrom l w k (n - k) ≡ k
+unfolding placeFrom
+place-end l w k n h =
+    let f : n - k ≡ 0 = omega arith in
+    rw f

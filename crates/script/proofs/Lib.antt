@@ -5,3 +5,4 @@ pub mod Said
 pub mod Filled
 pub mod Paired
 pub mod Xors
+pub mod Printed

@@ -3,3 +3,4 @@ pub mod Words
 pub mod Numbers
 pub mod Fills
 pub mod Sums
+pub mod Prints

@@ -1,10 +1,9 @@
 -- `place_in` meets its contract. None of the first k words is w, and the walk is where they are over.
-use Prim.Native.Nat.{ℕ, _+_, _≤_, _<_, _-_, _*_}
+use Prim.Native.Nat.{_+_, _≤_, _<_, _-_, _*_}
 use mathlib.Core.Path.{_≡_, ap, sym, _∙_}
-use mathlib.Core.List.{List}
 use native.Mathlib.Nat.{sub-zero}
 use lib.ListN.{length, drop}
-use Rattle.script.specs.Words.{eqs, over, placeFrom, placeOf}
+use Rattle.script.specs.Words.{over, placeFrom, placeOf}
 use Rattle.script.proofs.Found.{place-on, place-stop, place-end}
 use Rattle.script.proofs.Passing.{over-more, word-is}
 use borrow.Author.Needs.{needs}
@@ -38,8 +37,7 @@ returns c =
     let l = c .before .before .before .before .before .loop in
     let a = c .before .before .before .before .before .before .before .before .args in
     let w = word-is (a .list .now) (l .k) (l .at) _ _ (l .inv .1) (c .before .before .before .pass .ensures .0) (c .before .before .pass2 .ensures .0) in
-    let f = ap (λ (p : List ℕ). eqs p (a .w .now)) (sym w) ∙ sym (c .before .same-part .ensures) ∙ c .if1 .taken in
-    sym (l .inv .0 ∙ place-stop (a .list .now) (a .w .now) (l .k) (length (a .list .now)) (omega arith) f)
+    sym (l .inv .0 ∙ place-stop (a .list .now) (a .w .now) (l .k) (length (a .list .now)) (c .before .before .before .pass .result) (c .before .before .pass2 .result) _ (omega arith) w (c .before .same-part .ensures) (c .if1 .taken))
 
 add-k : tie.Need-add-k Inv-loop μ-loop
 add-k c = search needs
@@ -53,9 +51,8 @@ loop-again c =
     let a = c .before .before .before .before .before .before .before .before .args in
     let p = c .before .before .before .pass .ensures .0 in
     let q = c .before .before .pass2 .ensures .0 in
-    let w = word-is (a .list .now) (l .k) (l .at) _ _ (l .inv .1) p q in
-    let f = ap (λ (x : List ℕ). eqs x (a .w .now)) (sym w) ∙ sym (c .before .same-part .ensures) ∙ c .if1 .left in (
-      l .inv .0 ∙ place-on (a .list .now) (a .w .now) (l .k) (length (a .list .now)) (omega arith) f,
+    let w = word-is (a .list .now) (l .k) (l .at) _ _ (l .inv .1) p q in (
+      l .inv .0 ∙ place-on (a .list .now) (a .w .now) (l .k) (length (a .list .now)) (c .before .before .before .pass .result) (c .before .before .pass2 .result) _ (omega arith) w (c .before .same-part .ensures) (c .if1 .left),
       over-more (a .list .now) (l .k) (l .at) _ _ (l .inv .1) p q,
       search needs,
       search needs,
