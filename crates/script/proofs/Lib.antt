@@ -6,3 +6,5 @@ pub mod Filled
 pub mod Paired
 pub mod Xors
 pub mod Printed
+pub mod Meant
+pub mod Vectors
