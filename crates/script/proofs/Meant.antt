@@ -3,16 +3,16 @@ use mathlib.Core.Path.{_≡_, refl, sym, ap, _∙_}
 use mathlib.Core.Bool.{Bool, true, false, not, Bool·beq}
 use mathlib.Core.List.{List, [], _∷_}
 use Prim.Native.Nat.{ℕ, zero, suc, _+_, _-_, _*_, _^_, _≤_, _<_}
-use native.Mathlib.Nat.{add-assoc, add-mul, mul-assoc, mul-comm, mul-one, pow-suc, pow-zero}
+use native.Mathlib.Nat.{le-mul-of-pos-right, one-le-pow, add-assoc, add-mul, mul-assoc, mul-comm, mul-one, pow-suc, pow-zero}
 use native.Mathlib.Omega.{arith}
-use borrow.Author.Tests.{eqb-true, eqb-false}
+use borrow.Author.Tests.{eqb-true, eqb-false, le-leb, lt-ltb, ltb-false, ltb-true}
 use lib.Dec.{eqb, leb, ltb}
 use lib.ListN.{length, take, drop, getD, length-drop, length-take}
 use lib.Seq.{getD-drop, getD-take}
 use Rattle.lists.proofs.Cases.{by-test}
 use Rattle.script.specs.declared.Value.{Value}
 use Rattle.script.specs.declared.Value.the-variants as value
-use Rattle.script.specs.Words.{eqs, over, part, passed, placeFrom, placeOf, startsFrom, wordEnd, wordOf, wordStart}
+use Rattle.script.specs.Words.{before, eqs, lastEnd, over, passed, placeFrom, placeOf, startsFrom, wordEnd, wordOf, wordStart}
 use Rattle.script.specs.Numbers.{base, digitOf, joined, said}
 use Rattle.script.proofs.Passing.{pass-low}
 use Rattle.script.proofs.Found.{eqs-same, same-eqs}
@@ -72,6 +72,43 @@ word-ended t k h =
     let s = startsFrom t (over t k) in
     rw (← getD-drop s t (passed false (drop s t)) 0) (passed-stop false (drop s t) (omega (arith, length-drop s t)))
 
+-- the byte that is found is the one sought, and no earlier one is
+pub before-is : (b : ℕ) (t : List ℕ) → before b t < length t → getD t (before b t) 0 ≡ b
+unfolding before
+before-is b [] h = absurd (omega arith)
+before-is b (x ∷ t) h =
+    by-test (eqb x b) (λ e. rw e (eqb-true x b e)) (λ e. rw e (before-is b t (omega (arith, rw e at h))))
+
+pub before-none : (b : ℕ) (t : List ℕ) (i : ℕ) → i < before b t → getD t i 0 ≡ b → ⊥
+unfolding before
+before-none b [] i h p = omega arith
+before-none b (x ∷ t) zero h p = by-test (eqb x b) (λ e. omega (arith, rw e at h)) (λ e. eqb-false x b e p)
+before-none b (x ∷ t) (suc i) h p = by-test (eqb x b) (λ e. omega (arith, rw e at h)) (λ e. before-none b t i (omega (arith, rw e at h)) p)
+
+-- behind the last word all is blank, and its last byte is not
+shorter : (x : ℕ) (t : List ℕ) (i : ℕ) → lastEnd (x ∷ t) ≤ suc i → lastEnd t ≤ i
+unfolding lastEnd
+shorter x t i h = by-test (eqb (lastEnd t) 0) (λ e. omega (arith, eqb-true (lastEnd t) 0 e)) (λ e. omega (arith, rw e at h))
+
+pub last-blank : (t : List ℕ) (i : ℕ) → lastEnd t ≤ i → i < length t → getD t i 0 < 33
+unfolding lastEnd
+last-blank [] i h k = absurd (omega arith)
+last-blank (x ∷ t) zero h k =
+    by-test (eqb (lastEnd t) 0)
+    (λ e. by-test (ltb x 33) (λ f. ltb-true x 33 f) (λ f. absurd (omega (arith, rw (e, f) at h))))
+    (λ e. absurd (omega (arith, rw e at h)))
+last-blank (x ∷ t) (suc i) h k = last-blank t i (shorter x t i h) (omega arith)
+
+pub last-word : (t : List ℕ) → 0 < lastEnd t → 32 < getD t (lastEnd t - 1) 0
+unfolding lastEnd
+last-word [] h = absurd (omega arith)
+last-word (x ∷ t) h =
+    by-test (eqb (lastEnd t) 0)
+    (λ e. by-test (ltb x 33) (λ f. absurd (omega (arith, rw (e, f) at h))) (λ f. rw (e, f) (ltb-false x 33 f)))
+    (λ e. let z : lastEnd t ≡ 0 → ⊥ = eqb-false (lastEnd t) 0 e in
+      let q : suc (lastEnd t) - 1 ≡ suc (lastEnd t - 1) = omega arith in
+      rw (e, q) (last-word t (omega arith)))
+
 -- the word at the place that is found is the one sought, and no earlier one is
 from-is : (l w : List ℕ) (k n : ℕ) → placeFrom l w k n < k + n → wordOf l (placeFrom l w k n) ≡ w
 unfolding placeFrom
@@ -113,3 +150,24 @@ said-is hex v (x ∷ t) n h =
     (λ f. said-is hex (v * base hex + digitOf x) t n (rw (e, f) at h) ∙ one-more v (base hex) (digitOf x) (base hex ^ length t) (worth (base hex) t) ∙ rw (pow-suc (base hex) (length t)))
     (λ f. let z : _≡_ {A = ℕ} 0 1 = let g = rw (e, f) at h in cc in clash z))
     (λ e. let z : _≡_ {A = ℕ} 0 1 = let g = rw e at h in cc in clash z)
+
+-- and every text of digits whose number fits says it
+positive : (hex : Bool) → 0 < base hex
+positive true = omega arith
+positive false = omega arith
+
+fits : (m p w n : ℕ) → 0 < p → m * p + w ≤ n → m ≤ n
+fits m p w n h k = omega (arith, le-mul-of-pos-right m h)
+
+pub said-all : (hex : Bool) (v : ℕ) (t : List ℕ) → ((i : ℕ) → i < length t → digitOf (getD t i 0) < base hex) → v * base hex ^ length t + worth (base hex) t ≤ 18446744073709551615 → said hex v t ≡ value.Is (v * base hex ^ length t + worth (base hex) t)
+unfolding said joined
+said-all hex v [] d h =
+    let e : v ≡ v * base hex ^ 0 + 0 = rw (pow-zero (base hex), mul-one v) (omega arith) in
+    ap value.Is e
+said-all hex v (x ∷ t) d h =
+    let b = base hex in
+    let q : (v * b + digitOf x) * b ^ length t + worth b t ≡ v * b ^ suc (length t) + (digitOf x * b ^ length t + worth b t) = one-more v b (digitOf x) (b ^ length t) (worth b t) ∙ rw (pow-suc b (length t)) in
+    let k : (v * b + digitOf x) * b ^ length t + worth b t ≤ 18446744073709551615 = rw q h in
+    let f : v * b + digitOf x ≤ 18446744073709551615 = fits (v * b + digitOf x) (b ^ length t) (worth b t) 18446744073709551615 (one-le-pow (length t) b (positive hex)) k in
+    rw (lt-ltb (digitOf x) b (d 0 (omega arith)), le-leb (v * b + digitOf x) 18446744073709551615 f)
+    (said-all hex (v * b + digitOf x) t (λ i u. d (suc i) (omega arith)) k ∙ ap value.Is q)
