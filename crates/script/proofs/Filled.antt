@@ -1,24 +1,19 @@
 -- Laws of the bytes that are put into a lent slice.
-use mathlib.Core.Path.{_≡_, refl, sym, ap, _∙_}
+use mathlib.Core.Path.{_≡_, refl, ap, _∙_}
 use mathlib.Core.Bool.{Bool, true, false, _&&_}
 use mathlib.Core.List.{List, [], _∷_, _++_, append-nil}
 use Prim.Native.Nat.{ℕ, zero, suc, _+_, _-_, _*_, _/_, _%_, _≤_, _<_, min}
-use native.Mathlib.Nat.{zero-add, add-zero, suc-add, add-suc, zero-min, min-zero, suc-min-suc}
+use native.Mathlib.Nat.{zero-add, zero-min, min-zero, suc-min-suc}
 use native.Mathlib.Numerals.{add-one}
 use native.Mathlib.Omega.{arith}
-use borrow.Author.Tests.{eq-eqb, ne-eqb, le-leb, lt-leb, lt-ltb, le-ltb}
+use borrow.Author.Tests.{le-leb, lt-leb}
 use borrow.Rule.Slice.PartMut.{putMid}
-use lib.Dec.{eqb, leb, ltb}
-use lib.ListN.{take-append-drop, length, take, drop, getD, set, replicate, length-append, length-take, length-drop, length-replicate, length-set}
-use lib.Seq.{sets-eq, drop-drop, drop-cons, drop-length, length-take-le, length-sets, sets, take-all, take-suc}
+use lib.Dec.{leb}
+use lib.ListN.{take-append-drop, length, take, drop, getD, set, replicate, length-append, length-take, length-drop, length-replicate}
+use lib.Seq.{sets-eq, drop-drop, drop-length, length-take-le, length-sets, sets, take-all, take-suc}
 use Rattle.lists.specs.Pick.{pick}
 use Rattle.lists.proofs.Stores.{drop-sets, filled, put-sets, sets-at, sets-more, sets-whole}
-use Rattle.script.specs.declared.Fault.{Fault}
-use Rattle.script.specs.declared.Fault.the-variants as fault
-use Rattle.script.specs.declared.Value.{Value}
-use Rattle.script.specs.declared.Value.the-variants as value
-use Rattle.script.specs.Numbers.{digitOf}
-use Rattle.script.specs.Fills.{appended, copied, generated, hexAnswer, hexFilled, holds, made, pairs, wiped}
+use Rattle.script.specs.Fills.{appended, copied, generated, holds, made, wiped}
 
 -- one more byte of a run
 pub store-more : (l d : List ℕ) (i : ℕ) → i < length d → set (sets l 0 (take i d)) i (getD d i 0) ≡ sets l 0 (take (i + 1) d)

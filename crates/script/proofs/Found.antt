@@ -1,17 +1,14 @@
 -- Laws of `lastEnd`, `eqs` and `placeFrom`.
 use mathlib.Core.Path.{_≡_, refl, sym, ap, _∙_}
-use mathlib.Core.Bool.{Bool, true, false, not, Bool·beq, _&&_}
+use mathlib.Core.Bool.{Bool, true, false, _&&_}
 use mathlib.Core.List.{List, [], _∷_, _++_}
-use Prim.Native.Nat.{ℕ, zero, suc, _+_, _-_, _≤_, _<_}
-use native.Mathlib.Nat.{add-suc, suc-add, add-zero}
+use Prim.Native.Nat.{ℕ, suc, _+_, _-_, _≤_, _<_}
 use native.Mathlib.Numerals.{add-one}
 use native.Mathlib.Omega.{arith}
 use borrow.Author.Tests.{eq-eqb, ne-eqb, eqb-true, lt-ltb, le-ltb}
-use lib.Dec.{eqb, ltb}
-use lib.ListN.{length, take, drop, getD, length-drop}
+use lib.Dec.{eqb}
+use lib.ListN.{length, take, drop, getD}
 use lib.Seq.{drop-cons, drop-length, length-take-le, take-suc}
-use Rattle.lists.specs.Pick.{pick}
-use Rattle.lists.proofs.Cases.{by-test}
 use Rattle.script.specs.Words.{lastEnd, eqs, part, placeFrom, wordOf}
 
 clash : {A : Type 0} → _≡_ {A = ℕ} 0 1 → A

@@ -1,4 +1,4 @@
--- The laws of words, digits, numbers and bytes put into a slice.
+-- The laws of words, numbers, bytes put into a slice, check sums and lines of output; what the definitions mean; worked examples.
 pub mod Passing
 pub mod Found
 pub mod Said

@@ -3,14 +3,13 @@ use mathlib.Core.Path.{_≡_, refl, sym, ap, _∙_}
 use mathlib.Core.Bool.{Bool, true, false, not, Bool·beq}
 use mathlib.Core.List.{List, [], _∷_}
 use Prim.Native.Nat.{ℕ, zero, suc, _+_, _-_, _*_, _^_, _≤_, _<_}
-use native.Mathlib.Nat.{le-mul-of-pos-right, one-le-pow, add-assoc, add-mul, mul-assoc, mul-comm, mul-one, pow-suc, pow-zero}
+use native.Mathlib.Nat.{add-zero, le-mul-of-pos-right, one-le-pow, add-assoc, add-mul, mul-assoc, mul-comm, mul-one, pow-suc, pow-zero}
 use native.Mathlib.Omega.{arith}
 use borrow.Author.Tests.{eqb-true, eqb-false, le-leb, lt-ltb, ltb-false, ltb-true}
 use lib.Dec.{eqb, leb, ltb}
-use lib.ListN.{length, take, drop, getD, length-drop, length-take}
+use lib.ListN.{length, drop, getD, length-drop, length-take}
 use lib.Seq.{getD-drop, getD-take}
 use Rattle.lists.proofs.Cases.{by-test}
-use Rattle.script.specs.declared.Value.{Value}
 use Rattle.script.specs.declared.Value.the-variants as value
 use Rattle.script.specs.Words.{before, eqs, lastEnd, over, passed, placeFrom, placeOf, startsFrom, wordEnd, wordOf, wordStart}
 use Rattle.script.specs.Numbers.{base, digitOf, joined, said}
@@ -106,8 +105,8 @@ last-word (x ∷ t) h =
     by-test (eqb (lastEnd t) 0)
     (λ e. by-test (ltb x 33) (λ f. absurd (omega (arith, rw (e, f) at h))) (λ f. rw (e, f) (ltb-false x 33 f)))
     (λ e. let z : lastEnd t ≡ 0 → ⊥ = eqb-false (lastEnd t) 0 e in
-      let q : suc (lastEnd t) - 1 ≡ suc (lastEnd t - 1) = omega arith in
-      rw (e, q) (last-word t (omega arith)))
+    let q : suc (lastEnd t) - 1 ≡ suc (lastEnd t - 1) = omega arith in
+    rw (e, q) (last-word t (omega arith)))
 
 -- the word at the place that is found is the one sought, and no earlier one is
 from-is : (l w : List ℕ) (k n : ℕ) → placeFrom l w k n < k + n → wordOf l (placeFrom l w k n) ≡ w
@@ -130,6 +129,37 @@ place-is l w h = from-is l w 0 (length l) (omega arith)
 
 pub place-first : (l w : List ℕ) (j : ℕ) → j < placeOf l w → wordOf l j ≡ w → ⊥
 place-first l w j h = from-first l w 0 (length l) j (omega arith) h
+
+-- each word takes a byte or more, so a word that stands in the list is found
+taken : (t : List ℕ) (a : ℕ) → startsFrom t a < length t → 0 < passed false (drop (startsFrom t a) t)
+taken t a h =
+    let s = startsFrom t a in
+    let p : ltb (getD t s 0) 33 ≡ false = sym (ap (λ (x : ℕ). ltb x 33) (getD-drop a t (passed true (drop a t)) 0)) ∙ passed-stop true (drop a t) (omega (arith, length-drop a t)) in
+    by-test (eqb (passed false (drop s t)) 0)
+    (λ e.
+    let z : passed false (drop s t) ≡ 0 = eqb-true (passed false (drop s t)) 0 e in
+    let q : ltb (getD (drop s t) (passed false (drop s t)) 0) 33 ≡ true = passed-stop false (drop s t) (omega (arith, length-drop s t)) in
+    let r : ltb (getD t s 0) 33 ≡ true = sym (ap (λ (x : ℕ). ltb x 33) (getD-drop s t 0 0 ∙ ap (λ (i : ℕ). getD t i 0) (add-zero s))) ∙ (rw z at q) in
+    clash (cc))
+    (λ e. let z : passed false (drop s t) ≡ 0 → ⊥ = eqb-false (passed false (drop s t)) 0 e in omega arith)
+
+over-high : (t : List ℕ) (k : ℕ) → over t k < length t → k ≤ over t k
+unfolding over
+over-high t zero h = omega arith
+over-high t (suc k) h = omega (arith, over-high t k (omega arith), taken t (over t k) (omega arith))
+
+word-low : (t : List ℕ) (k : ℕ) → 0 < length (wordOf t k) → k < length t
+unfolding wordOf wordStart wordEnd over
+word-low t k h =
+    let s = startsFrom t (over t k) in
+    let l : s < length t = omega (arith, length-take (s + passed false (drop s t) - s) (drop s t), length-drop s t) in
+    omega (arith, over-high t k (omega arith))
+
+pub place-all : (l w : List ℕ) (k : ℕ) → 0 < length w → wordOf l k ≡ w → placeOf l w < length l
+place-all l w k h e =
+    let n : k < length l = word-low l k (rw e h) in
+    by-test (ltb (placeOf l w) (length l)) (λ f. ltb-true (placeOf l w) (length l) f)
+    (λ f. let g : length l ≤ placeOf l w = ltb-false (placeOf l w) (length l) f in absurd (place-first l w k (omega arith) e))
 
 -- the number that digits are in base b
 abbrev pub worth : ℕ → List ℕ → ℕ

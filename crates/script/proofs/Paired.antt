@@ -1,18 +1,13 @@
 -- Laws of the bytes that pairs of digits give.
-use mathlib.Core.Path.{_≡_, refl, sym, ap, _∙_}
-use mathlib.Core.Bool.{Bool, true, false, _&&_}
+use mathlib.Core.Path.{_≡_, refl, ap, _∙_}
 use mathlib.Core.List.{List, [], _∷_}
-use Prim.Native.Nat.{ℕ, zero, suc, _+_, _-_, _*_, _/_, _%_, _≤_, _<_}
+use Prim.Native.Nat.{ℕ, zero, suc, _+_, _*_, _/_, _%_, _≤_, _<_}
 use native.Mathlib.Numerals.{add-one}
 use native.Mathlib.Omega.{arith}
 use borrow.Author.Tests.{eq-eqb, ne-eqb, lt-ltb, le-ltb}
-use lib.Dec.{eqb, ltb}
 use lib.ListN.{length, take, drop, getD, set, length-drop}
-use lib.Seq.{drop-cons, drop-length, drop-nil, sets, take-all}
-use Rattle.lists.specs.Pick.{pick}
-use Rattle.script.specs.declared.Fault.{Fault}
+use lib.Seq.{drop-cons, drop-length, sets, take-all}
 use Rattle.script.specs.declared.Fault.the-variants as fault
-use Rattle.script.specs.declared.Value.{Value}
 use Rattle.script.specs.declared.Value.the-variants as value
 use Rattle.script.specs.Numbers.{digitOf}
 use Rattle.script.specs.Fills.{hexAnswer, hexFilled, pairs}

@@ -1,17 +1,16 @@
 -- Laws of `passed` and `before`: a byte that is passed, one that is not, and the text's end.
-use mathlib.Core.Path.{_≡_, refl, sym, ap, _∙_}
+use mathlib.Core.Path.{_≡_}
 use mathlib.Core.Bool.{Bool, true, false, not, Bool·beq}
 use mathlib.Core.List.{List, [], _∷_}
-use Prim.Native.Nat.{ℕ, zero, suc, _+_, _-_, _≤_, _<_}
-use native.Mathlib.Nat.{add-suc, suc-add, add-zero}
+use Prim.Native.Nat.{ℕ, suc, _+_, _≤_, _<_}
 use native.Mathlib.Numerals.{add-one}
 use native.Mathlib.Omega.{arith}
 use borrow.Author.Tests.{eq-eqb, ne-eqb, not-true, not-false}
 use lib.Dec.{eqb, ltb}
-use lib.ListN.{length, take, drop, getD, length-drop}
+use lib.ListN.{length, drop, getD, length-drop}
 use lib.Seq.{drop-cons, drop-length}
 use Rattle.lists.specs.Pick.{pick}
-use Rattle.script.specs.Words.{passed, before, over, startsFrom, endsFrom, wordStart, wordEnd, wordOf, part}
+use Rattle.script.specs.Words.{passed, before, over, startsFrom, wordStart, wordEnd, wordOf, part}
 
 either-low : (r : Bool) (a b n : ℕ) → a ≤ n → b ≤ n → pick r a b ≤ n
 either-low true a b n h k = h

@@ -1,8 +1,8 @@
 -- Laws of what is put into a line of output.
-use mathlib.Core.Path.{_≡_, refl, sym, ap, _∙_}
+use mathlib.Core.Path.{_≡_, sym, ap, _∙_}
 use mathlib.Core.List.{List, [], _∷_, _++_}
-use Prim.Native.Nat.{ℕ, zero, suc, _+_, _-_, _*_, _^_, _≤_, _<_, min}
-use native.Mathlib.Nat.{pow-le-pow-right, suc-sub-suc, sub-zero, zero-min, suc-min-suc}
+use Prim.Native.Nat.{ℕ, zero, suc, _+_, _-_, _≤_, _<_, min}
+use native.Mathlib.Nat.{pow-le-pow-right, suc-sub-suc, sub-zero, zero-min}
 use native.Mathlib.Omega.{arith}
 use borrow.Rule.Slice.PartMut.{putMid}
 use borrow.Author.Tests.{leb-false, leb-true}
@@ -13,7 +13,7 @@ use Rattle.lists.proofs.Cases.{by-test}
 use Rattle.lists.proofs.Stores.{sets-at}
 use Rattle.io.specs.Digits.{digits, Fewest}
 use Rattle.script.specs.Fills.{copied}
-use Rattle.script.specs.Prints.{Labelled, nextAt, Put, putAt, Spelled}
+use Rattle.script.specs.Prints.{Put, putAt, Spelled}
 use Rattle.script.proofs.Filled.{copied-part}
 
 -- behind the slice's end nothing is put

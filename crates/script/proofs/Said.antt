@@ -1,19 +1,18 @@
 -- Laws of digits and of the numbers that they say.
-use mathlib.Core.Path.{_≡_, refl, sym, ap, _∙_}
+use mathlib.Core.Path.{_≡_}
 use mathlib.Core.Bool.{Bool, true, false, _&&_}
-use mathlib.Core.List.{List, [], _∷_}
-use Prim.Native.Nat.{ℕ, zero, suc, _+_, _-_, _*_, _≤_, _<_}
+use mathlib.Core.List.{List}
+use Prim.Native.Nat.{ℕ, _+_, _-_, _*_, _≤_, _<_}
 use native.Mathlib.Numerals.{add-one}
 use native.Mathlib.Omega.{arith}
 use borrow.Author.Tests.{eq-eqb, ne-eqb, le-leb, lt-leb, lt-ltb, le-ltb}
-use lib.Dec.{eqb, leb, ltb}
+use lib.Dec.{eqb}
 use lib.ListN.{length, drop, getD}
 use lib.Seq.{drop-cons, drop-length}
 use Rattle.script.specs.declared.Fault.{Fault}
 use Rattle.script.specs.declared.Fault.the-variants as fault
 use Rattle.script.specs.declared.Value.{Value}
 use Rattle.script.specs.declared.Value.the-variants as value
-use Rattle.script.specs.declared.Three.{Three}
 use Rattle.script.specs.declared.Three.the-variants as three
 use Rattle.script.specs.Words.{wordOf}
 use Rattle.script.specs.Numbers.{base, between, digitOf, hexed, joined, numberOf, said, threeOf, wantedOf}

@@ -1,10 +1,9 @@
 -- Words, numbers and check sums worked out.
 use mathlib.Core.Path.{_≡_, refl}
-use mathlib.Core.List.{List, [], _∷_}
-use Prim.Native.Nat.{ℕ}
+use mathlib.Core.List.{[], _∷_}
 use Rattle.script.specs.declared.Fault.the-variants as fault
 use Rattle.script.specs.declared.Value.the-variants as value
-use Rattle.script.specs.Words.{before, eqs, lastEnd, over, passed, placeFrom, placeOf, wordEnd, wordOf, wordStart}
+use Rattle.script.specs.Words.{eqs, lastEnd, over, passed, placeFrom, placeOf, wordEnd, wordOf, wordStart}
 use Rattle.script.specs.Numbers.{digitOf, hexed, joined, numberOf, said}
 use Rattle.script.specs.Fills.{generated, pairs}
 use Rattle.script.specs.Sums.{crc32, step, steps, summed}

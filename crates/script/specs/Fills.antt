@@ -1,5 +1,5 @@
 -- Bytes put into a lent slice.
-use mathlib.Core.Bool.{Bool, true, false, _&&_}
+use mathlib.Core.Bool.{Bool, _&&_}
 use mathlib.Core.List.{List, [], _∷_, _++_}
 use Prim.Native.Nat.{ℕ, zero, suc, _+_, _-_, _*_, _/_, _%_}
 use lib.Dec.{eqb, leb, ltb}
@@ -40,12 +40,13 @@ pairs [] = []
 pairs (x ∷ []) = []
 pairs (x ∷ (y ∷ t)) = pick (ltb (digitOf x) 16 && ltb (digitOf y) 16) ((16 * digitOf x + digitOf y) ∷ pairs t) []
 
--- the bytes of a word of digits, where they are whole pairs and there is room for them: how many, or what is wrong; and what the slice has then
+-- a word read as pairs of digits, and its bytes put at a slice's front: how many there are, or what is wrong
 unfoldable pub hexAnswer : List ℕ → ℕ → Value
 hexAnswer t room =
     pick (eqb (length t % 2) 1) (value.Wrong fault.HexWrong)
     (pick (ltb room (length t / 2)) (value.Wrong fault.BeyondBuffers)
     (pick (eqb (length (pairs t)) (length t / 2)) (value.Is (length t / 2)) (value.Wrong fault.HexWrong)))
 
+-- what the slice has then: where a digit is wrong, the bytes before it are there
 unfoldable pub hexFilled : List ℕ → List ℕ → List ℕ
 hexFilled t b = pick (eqb (length t % 2) 1) b (pick (ltb (length b) (length t / 2)) b (sets b 0 (pairs t)))

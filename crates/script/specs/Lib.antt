@@ -1,4 +1,4 @@
--- What the text of a session script says: the words of a line, and which word of a list one is.
+-- What the text of a session script says: words, numbers, bytes put into a slice, check sums, and a line of output.
 pub mod Words
 pub mod Numbers
 pub mod Fills

@@ -1,5 +1,5 @@
 -- The words of a line: runs of bytes that are not blank. A byte is blank if it is below 33.
-use mathlib.Core.Bool.{Bool, true, false, not, Bool·beq, _&&_}
+use mathlib.Core.Bool.{Bool, true, false, Bool·beq, _&&_}
 use mathlib.Core.List.{List, [], _∷_}
 use Prim.Native.Nat.{ℕ, zero, suc, _+_, _-_}
 use lib.Dec.{eqb, ltb}
@@ -58,6 +58,6 @@ unfoldable pub placeFrom : List ℕ → List ℕ → ℕ → ℕ → ℕ
 placeFrom l w k zero = k
 placeFrom l w k (suc n) = pick (eqs (wordOf l k) w) k (placeFrom l w (suc k) n)
 
--- which word of a list w is; the list's length where it is none, since a list has no more words than bytes
+-- which word of a list w is; the list's length where it is none: a list has no more words than bytes, and beyond them all are empty
 abbrev pub placeOf : List ℕ → List ℕ → ℕ
 placeOf l w = placeFrom l w 0 (length l)

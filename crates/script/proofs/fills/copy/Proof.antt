@@ -1,5 +1,5 @@
 -- `copy` meets its contract. So far the first i bytes are there.
-use Prim.Native.Nat.{ℕ, _+_, _≤_, _<_, _-_, _*_}
+use Prim.Native.Nat.{ℕ, _≤_, _-_}
 use mathlib.Core.Path.{_≡_, ap, _∙_}
 use lib.ListN.{length, take, set, getD}
 use borrow.Author.Needs.{needs}

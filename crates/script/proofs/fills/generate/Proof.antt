@@ -1,5 +1,5 @@
 -- `generate` meets its contract. So far the first i bytes are there.
-use Prim.Native.Nat.{_+_, _≤_, _<_, _-_, _*_}
+use Prim.Native.Nat.{_≤_, _-_}
 use mathlib.Core.Path.{_≡_, _∙_}
 use lib.ListN.{length}
 use borrow.Author.Needs.{needs}

@@ -1,5 +1,5 @@
 -- `hex_bytes` meets its contract. So far i pairs were read, and their bytes stand at the front.
-use Prim.Native.Nat.{_+_, _≤_, _<_, _-_, _*_}
+use Prim.Native.Nat.{_≤_, _-_}
 use mathlib.Core.Path.{_≡_}
 use lib.ListN.{length}
 use borrow.Author.Needs.{needs}

@@ -1,5 +1,5 @@
 -- `digits` meets its contract. What the digits from here say behind the number so far is what all of them say.
-use Prim.Native.Nat.{_+_, _≤_, _<_, _-_, _*_}
+use Prim.Native.Nat.{_≤_, _-_}
 use mathlib.Core.Path.{_≡_, sym, _∙_}
 use lib.ListN.{length, drop}
 use Rattle.script.specs.Numbers.{said}

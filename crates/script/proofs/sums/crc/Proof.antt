@@ -1,5 +1,5 @@
 -- `crc` meets its contract. What the bytes from here make of the sum so far is what all of them make.
-use Prim.Native.Nat.{_+_, _≤_, _<_, _-_, _*_}
+use Prim.Native.Nat.{_≤_, _-_}
 use mathlib.Core.Path.{_≡_, _∙_}
 use lib.ListN.{length, drop}
 use Rattle.lists.specs.Words.{Bytes}

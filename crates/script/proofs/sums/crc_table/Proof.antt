@@ -1,5 +1,5 @@
 -- `crc_table` meets its contract. So far the first i entries are there.
-use Prim.Native.Nat.{_+_, _≤_, _<_, _-_, _*_}
+use Prim.Native.Nat.{_≤_, _-_}
 use mathlib.Core.Path.{_≡_}
 use lib.ListN.{length, take}
 use Rattle.script.specs.Sums.{tableTo}

@@ -1,5 +1,5 @@
 -- `find` meets its contract. Where the walk ends from here is where it ends from the start.
-use Prim.Native.Nat.{_+_, _≤_, _<_, _-_, _*_}
+use Prim.Native.Nat.{_+_, _≤_, _-_}
 use mathlib.Core.Path.{_≡_, sym, _∙_}
 use lib.ListN.{length, drop}
 use Rattle.script.specs.Words.{before}

@@ -1,5 +1,5 @@
 -- `last` meets its contract. Behind i there are only blanks.
-use Prim.Native.Nat.{_+_, _≤_, _<_, _-_, _*_}
+use Prim.Native.Nat.{_≤_}
 use mathlib.Core.Path.{_≡_, ap, sym, _∙_}
 use lib.ListN.{length, take}
 use lib.Seq.{take-length}

@@ -1,7 +1,7 @@
 -- `nth` meets its contract. So far the walk is where the first i words are over.
-use Prim.Native.Nat.{_+_, _≤_, _<_, _-_, _*_}
-use mathlib.Core.Path.{_≡_, refl}
-use lib.ListN.{length, drop}
+use Prim.Native.Nat.{_≤_, _-_}
+use mathlib.Core.Path.{_≡_}
+use lib.ListN.{length}
 use Rattle.script.specs.Words.{over}
 use Rattle.script.proofs.Passing.{over-more, word-starts, word-ends}
 use borrow.Author.Needs.{needs}

@@ -1,8 +1,8 @@
 -- `place_in` meets its contract. None of the first k words is w, and the walk is where they are over.
-use Prim.Native.Nat.{_+_, _≤_, _<_, _-_, _*_}
+use Prim.Native.Nat.{_≤_, _-_}
 use mathlib.Core.Path.{_≡_, ap, sym, _∙_}
 use native.Mathlib.Nat.{sub-zero}
-use lib.ListN.{length, drop}
+use lib.ListN.{length}
 use Rattle.script.specs.Words.{over, placeFrom, placeOf}
 use Rattle.script.proofs.Found.{place-on, place-stop, place-end}
 use Rattle.script.proofs.Passing.{over-more, word-is}

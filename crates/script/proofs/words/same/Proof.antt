@@ -1,5 +1,5 @@
 -- `same` meets its contract. So far the two texts are the same.
-use Prim.Native.Nat.{_+_, _≤_, _<_, _-_, _*_}
+use Prim.Native.Nat.{_≤_, _-_}
 use mathlib.Core.Path.{_≡_, sym, _∙_}
 use lib.ListN.{length, drop}
 use Rattle.script.specs.Words.{eqs}
