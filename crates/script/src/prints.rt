@@ -2,8 +2,13 @@
 use crate::fills::copy;
 use libc::STDOUT_FILENO;
 use lists::least;
+ghost use mathlib.Core.List.{[]};
+ghost use Prim.Native.Nat.{max, min};
+ghost use Rattle.script.specs.Prints.{Labelled, Put};
 
-pub fn put_bytes(out: &mut [u8], at: usize, b: &[u8]) -> usize {
+pub fn put_bytes(out: &mut [u8], at: usize, b: &[u8]) -> usize
+    ensures { λ r. ⌜ Put (now (out .entry)) at (now (b .entry)) (now (out .exit)) r ⌝ }
+{
     if out.len() < at {
         return at;
     }
@@ -11,19 +16,25 @@ pub fn put_bytes(out: &mut [u8], at: usize, b: &[u8]) -> usize {
     at + least(out.len() - at, b.len())
 }
 
-pub fn put_decimal(out: &mut [u8], at: usize, n: usize) -> usize {
+pub fn put_decimal(out: &mut [u8], at: usize, n: usize) -> usize
+    ensures { λ r. ⌜ Labelled 10 1 n [] (now (out .entry)) at (now (out .exit)) r ⌝ }
+{
     let mut text = [0u8; 20];
     let k = io::decimal(n as u64, &mut text);
     put_bytes(out, at, &text[..k])
 }
 
-pub fn put_hex(out: &mut [u8], at: usize, n: usize, width: usize) -> usize {
+pub fn put_hex(out: &mut [u8], at: usize, n: usize, width: usize) -> usize
+    ensures { λ r. ⌜ Labelled 16 (min (max width 1) 16) n [] (now (out .entry)) at (now (out .exit)) r ⌝ }
+{
     let mut text = [0u8; 16];
     let k = io::hex(n as u64, width, &mut text);
     put_bytes(out, at, &text[..k])
 }
 
-pub fn put_labelled(out: &mut [u8], at: usize, label: &[u8], n: usize) -> usize {
+pub fn put_labelled(out: &mut [u8], at: usize, label: &[u8], n: usize) -> usize
+    ensures { λ r. ⌜ Labelled 10 1 n (now (label .entry)) (now (out .entry)) at (now (out .exit)) r ⌝ }
+{
     let next = put_bytes(out, at, label);
     put_decimal(out, next, n)
 }

@@ -4,12 +4,18 @@ use crate::Three;
 use crate::Value;
 use crate::words::nth;
 use lists::wide;
-ghost use Prim.Native.Nat.{_≤_, _<_};
-ghost use lib.ListN.{length};
+ghost use mathlib.Core.Bool.{false, true};
+ghost use mathlib.Core.Path.{_≡_};
+ghost use Prim.Native.Nat.{_+_, _≤_, _<_};
+ghost use lib.ListN.{drop, length};
+ghost use Rattle.lists.specs.Pick.{pick};
+ghost use Rattle.script.specs.Words.{wordOf};
+ghost use Rattle.script.specs.Numbers.{digitOf, joined, numberOf, said, threeOf, wantedOf};
 
 // A hexadecimal digit's value; 16 where b is none.
 pub fn digit(b: u8) -> usize
-    ensures { λ r. ⌜ r ≤ 16 ⌝ }
+    ensures is { λ r. ⌜ r ≡ digitOf b ⌝ }
+    ensures low { λ r. ⌜ r ≤ 16 ⌝ }
 {
     let x = wide(b);
     if x < 48 {
@@ -33,7 +39,9 @@ pub fn digit(b: u8) -> usize
     16
 }
 
-fn decimal_more(value: usize, d: usize) -> Value {
+fn decimal_more(value: usize, d: usize) -> Value
+    ensures { λ r. ⌜ r ≡ joined false value d ⌝ }
+{
     if 9 < d {
         return Value::Wrong(Fault::NumberWrong);
     }
@@ -47,7 +55,9 @@ fn decimal_more(value: usize, d: usize) -> Value {
     Value::Is(tens + d)
 }
 
-fn hex_more(value: usize, d: usize) -> Value {
+fn hex_more(value: usize, d: usize) -> Value
+    ensures { λ r. ⌜ r ≡ joined true value d ⌝ }
+{
     if 15 < d {
         return Value::Wrong(Fault::NumberWrong);
     }
@@ -57,7 +67,9 @@ fn hex_more(value: usize, d: usize) -> Value {
     Value::Is(value * 16 + d)
 }
 
-fn more(value: usize, d: usize, hex: bool) -> Value {
+fn more(value: usize, d: usize, hex: bool) -> Value
+    ensures { λ r. ⌜ r ≡ joined hex value d ⌝ }
+{
     if hex {
         hex_more(value, d)
     } else {
@@ -68,6 +80,7 @@ fn more(value: usize, d: usize, hex: bool) -> Value {
 // The digits from `from` on.
 fn digits(text: &[u8], from: usize, hex: bool) -> Value
     requires { ⌜ from ≤ length (now text) ⌝ }
+    ensures { λ r. ⌜ r ≡ said hex 0 (drop from (now (text .entry))) ⌝ }
 {
     let mut value: usize = 0;
     let mut i = from;
@@ -81,7 +94,9 @@ fn digits(text: &[u8], from: usize, hex: bool) -> Value
     Value::Is(value)
 }
 
-pub fn number(text: &[u8]) -> Value {
+pub fn number(text: &[u8]) -> Value
+    ensures { λ r. ⌜ r ≡ numberOf (now (text .entry)) ⌝ }
+{
     if text.len() == 0 {
         return Value::Wrong(Fault::NumberMissing);
     }
@@ -95,7 +110,9 @@ pub fn number(text: &[u8]) -> Value {
 }
 
 // Word k of the line as a number.
-pub fn argument(text: &[u8], k: usize) -> Value {
+pub fn argument(text: &[u8], k: usize) -> Value
+    ensures { λ r. ⌜ r ≡ numberOf (wordOf (now (text .entry)) k) ⌝ }
+{
     let s = nth(text, k);
     let start = s.start;
     let end = s.end;
@@ -103,7 +120,9 @@ pub fn argument(text: &[u8], k: usize) -> Value {
 }
 
 // 0 beyond the last word that is to be a number.
-fn wanted(text: &[u8], k: usize, last: usize) -> Value {
+fn wanted(text: &[u8], k: usize, last: usize) -> Value
+    ensures { λ r. ⌜ r ≡ wantedOf (now (text .entry)) k last ⌝ }
+{
     if last < k {
         return Value::Is(0);
     }
@@ -113,6 +132,7 @@ fn wanted(text: &[u8], k: usize, last: usize) -> Value {
 // Words `first` to `last` as numbers, three at most.
 pub fn numbers(text: &[u8], first: usize, last: usize) -> Three
     requires { ⌜ first < 9 ⌝ }
+    ensures { λ r. ⌜ r ≡ threeOf (wantedOf (now (text .entry)) first last) (wantedOf (now (text .entry)) (first + 1) last) (wantedOf (now (text .entry)) (first + 2) last) ⌝ }
 {
     match wanted(text, first, last) {
         Value::Wrong(f) => Three::Wrong(f),
@@ -126,6 +146,8 @@ pub fn numbers(text: &[u8], first: usize, last: usize) -> Three
     }
 }
 
-pub fn flag(b: bool) -> usize {
+pub fn flag(b: bool) -> usize
+    ensures { λ r. ⌜ r ≡ pick b 1 0 ⌝ }
+{
     if b { 1 } else { 0 }
 }

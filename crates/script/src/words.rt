@@ -1,12 +1,15 @@
 // Words: runs of bytes that are not blank.
 use crate::Span;
+ghost use mathlib.Core.Path.{_≡_};
 ghost use Prim.Native.Nat.{_+_, _≤_, _<_};
-ghost use lib.ListN.{length};
+ghost use lib.ListN.{drop, length};
+ghost use Rattle.script.specs.Words.{before, eqs, lastEnd, part, passed, placeOf, wordEnd, wordOf, wordStart};
 
 // The first byte from `from` on that is not blank, or that is; the length where there is none.
 fn pass(text: &[u8], from: usize, blank: bool) -> usize
     requires { ⌜ from ≤ length (now text) ⌝ }
-    ensures { λ r. ⌜ (from ≤ r) × (r ≤ length (now (text .entry))) ⌝ }
+    ensures is { λ r. ⌜ r ≡ from + passed blank (drop from (now (text .entry))) ⌝ }
+    ensures within { λ r. ⌜ (from ≤ r) × (r ≤ length (now (text .entry))) ⌝ }
 {
     let mut i = from;
     while i < text.len() {
@@ -20,7 +23,9 @@ fn pass(text: &[u8], from: usize, blank: bool) -> usize
 
 // Word k, counted from 0.
 pub fn nth(text: &[u8], k: usize) -> Span
-    ensures { λ r. ⌜ (r .start ≤ r .end) × (r .end ≤ length (now (text .entry))) ⌝ }
+    ensures start { λ r. ⌜ r .start ≡ wordStart (now (text .entry)) k ⌝ }
+    ensures end { λ r. ⌜ r .end ≡ wordEnd (now (text .entry)) k ⌝ }
+    ensures within { λ r. ⌜ (r .start ≤ r .end) × (r .end ≤ length (now (text .entry))) ⌝ }
 {
     let mut at: usize = 0;
     let mut i: usize = 0;
@@ -37,7 +42,8 @@ pub fn nth(text: &[u8], k: usize) -> Span
 // Where byte b first stands from `from` on; the length where it doesn't.
 pub fn find(text: &[u8], from: usize, b: u8) -> usize
     requires { ⌜ from ≤ length (now text) ⌝ }
-    ensures { λ r. ⌜ (from ≤ r) × (r ≤ length (now (text .entry))) ⌝ }
+    ensures is { λ r. ⌜ r ≡ from + before b (drop from (now (text .entry))) ⌝ }
+    ensures within { λ r. ⌜ (from ≤ r) × (r ≤ length (now (text .entry))) ⌝ }
 {
     let mut i = from;
     while i < text.len() {
@@ -51,7 +57,8 @@ pub fn find(text: &[u8], from: usize, b: u8) -> usize
 
 // The end of the last word; 0 where there is none.
 pub fn last(text: &[u8]) -> usize
-    ensures { λ r. ⌜ r ≤ length (now (text .entry)) ⌝ }
+    ensures is { λ r. ⌜ r ≡ lastEnd (now (text .entry)) ⌝ }
+    ensures within { λ r. ⌜ r ≤ length (now (text .entry)) ⌝ }
 {
     let mut i = text.len();
     while 0 < i {
@@ -63,7 +70,9 @@ pub fn last(text: &[u8]) -> usize
     0
 }
 
-fn same(a: &[u8], b: &[u8]) -> bool {
+fn same(a: &[u8], b: &[u8]) -> bool
+    ensures { λ r. ⌜ r ≡ eqs (now (a .entry)) (now (b .entry)) ⌝ }
+{
     if a.len() != b.len() {
         return false;
     }
@@ -80,12 +89,15 @@ fn same(a: &[u8], b: &[u8]) -> bool {
 // Whether w is the word of the list that stands from `start` to `end`.
 fn same_part(list: &[u8], start: usize, end: usize, w: &[u8]) -> bool
     requires { ⌜ (start ≤ end) × (end ≤ length (now list)) ⌝ }
+    ensures { λ r. ⌜ r ≡ eqs (part (now (list .entry)) start end) (now (w .entry)) ⌝ }
 {
     same(&list[start..end], w)
 }
 
 // Which word of the list w is, counted from 0; the list's length where it is none. Each turn passes a word.
-pub fn place_in(list: &[u8], w: &[u8]) -> usize {
+pub fn place_in(list: &[u8], w: &[u8]) -> usize
+    ensures { λ r. ⌜ r ≡ placeOf (now (list .entry)) (now (w .entry)) ⌝ }
+{
     let mut at: usize = 0;
     let mut k: usize = 0;
     while k < list.len() {
@@ -100,7 +112,9 @@ pub fn place_in(list: &[u8], w: &[u8]) -> usize {
 }
 
 // Which word of the list word k of the line is.
-pub fn find_word(list: &[u8], text: &[u8], k: usize) -> usize {
+pub fn find_word(list: &[u8], text: &[u8], k: usize) -> usize
+    ensures { λ r. ⌜ r ≡ placeOf (now (list .entry)) (wordOf (now (text .entry)) k) ⌝ }
+{
     let s = nth(text, k);
     let start = s.start;
     let end = s.end;

@@ -1,19 +1,23 @@
--- `script::fills::generate` is safe and ends. Its loop keeps its index inside and its slices as long as they came.
-use Prim.Native.Nat.{_+_, _≤_, _<_, _-_, _*_}
-use mathlib.Core.Path.{_≡_, refl}
+-- `generate` meets its contract. So far the first i bytes are there.
+use Prim.Native.Nat.{_≤_, _-_}
+use mathlib.Core.Path.{_≡_, _∙_}
 use lib.ListN.{length}
 use borrow.Author.Needs.{needs}
+use lib.Seq.{sets}
+use Rattle.script.specs.Fills.{generated}
+use Rattle.script.proofs.Filled.{generate-end, generate-more}
 use native.Mathlib.Omega.{arith}
 use Rattle.script.proofs.fills.generate.Statement.{statement}
 use Rattle.script.proofs.fills.generate.Tie as tie
 
 abbrev Inv-loop : tie.InvT-loop
-Inv-loop b₀ seed start i₀ b i = (i ≤ length b₀) × (length b ≡ length b₀)
+Inv-loop b₀ seed start i₀ b i = (i ≤ length b₀) × (length b ≡ length b₀) × (b ≡ sets b₀ 0 (generated seed i))
 
 abbrev μ-loop : tie.MeasureT-loop
 μ-loop b₀ seed start i₀ b i = length b₀ - i
 
 loop-holds : tie.Need-loop-holds Inv-loop μ-loop
+unfolding generated
 loop-holds c = search needs
 
 mul-b : tie.Need-mul-b Inv-loop μ-loop
@@ -41,13 +45,19 @@ loop-less : tie.Need-loop-less Inv-loop μ-loop
 loop-less c = search needs
 
 loop-again : tie.Need-loop-again Inv-loop μ-loop
-loop-again c = search needs
+loop-again c =
+    let a = c .before .before .args in
+    let l = c .before .loop in
+    (search needs, search needs, generate-more (a .b .now) (l .b) (a .seed) (l .i) (l .inv .2))
 
 same-length : tie.Need-same-length Inv-loop μ-loop
 same-length c = search needs
 
 returns : tie.Need-returns Inv-loop μ-loop
-returns c = search needs
+returns c =
+    let a = c .before .before .args in
+    let l = c .before .loop in
+    l .inv .2 ∙ generate-end (a .b .now) (a .seed) (l .i) (omega arith)
 
 pub generate-spec : {M : Type 1} → statement M
 generate-spec =
