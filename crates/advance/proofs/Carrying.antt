@@ -23,20 +23,20 @@ use Rattle.motions.specs.Parts.{end, standing}
 use Rattle.motions.specs.Writes.{retried, writtenAt}
 use Rattle.motions.specs.declared.parts.Laid.{Laid}
 use Rattle.motions.specs.declared.parts.Motion.the-variants as motion
-use Rattle.motions.specs.declared.parts.Moving.{Moving}
-use Rattle.motions.specs.declared.parts.Object.{Object}
-use Rattle.motions.specs.declared.parts.Object.the-variants as object
-use Rattle.motions.specs.declared.reads.Reading.{Reading}
+use Rattle.motions.specs.declared.parts.Ending.{Ending}
+use Rattle.motions.specs.declared.parts.ObjectKind.{ObjectKind}
+use Rattle.motions.specs.declared.parts.ObjectKind.the-variants as kind
+use Rattle.motions.specs.declared.reads.Buffer.{Buffer}
 use Rattle.motions.proofs.Fit.{ReadFits, SpaceFits, WriteFits, read-one-fits, reread-fits, retry-fits, space-fits, write-fits}
 use Rattle.commands.specs.Commands.{asked, carriedOut, characteristicsAt, characterized, formatted, laidHere, plainEffect, plainEnd, positionedBy, readBy, refusedCharacteristics, released, rereadBy, rewound, takenCharacteristics, unloaded, withCharacteristics, withNba, writtenBy}
 use Rattle.commands.specs.Effects.{withTape}
 use Rattle.commands.specs.declared.effects.Notice.the-variants as notice
 use Rattle.advance.proofs.Extents.{hasData}
-use Rattle.advance.proofs.Sound.{MovingFits, SoundRan, effect-sound, motion-sound, no-lay-fits, no-move-fits}
+use Rattle.advance.proofs.Sound.{EndingFits, SoundRan, effect-sound, motion-sound, no-lay-fits, no-move-fits}
 
 module _ (u : State) (l : Legal u) where
   -- a Read inside the recorded end is inside the reel
-  read-moves : (r : Reading) → r .pointer + r .count ≤ u .lengths .memory → (x : Moving) → ReadFits (u .tape .end) r x → MovingFits (u .lengths) x
+  read-moves : (r : Buffer) → r .pointer + r .count ≤ u .lengths .memory → (x : Ending) → ReadFits (u .tape .end) r x → EndingFits (u .lengths) x
   read-moves r h x f =
       record {
         place = f .place;
@@ -46,7 +46,7 @@ module _ (u : State) (l : Legal u) where
         laid = rw (f .unlaid) (no-lay-fits (u .lengths));
       }
 
-  space-moves : (x : Moving) → SpaceFits (u .tape .end) x → MovingFits (u .lengths) x
+  space-moves : (x : Ending) → SpaceFits (u .tape .end) x → EndingFits (u .lengths) x
   space-moves x f =
       record {
         place = f .place;
@@ -56,7 +56,7 @@ module _ (u : State) (l : Legal u) where
         laid = rw (f .unlaid) (no-lay-fits (u .lengths));
       }
 
-  write-moves : (n : Laid) → n .pointer + n .length ≤ u .lengths .memory → (x : Moving) → WriteFits (u .lengths .blocks) n x → MovingFits (u .lengths) x
+  write-moves : (n : Laid) → n .pointer + n .length ≤ u .lengths .memory → (x : Ending) → WriteFits (u .lengths .blocks) n x → EndingFits (u .lengths) x
   write-moves n h x f =
       record {
         place = f .place;
@@ -83,16 +83,16 @@ module _ (u : State) (l : Legal u) where
         motion-sound u l _ (h .ie) (λ x y. space-moves x (space-fits s (u .tape) (l .place) _ (p .count) (u .characteristics .enb) y))
 
   -- a write, or a retry
-  lay-moves : (s : List ℕ) (n : Laid) (mark again : Bool) → n .pointer + n .length ≤ u .lengths .memory → (x : Moving) → pick again (retried s (u .tape) (u .lengths .blocks) n mark) (writtenAt (u .tape) (u .lengths .blocks) n mark) ≡ motion.Ended x → MovingFits (u .lengths) x
+  lay-moves : (s : List ℕ) (n : Laid) (mark again : Bool) → n .pointer + n .length ≤ u .lengths .memory → (x : Ending) → pick again (retried s (u .tape) (u .lengths .blocks) n mark) (writtenAt (u .tape) (u .lengths .blocks) n mark) ≡ motion.Ended x → EndingFits (u .lengths) x
   lay-moves s n mark true k x y = write-moves n k x (retry-fits (u .tape) (u .lengths .blocks) (l .place) (l .capacity) n mark s y)
   lay-moves s n mark false k x y = write-moves n k x (write-fits (u .tape) (u .lengths .blocks) (l .place) (l .capacity) n mark y)
 
   write-sound : (s : List ℕ) (h : Header) (p : Packet) (again : Bool) → p .pointer + p .count ≤ u .lengths .memory → SoundRan u (writtenBy u s h p again)
   unfolding writtenBy
   write-sound s h p again k =
-      motion-sound u l _ (h .ie) (lay-moves s (laidHere u object.Record (p .pointer) (p .count) (h .swb)) false again k)
+      motion-sound u l _ (h .ie) (lay-moves s (laidHere u kind.Record (p .pointer) (p .count) (h .swb)) false again k)
 
-  format-sound : (s : List ℕ) (h : Header) (o : Object) (mark again : Bool) → SoundRan u (formatted u s h o mark again)
+  format-sound : (s : List ℕ) (h : Header) (o : ObjectKind) (mark again : Bool) → SoundRan u (formatted u s h o mark again)
   unfolding formatted
   format-sound s h o mark again =
       motion-sound u l _ (h .ie) (lay-moves s (laidHere u o 0 0 false) mark again (omega arith))
@@ -163,9 +163,9 @@ carried-sound u l m s h p e command.RecordsReverse k = position-sound u l s h p 
 carried-sound u l m s h p e command.MarksForward k = position-sound u l s h p false true
 carried-sound u l m s h p e command.MarksReverse k = position-sound u l s h p true true
 carried-sound u l m s h p e command.Rewind k = rewind-sound u l (h .ie)
-carried-sound u l m s h p e command.WriteMark k = format-sound u l s h object.Mark true false
-carried-sound u l m s h p e command.Erase k = format-sound u l s h object.Gap false false
-carried-sound u l m s h p e command.MarkRetry k = format-sound u l s h object.Mark true true
+carried-sound u l m s h p e command.WriteMark k = format-sound u l s h kind.Mark true false
+carried-sound u l m s h p e command.Erase k = format-sound u l s h kind.Gap false false
+carried-sound u l m s h p e command.MarkRetry k = format-sound u l s h kind.Mark true true
 carried-sound u l m s h p e command.Release k = release-sound u l (h .ie)
 carried-sound u l m s h p e command.Unload k = unload-sound u l (h .ie)
 carried-sound u l m s h p e command.Clean k = plain-sound u l (h .ie)

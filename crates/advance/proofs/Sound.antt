@@ -15,7 +15,7 @@ use Rattle.motions.specs.declared.parts.Laid.{Laid}
 use Rattle.motions.specs.declared.parts.Motion.{Motion}
 use Rattle.motions.specs.declared.parts.Motion.the-variants as motion
 use Rattle.motions.specs.declared.parts.Moved.{Moved}
-use Rattle.motions.specs.declared.parts.Moving.{Moving}
+use Rattle.motions.specs.declared.parts.Ending.{Ending}
 use Rattle.commands.specs.Effects.{effectOf, motionEffect}
 use Rattle.commands.specs.declared.effects.Effect.{Effect}
 use Rattle.commands.specs.declared.effects.Notice.{Notice}
@@ -75,14 +75,14 @@ effect-sound u l x told ie h =
     }
 
 -- a motion that ended
-pub record MovingFits (n : Lengths) (x : Moving) : Type 0 where
+pub record EndingFits (n : Lengths) (x : Ending) : Type 0 where
   pub place : x .tape .position ≤ x .tape .end
   pub capacity : x .tape .end ≤ n .blocks
   pub class : x .end .class ≤ lastClass
   pub moved : MoveFits n (x .moved)
   pub laid : LayFits n (x .laid)
 
-pub motion-sound : (u : State) → Legal u → (y : Motion) (ie : Bool) → ((x : Moving) → y ≡ motion.Ended x → MovingFits (u .lengths) x) → SoundRan u (motionEffect u y ie)
+pub motion-sound : (u : State) → Legal u → (y : Motion) (ie : Bool) → ((x : Ending) → y ≡ motion.Ended x → EndingFits (u .lengths) x) → SoundRan u (motionEffect u y ie)
 unfolding motionEffect
 motion-sound u l (motion.Ended x) ie f =
     let h = f x refl in

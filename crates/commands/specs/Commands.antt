@@ -25,9 +25,9 @@ use Rattle.motions.specs.Spaces.{positioned}
 use Rattle.motions.specs.Writes.{retried, writtenAt}
 use Rattle.commands.specs.Effects.{effectOf, motionEffect, withAttention, withPanel, withTape}
 use Rattle.motions.specs.declared.parts.Laid.{Laid}
-use Rattle.motions.specs.declared.parts.Object.{Object}
-use Rattle.motions.specs.declared.parts.Object.the-variants as object
-use Rattle.motions.specs.declared.reads.Reading.{Reading}
+use Rattle.motions.specs.declared.parts.ObjectKind.{ObjectKind}
+use Rattle.motions.specs.declared.parts.ObjectKind.the-variants as kind
+use Rattle.motions.specs.declared.reads.Buffer.{Buffer}
 use Rattle.commands.specs.declared.effects.Notice.the-variants as notice
 use Rattle.commands.specs.declared.effects.Ran.{Ran}
 use Rattle.commands.specs.declared.effects.Ran.the-variants as ran
@@ -119,7 +119,7 @@ characterized u m p ie =
     (refusedCharacteristics u ie)
     (takenCharacteristics u (characteristicsAt m p) ie))
 
-abbrev pub asked : Header → Packet → Reading
+abbrev pub asked : Header → Packet → Buffer
 asked h p = record { pointer = p .pointer; count = p .count; swb = h .swb }
 
 unfoldable pub readBy : Unit → List ℕ → Header → Packet → Bool → Ran
@@ -135,7 +135,7 @@ positionedBy u s h p reverse marks =
     (h .ie)
 
 -- where the tape stands
-abbrev pub laidHere : Unit → Object → ℕ → ℕ → Bool → Laid
+abbrev pub laidHere : Unit → ObjectKind → ℕ → ℕ → Bool → Laid
 laidHere u o pointer n swb =
     record { at = u .tape .position; «gap_first» = false; object = o; pointer = pointer; length = n; swb = swb }
 
@@ -143,11 +143,11 @@ unfoldable pub writtenBy : Unit → List ℕ → Header → Packet → Bool → 
 writtenBy u s h p again =
     motionEffect u
     (pick again
-    (retried s (u .tape) (u .lengths .blocks) (laidHere u object.Record (p .pointer) (p .count) (h .swb)) false)
-    (writtenAt (u .tape) (u .lengths .blocks) (laidHere u object.Record (p .pointer) (p .count) (h .swb)) false))
+    (retried s (u .tape) (u .lengths .blocks) (laidHere u kind.Record (p .pointer) (p .count) (h .swb)) false)
+    (writtenAt (u .tape) (u .lengths .blocks) (laidHere u kind.Record (p .pointer) (p .count) (h .swb)) false))
     (h .ie)
 
-unfoldable pub formatted : Unit → List ℕ → Header → Object → Bool → Bool → Ran
+unfoldable pub formatted : Unit → List ℕ → Header → ObjectKind → Bool → Bool → Ran
 formatted u s h o mark again =
     motionEffect u
     (pick again
@@ -172,9 +172,9 @@ carriedOut u m s h p command.RecordsReverse = positionedBy u s h p true false
 carriedOut u m s h p command.MarksForward = positionedBy u s h p false true
 carriedOut u m s h p command.MarksReverse = positionedBy u s h p true true
 carriedOut u m s h p command.Rewind = rewound u (h .ie)
-carriedOut u m s h p command.WriteMark = formatted u s h object.Mark true false
-carriedOut u m s h p command.Erase = formatted u s h object.Gap false false
-carriedOut u m s h p command.MarkRetry = formatted u s h object.Mark true true
+carriedOut u m s h p command.WriteMark = formatted u s h kind.Mark true false
+carriedOut u m s h p command.Erase = formatted u s h kind.Gap false false
+carriedOut u m s h p command.MarkRetry = formatted u s h kind.Mark true true
 carriedOut u m s h p command.Release = released u (h .ie)
 carriedOut u m s h p command.Unload = unloaded u (h .ie)
 carriedOut u m s h p command.Clean = plainEffect u (h .ie)

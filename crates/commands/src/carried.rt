@@ -7,8 +7,8 @@ use crate::effects::motion_effect;
 use lists::word;
 use motions::Laid;
 use motions::Motion;
-use motions::Object;
-use motions::Reading;
+use motions::ObjectKind;
+use motions::Buffer;
 use motions::position;
 use motions::read_one;
 use motions::reread_one;
@@ -147,7 +147,7 @@ fn read(u: Unit, reel: &[u8], h: Header, p: Packet, reverse: bool) -> Ran
     ensures { λ r. ⌜ r ≡ readBy u (now (reel .entry)) h p reverse ⌝ }
 {
     let t = u.tape;
-    let r = Reading {
+    let r = Buffer {
         pointer: p.pointer,
         count: p.count,
         swb: h.swb,
@@ -159,7 +159,7 @@ fn reread(u: Unit, reel: &[u8], h: Header, p: Packet, reverse: bool) -> Ran
     ensures { λ r. ⌜ r ≡ rereadBy u (now (reel .entry)) h p reverse ⌝ }
 {
     let t = u.tape;
-    let r = Reading {
+    let r = Buffer {
         pointer: p.pointer,
         count: p.count,
         swb: h.swb,
@@ -189,7 +189,7 @@ fn write(u: Unit, reel: &[u8], h: Header, p: Packet, again: bool) -> Ran
     ensures { λ r. ⌜ r ≡ writtenBy u (now (reel .entry)) h p again ⌝ }
 {
     let t = u.tape;
-    let object = Object::Record;
+    let object = ObjectKind::Record;
     let l = Laid {
         at: t.position,
         gap_first: false,
@@ -205,7 +205,7 @@ fn write(u: Unit, reel: &[u8], h: Header, p: Packet, again: bool) -> Ran
 }
 
 // A Format's mark or gap.
-fn format(u: Unit, reel: &[u8], h: Header, object: Object, mark: bool, again: bool) -> Ran
+fn format(u: Unit, reel: &[u8], h: Header, object: ObjectKind, mark: bool, again: bool) -> Ran
     ensures { λ r. ⌜ r ≡ formatted u (now (reel .entry)) h object mark again ⌝ }
 {
     let t = u.tape;
@@ -240,9 +240,9 @@ pub fn carry_out(u: Unit, mem: &[u8], reel: &[u8], h: Header, p: Packet, c: Comm
         Command::MarksForward => space(u, reel, h, p, false, true),
         Command::MarksReverse => space(u, reel, h, p, true, true),
         Command::Rewind => rewind(u, h.ie),
-        Command::WriteMark => format(u, reel, h, Object::Mark, true, false),
-        Command::Erase => format(u, reel, h, Object::Gap, false, false),
-        Command::MarkRetry => format(u, reel, h, Object::Mark, true, true),
+        Command::WriteMark => format(u, reel, h, ObjectKind::Mark, true, false),
+        Command::Erase => format(u, reel, h, ObjectKind::Gap, false, false),
+        Command::MarkRetry => format(u, reel, h, ObjectKind::Mark, true, true),
         Command::Release => release(u, h.ie),
         Command::Unload => unload(u, h.ie),
         Command::Clean => plain_effect(u, h.ie),

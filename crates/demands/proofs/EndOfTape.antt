@@ -12,16 +12,16 @@ use Rattle.state.specs.declared.Unit.{Unit}
 use Rattle.state.proofs.Tests.{either}
 use Rattle.motions.specs.Parts.{laidBlocks, objectBlocks}
 use Rattle.motions.specs.declared.parts.Laid.{Laid}
-use Rattle.motions.specs.declared.parts.Object.{Object}
-use Rattle.motions.specs.declared.parts.Object.the-variants as object
+use Rattle.motions.specs.declared.parts.ObjectKind.{ObjectKind}
+use Rattle.motions.specs.declared.parts.ObjectKind.the-variants as kind
 use Rattle.commands.specs.Effects.{statusOf}
 
-object-short : (o : Object) (n : ℕ) → n ≤ recordLimit → objectBlocks o n + 1 ≤ margin
+object-short : (o : ObjectKind) (n : ℕ) → n ≤ recordLimit → objectBlocks o n + 1 ≤ margin
 unfolding objectBlocks
-object-short object.Nothing n h = omega arith
-object-short object.Mark n h = omega arith
-object-short object.Gap n h = omega arith
-object-short object.Record n h = omega arith
+object-short kind.Nothing n h = omega arith
+object-short kind.Mark n h = omega arith
+object-short kind.Gap n h = omega arith
+object-short kind.Record n h = omega arith
 
 -- gap and object together are shorter than the margin
 pub laid-short : (l : Laid) → l .length ≤ recordLimit → laidBlocks l ≤ margin

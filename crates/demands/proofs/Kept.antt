@@ -22,8 +22,8 @@ use Rattle.motions.specs.Spaces.{positioned}
 use Rattle.motions.specs.Writes.{behindGap, noRoom, retried, retriedBy, writtenAt, writtenMotion}
 use Rattle.motions.specs.declared.parts.Laid.{Laid}
 use Rattle.motions.specs.declared.parts.Motion.the-variants as motion
-use Rattle.motions.specs.declared.parts.Moving.{Moving}
-use Rattle.motions.specs.declared.reads.Reading.{Reading}
+use Rattle.motions.specs.declared.parts.Ending.{Ending}
+use Rattle.motions.specs.declared.reads.Buffer.{Buffer}
 use Rattle.motions.proofs.Ends.{Has}
 use Rattle.motions.proofs.Fit.{read-fits, space-fits}
 use Rattle.commands.specs.Effects.{planned, silenced, still, told}
@@ -67,15 +67,15 @@ module _ (s m : List ℕ) where
   none-laid = refl
 
   -- a Read or a space lays nothing
-  module _ (t : Tape) (h : t .position ≤ t .end) {x : Moving} where
-    pub read-keeps-reel : (r : Reading) (reverse opp : Bool) → (readOne s t r reverse ≡ motion.Ended x) ⊎ (reread s t r reverse opp ≡ motion.Ended x) → laidOn s m (x .laid) ≡ s
+  module _ (t : Tape) (h : t .position ≤ t .end) {x : Ending} where
+    pub read-keeps-reel : (r : Buffer) (reverse opp : Bool) → (readOne s t r reverse ≡ motion.Ended x) ⊎ (reread s t r reverse opp ≡ motion.Ended x) → laidOn s m (x .laid) ≡ s
     read-keeps-reel r reverse opp y = rw (read-fits s t h r reverse opp y .unlaid) none-laid
 
     pub space-keeps-reel : (r : Rule) (count : ℕ) (enb : Bool) → positioned s t r count enb ≡ motion.Ended x → laidOn s m (x .laid) ≡ s
     space-keeps-reel r count enb y = rw (space-fits s t h r count enb y .unlaid) none-laid
 
   -- the blocks below q are as they were
-  abbrev pub KeptBelow : ℕ → Moving → Type 0
+  abbrev pub KeptBelow : ℕ → Ending → Type 0
   KeptBelow q x = (j : ℕ) → j < blockBytes * q → getD (laidOn s m (x .laid)) j 0 ≡ getD s j 0
 
   module _ (t : Tape) (blocks : ℕ) where
@@ -87,7 +87,7 @@ module _ (s m : List ℕ) where
         (λ j h. reel-kept-below m s l j h)
 
     -- "Writing stores only the new object's blocks": a Write or a Format lays from the position on, and the reel below it stays
-    pub write-keeps-below : (l : Laid) (mark : Bool) {x : Moving} → l .at ≡ t .position → writtenAt t blocks l mark ≡ motion.Ended x → KeptBelow (t .position) x
+    pub write-keeps-below : (l : Laid) (mark : Bool) {x : Ending} → l .at ≡ t .position → writtenAt t blocks l mark ≡ motion.Ended x → KeptBelow (t .position) x
     write-keeps-below l mark e y = rw (← e) (rw y at (write-has l mark))
 
     -- a search with this answer stopped at q, if it found anything
@@ -105,6 +105,6 @@ module _ (s m : List ℕ) where
     retry-by l mark q (sought-as.Bad k) e = tt
 
     -- "Retry: space reverse over gaps and one record or mark, then a one-block gap, then the new object. None found: .. nothing written."
-    pub retry-keeps-below : (l : Laid) (mark : Bool) (q : ℕ) {x : Moving} → StopsAt q (sought s true (t .position) (t .end)) → retried s t blocks l mark ≡ motion.Ended x → KeptBelow q x
+    pub retry-keeps-below : (l : Laid) (mark : Bool) (q : ℕ) {x : Ending} → StopsAt q (sought s true (t .position) (t .end)) → retried s t blocks l mark ≡ motion.Ended x → KeptBelow q x
     unfolding retried
     retry-keeps-below l mark q e y = rw y at (retry-by l mark q (sought s true (t .position) (t .end)) e)

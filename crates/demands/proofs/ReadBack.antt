@@ -29,10 +29,10 @@ use Rattle.motions.specs.Reads.{firstBlock, readEnd, readMotion, readOne, readO
 use Rattle.motions.specs.declared.parts.Laid.{Laid}
 use Rattle.motions.specs.declared.parts.Motion.{Motion}
 use Rattle.motions.specs.declared.parts.Motion.the-variants as motion
-use Rattle.motions.specs.declared.parts.Moving.{Moving}
-use Rattle.motions.specs.declared.parts.Object.{Object as Kind}
-use Rattle.motions.specs.declared.parts.Object.the-variants as kind
-use Rattle.motions.specs.declared.reads.Reading.{Reading}
+use Rattle.motions.specs.declared.parts.Ending.{Ending}
+use Rattle.motions.specs.declared.parts.ObjectKind.{ObjectKind}
+use Rattle.motions.specs.declared.parts.ObjectKind.the-variants as kind
+use Rattle.motions.specs.declared.reads.Buffer.{Buffer}
 use Rattle.storing.specs.Stored.{laidObject, laidOn, movedOn}
 use Rattle.storing.proofs.Ways.{blocks-after-gap, blocks-alone, laid-after-gap, laid-alone}
 
@@ -42,7 +42,7 @@ unfolding sought soughtOn
 found-at-once s reverse p e n q h k = sym (seek-turn e s reverse p e {m = met.Record n q} {r = sought-as.Record n q} h (sym k) refl)
 
 -- and a Read that finds one moves it
-pub read-found : (s : List ℕ) (reverse : Bool) (p e n q : ℕ) (r : Reading) → sought s reverse p e ≡ sought-as.Record n q → readOne s (standing p e) r reverse ≡ readMotion r reverse n q (standing q e) reverse
+pub read-found : (s : List ℕ) (reverse : Bool) (p e n q : ℕ) (r : Buffer) → sought s reverse p e ≡ sought-as.Record n q → readOne s (standing p e) r reverse ≡ readMotion r reverse n q (standing q e) reverse
 unfolding readOne stageOf stageBy readOneBy
 read-found s reverse p e n q r k = rw k
 
@@ -55,18 +55,18 @@ whole-moved true swb m d pointer =
 whole-moved false swb m d pointer = rw (take-all (length d) d (omega arith))
 
 -- a Read as asked by r that gave all of the bytes d and left the tape at q
-pub record GaveAll (s : List ℕ) (r : Reading) (d : List ℕ) (q : ℕ) (x : Moving) : Type 0 where
+pub record GaveAll (s : List ℕ) (r : Buffer) (d : List ℕ) (q : ℕ) (x : Ending) : Type 0 where
   pub class : x .end .class ≡ 0
   pub found : x .end .found ≡ 0
   pub residual : residualWord (x .end .residual) ≡ 0
   pub place : x .tape .position ≡ q
   pub bytes : (m : List ℕ) → movedOn s (x .moved) m ≡ placed (r .swb) m (r .pointer) d
 
-abbrev pub Gives : List ℕ → Reading → List ℕ → ℕ → Motion → Type 0
-Gives s r d q a = (x : Moving) × (a ≡ motion.Ended x) × GaveAll s r d q x
+abbrev pub Gives : List ℕ → Buffer → List ℕ → ℕ → Motion → Type 0
+Gives s r d q a = (x : Ending) × (a ≡ motion.Ended x) × GaveAll s r d q x
 
 -- a record that stands at block p
-module _ (s d : List ℕ) (p e : ℕ) (r : Reading) (a : Allowed (record-of d)) (h : StandsAt s p (record-of d)) (room : p + piecesOf (length d) ≤ e) (asks : r .count ≡ length d) where
+module _ (s d : List ℕ) (p e : ℕ) (r : Buffer) (a : Allowed (record-of d)) (h : StandsAt s p (record-of d)) (room : p + piecesOf (length d) ≤ e) (asks : r .count ≡ length d) where
   gave : (reverse : Bool) (q : ℕ) → firstBlock reverse (length d) q ≡ p → Gives s r d q (readMotion r reverse (length d) q (standing q e) reverse)
   unfolding readMotion readEnd movedOn
   gave reverse q first = (
@@ -116,11 +116,11 @@ module _ (s m : List ℕ) (l : Laid) (o : l .object ≡ kind.Record) (some : 1 �
 
   one-image : imagesOf (laidObject m l (l .object)) ≡ imageOf (record-of (written m l))
   unfolding laidObject imagesOf
-  one-image = ap (λ (k : Kind). imagesOf (laidObject m l k)) o ∙ append-nil (imageOf (record-of (written m l)))
+  one-image = ap (λ (k : ObjectKind). imagesOf (laidObject m l k)) o ∙ append-nil (imageOf (record-of (written m l)))
 
   its-blocks : objectBlocks (l .object) (l .length) ≡ piecesOf (length (written m l))
   unfolding objectBlocks
-  its-blocks = ap (λ (k : Kind). objectBlocks k (l .length)) o ∙ ap piecesOf (sym long)
+  its-blocks = ap (λ (k : ObjectKind). objectBlocks k (l .length)) o ∙ ap piecesOf (sym long)
 
   -- the record over any reel of the same length
   stands-over : (s₀ : List ℕ) (p : ℕ) → length s₀ ≡ length s → sets s₀ (blockBytes * p) (imagesOf (laidObject m l (l .object))) ≡ laidOn s m l → p + piecesOf (length (written m l)) ≡ writtenEnd l → Stands p
@@ -138,7 +138,7 @@ module _ (s m : List ℕ) (l : Laid) (o : l .object ≡ kind.Record) (some : 1 �
       (omega (arith, its-blocks, blocks-after-gap l g)))
       (λ g. stands-over s (l .at) refl (laid-alone l s _ m g refl) (omega (arith, its-blocks, blocks-alone l g)))
 
-  module _ (r : Reading) (asks : r .count ≡ l .length) where
+  module _ (r : Buffer) (asks : r .count ≡ l .length) where
     -- "Read 1 / 0 next": forward from its first block, with either SWB and to any address
     pub written-forward : Gives (laidOn s m l) r (written m l) (writtenEnd l) (readOne (laidOn s m l) (standing (writtenAtBlock l) (writtenEnd l)) r false)
     written-forward =

@@ -25,7 +25,7 @@ use Rattle.moves.proofs.Within.{sought-record}
 use Rattle.motions.specs.Parts.{standing}
 use Rattle.motions.specs.Reads.{readOne, firstBlock, readThenSpace, readThenSpaceBy, reread, spaceBack, spaceBackBy, spaceThenRead, spaceThenReadBy, stageBy, stageOf}
 use Rattle.motions.specs.declared.parts.Motion.{Motion}
-use Rattle.motions.specs.declared.reads.Reading.{Reading}
+use Rattle.motions.specs.declared.reads.Buffer.{Buffer}
 use Rattle.motions.specs.declared.reads.Stage.the-variants as stage
 use Rattle.demands.proofs.Nearest.{bound-from, nearest}
 use Rattle.demands.proofs.ReadBack.{found-at-once, read-found}
@@ -33,7 +33,7 @@ use Rattle.demands.proofs.ReadEnds.{Moves, ReadEnds, met-mark, met-noth
 
 -- a reread that met the record d, beyond which its first stage stopped at q: it moved the record by the read's own direction, its last
 -- stage ran the other way than the first, and the tape stands at the edge of the record that the first stage met first
-abbrev pub BothStages : List ℕ → ℕ → Reading → Bool → Bool → List ℕ → ℕ → Motion → Type 0
+abbrev pub BothStages : List ℕ → ℕ → Buffer → Bool → Bool → List ℕ → ℕ → Motion → Type 0
 BothStages s e r reverse opp d q = Moves s e r d (pick opp reverse (not reverse)) (not reverse) (beyond (not reverse) q (piecesOf (length d)))
 
 -- the record's blocks lie ahead on the way back, and stand where the way back meets them
@@ -51,7 +51,7 @@ unfolding firstBlock
 back-first true n q = omega arith
 back-first false n q = refl
 
-module _ {s : List ℕ} {e : ℕ} {os : List Object} (h : Holds s e os) (r : Reading) (reverse : Bool) {p : ℕ} (b : Bound os p) where
+module _ {s : List ℕ} {e : ℕ} {os : List Object} (h : Holds s e os) (r : Buffer) (reverse : Bool) {p : ℕ} (b : Bound os p) where
   module _ (d : List ℕ) (gaps : List Object) {q : ℕ} (w : Between os reverse p q (withGaps reverse gaps (record-of d))) (k : sought s reverse p e ≡ sought-as.Record (length d) q) where
     inside : RecordIn reverse e (length d) q
     inside = sought-record s reverse p e (bound-below h b) k
@@ -98,7 +98,7 @@ module _ {s : List ℕ} {e : ℕ} {os : List Object} (h : Holds s e os) (r : Rea
   reread-ends opp = by-first opp refl (finds h reverse b)
 
 -- a record behind nothing but gaps: the Read moves it, and the reread runs both stages over it
-module _ {s : List ℕ} {e : ℕ} {os : List Object} (h : Holds s e os) (r : Reading) (reverse : Bool) (d : List ℕ) (gaps : List Object) {p q : ℕ} (g : Gaps gaps) (w : Between os reverse p q (withGaps reverse gaps (record-of d))) where
+module _ {s : List ℕ} {e : ℕ} {os : List Object} (h : Holds s e os) (r : Buffer) (reverse : Bool) (d : List ℕ) (gaps : List Object) {p q : ℕ} (g : Gaps gaps) (w : Between os reverse p q (withGaps reverse gaps (record-of d))) where
   pub read-record : Moves s e r d reverse reverse q (readOne s (standing p e) r reverse)
   unfolding firstBlock
   read-record = rw (read-found s reverse p e (length d) q r (nearest h reverse d gaps g w)) (moves-found h r reverse d gaps w reverse reverse q q refl)

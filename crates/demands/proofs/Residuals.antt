@@ -28,15 +28,15 @@ use Rattle.motions.specs.Parts.{end, movedLength, standing, stops}
 use Rattle.motions.specs.Reads.{markEnd, nothingEnd, readEnd, readMotion, readOne, readOneBy, readThenSpace, readThenSpaceBy, reread, spaceBack, spaceBackBy, spaceThenRead, spaceThenReadBy, stageBy, stageOf, stopMotion}
 use Rattle.motions.specs.Spaces.{positioned, residualOf, spaceEnd, spaceMotion, spaceMotionBy, startSpan}
 use Rattle.motions.specs.declared.parts.Motion.the-variants as motion
-use Rattle.motions.specs.declared.parts.Moving.{Moving}
-use Rattle.motions.specs.declared.reads.Reading.{Reading}
+use Rattle.motions.specs.declared.parts.Ending.{Ending}
+use Rattle.motions.specs.declared.reads.Buffer.{Buffer}
 use Rattle.motions.specs.declared.reads.Stage.{Stage}
 use Rattle.motions.specs.declared.reads.Stage.the-variants as stage
 use Rattle.motions.proofs.Ends.{Has}
 
 -- the bytes that a Read moved and its residual
-module _ (r : Reading) where
-  abbrev Adds : Moving → Type 0
+module _ (r : Buffer) where
+  abbrev Adds : Ending → Type 0
   Adds x = movedLength (x .moved) + residualWord (x .end .residual) ≡ r .count
 
   record-adds : (reverse : Bool) (n q : ℕ) (t : Tape) (rev : Bool) → Has Adds (readMotion r reverse n q t rev)
@@ -98,7 +98,7 @@ module _ (r : Reading) where
     reread-adds t reverse opp =
         either (Has Adds) opp _ _ (then-space-by t reverse _ (stage-adds t reverse)) (then-read-by t reverse _ (stage-adds t reverse))
 
-module _ (s : List ℕ) (t : Tape) (r : Reading) (reverse : Bool) {x : Moving} where
+module _ (s : List ℕ) (t : Tape) (r : Buffer) (reverse : Bool) {x : Ending} where
   -- "The residual counts bytes for Read"
   pub read-residual : readOne s t r reverse ≡ motion.Ended x → movedLength (x .moved) + residualWord (x .end .residual) ≡ r .count
   read-residual y = rw y at (one-adds r s t reverse)
@@ -133,7 +133,7 @@ module _ (r : Rule) (x : Span) where
   class-told (stop-as.Bad k) n c = absurd (n k refl)
 
 -- the objects passed, with the residual; and class 0 leaves none
-pub record Passed (os : List Object) (r : Rule) (p count : ℕ) (x : Moving) : Type 0 where
+pub record Passed (os : List Object) (r : Rule) (p count : ℕ) (x : Ending) : Type 0 where
   pub mid : List Object
   pub between : Between os (r .reverse) p (x .tape .position) mid
   pub counted : countIn (r .marks) mid + residualWord (x .end .residual) ≡ count
@@ -182,7 +182,7 @@ module _ {s : List ℕ} {os : List Object} (t : Tape) (h : Holds s (t .end) os) 
     unfolding positioned spaceMotion
     passes = pick-told (Has (Passed os r (t .position) count)) (eqb count 0) _ _ none-asked (λ e. motion-by (spaces .stop) refl)
 
-    module _ {x : Moving} (y : positioned s t r count enb ≡ motion.Ended x) where
+    module _ {x : Ending} (y : positioned s t r count enb ≡ motion.Ended x) where
       passed-as : Passed os r (t .position) count x
       passed-as = rw y at passes
 

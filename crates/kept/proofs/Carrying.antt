@@ -22,8 +22,8 @@ use Rattle.motions.specs.Parts.{noLay, standing}
 use Rattle.motions.specs.Writes.{retried, writtenAt}
 use Rattle.motions.specs.declared.parts.Motion.{Motion}
 use Rattle.motions.specs.declared.parts.Motion.the-variants as motion
-use Rattle.motions.specs.declared.parts.Object.{Object as Kind}
-use Rattle.motions.specs.declared.parts.Object.the-variants as kind
+use Rattle.motions.specs.declared.parts.ObjectKind.{ObjectKind}
+use Rattle.motions.specs.declared.parts.ObjectKind.the-variants as kind
 use Rattle.commands.specs.Commands.{asked, carriedOut, characteristicsAt, characterized, formatted, laidHere, plainEffect, positionedBy, readBy, refusedCharacteristics, released, rereadBy, rewound, takenCharacteristics, unloaded, writtenBy}
 use Rattle.commands.specs.Effects.{effectOf, motionEffect}
 use Rattle.commands.specs.declared.effects.Effect.{Effect}
@@ -127,7 +127,7 @@ module _ (s m : List ℕ) where
     position-kept h p reverse marks = motion-kept u _ (h .ie) (positioned-kept s m (u .tape) (k .1) (k .2) _ (p .count) (u .characteristics .enb))
 
     -- an object laid where the tape stands, or behind a retry's gap
-    lays : (o : Kind) (pointer n : ℕ) (swb mark again : Bool) → RightLength o n
+    lays : (o : ObjectKind) (pointer n : ℕ) (swb mark again : Bool) → RightLength o n
         → KeptMotion s m (pick again (retried s (u .tape) (u .lengths .blocks) (laidHere u o pointer n swb) mark) (writtenAt (u .tape) (u .lengths .blocks) (laidHere u o pointer n swb) mark))
     lays o pointer n swb mark again r =
         let l = laidHere u o pointer n swb in
@@ -138,7 +138,7 @@ module _ (s m : List ℕ) where
     unfolding writtenBy
     write-kept h p again r = motion-kept u _ (h .ie) (lays kind.Record (p .pointer) (p .count) (h .swb) false again (λ e. r))
 
-    format-kept : (h : Header) (o : Kind) (mark again : Bool) → (o ≡ kind.Record → ⊥) → KeptRan s m (formatted u s h o mark again)
+    format-kept : (h : Header) (o : ObjectKind) (mark again : Bool) → (o ≡ kind.Record → ⊥) → KeptRan s m (formatted u s h o mark again)
     unfolding formatted
     format-kept h o mark again f = motion-kept u _ (h .ie) (lays o 0 0 false mark again (λ e. absurd (f e)))
 

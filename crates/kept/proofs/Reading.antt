@@ -10,7 +10,7 @@ use Rattle.moves.proofs.Bounds.{bound-to}
 use Rattle.moves.proofs.Finds.{Finds, finds, finds-mark, finds-nothing, finds-record}
 use Rattle.motions.specs.Parts.{standing}
 use Rattle.motions.specs.Reads.{readMotion, readOne, readOneBy, readThenSpace, readThenSpaceBy, reread, spaceBack, spaceBackBy, spaceThenRead, spaceThenReadBy, stageBy, stageOf, stopMotion}
-use Rattle.motions.specs.declared.reads.Reading.{Reading}
+use Rattle.motions.specs.declared.reads.Buffer.{Buffer}
 use Rattle.motions.specs.declared.reads.Stage.{Stage}
 use Rattle.motions.specs.declared.reads.Stage.the-variants as stage
 use Rattle.kept.proofs.Standing.{KeptMotion, halts}
@@ -20,7 +20,7 @@ abbrev StageKept : List ℕ → List ℕ → List Object → Stage → Type 0
 StageKept s m os (stage.Record n q) = Bound os q
 StageKept s m os (stage.Over x) = KeptMotion s m x
 
-module _ (s m : List ℕ) {e : ℕ} {os : List Object} (h : Holds s e os) (r : Reading) where
+module _ (s m : List ℕ) {e : ℕ} {os : List Object} (h : Holds s e os) (r : Buffer) where
   stage-by : (p : ℕ) (reverse : Bool) {f : Sought} → Finds os reverse p f → StageKept s m os (stageBy (standing p e) (r .count) reverse f)
   unfolding stageBy stopMotion
   stage-by p reverse (finds-record d g b) = bound-to reverse b

@@ -21,18 +21,18 @@ use Rattle.moves.proofs.Finds.{Finds, finds, finds-mark, finds-nothing, finds-r
 use Rattle.motions.specs.Parts.{laidBlocks}
 use Rattle.motions.specs.Writes.{behindGap, noRoom, retried, retriedBy, writtenAt, writtenMotion}
 use Rattle.motions.specs.declared.parts.Laid.{Laid}
-use Rattle.motions.specs.declared.parts.Object.{Object as Kind}
-use Rattle.motions.specs.declared.parts.Object.the-variants as kind
+use Rattle.motions.specs.declared.parts.ObjectKind.{ObjectKind}
+use Rattle.motions.specs.declared.parts.ObjectKind.the-variants as kind
 use Rattle.storing.specs.Stored.{laidObject, laidObjects, laidOn}
 use Rattle.storing.proofs.Lengths.{blocks-laid}
 use Rattle.kept.proofs.Standing.{KeptMotion, halts}
 use Rattle.kept.proofs.Overlaid.{overlaid, overlaid-end}
 
 -- "Records: 1 to 16,384 bytes."
-abbrev pub RightLength : Kind → ℕ → Type 0
+abbrev pub RightLength : ObjectKind → ℕ → Type 0
 RightLength k n = k ≡ kind.Record → (1 ≤ n) × (n ≤ recordLimit)
 
-object-allowed : (m : List ℕ) (l : Laid) (k : Kind) → RightLength k (l .length) → AllAllowed (laidObject m l k)
+object-allowed : (m : List ℕ) (l : Laid) (k : ObjectKind) → RightLength k (l .length) → AllAllowed (laidObject m l k)
 unfolding laidObject
 object-allowed m l kind.Nothing r = none
 object-allowed m l kind.Mark r = also tt none

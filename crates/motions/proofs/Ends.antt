@@ -15,10 +15,10 @@ use Rattle.motions.specs.Reads.{markEnd, nothingEnd, readEnd}
 use Rattle.motions.specs.Spaces.{leftOver, passedMark, spaceEnd}
 use Rattle.motions.specs.declared.parts.Motion.{Motion}
 use Rattle.motions.specs.declared.parts.Motion.the-variants as motion
-use Rattle.motions.specs.declared.parts.Moving.{Moving}
+use Rattle.motions.specs.declared.parts.Ending.{Ending}
 
 -- one thing of a motion that ended
-abbrev pub Has : (Moving → Type 0) → Motion → Type 0
+abbrev pub Has : (Ending → Type 0) → Motion → Type 0
 Has P (motion.Ended x) = P x
 Has P (motion.Fault k) = Unit {0}
 

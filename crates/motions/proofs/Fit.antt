@@ -12,8 +12,8 @@ use Rattle.motions.specs.Spaces.{positioned}
 use Rattle.motions.specs.Writes.{retried, writtenAt}
 use Rattle.motions.specs.declared.parts.Laid.{Laid}
 use Rattle.motions.specs.declared.parts.Motion.the-variants as motion
-use Rattle.motions.specs.declared.parts.Moving.{Moving}
-use Rattle.motions.specs.declared.reads.Reading.{Reading}
+use Rattle.motions.specs.declared.parts.Ending.{Ending}
+use Rattle.motions.specs.declared.reads.Buffer.{Buffer}
 use Rattle.motions.proofs.Stages.{one-has, reread-has}
 use Rattle.motions.proofs.Halts.{space-has}
 use Rattle.motions.proofs.Rooms.{retried-has, written-has}
@@ -22,8 +22,8 @@ pub use Rattle.motions.proofs.Stages.{ReadFits}
 pub use Rattle.motions.proofs.Halts.{SpaceFits}
 pub use Rattle.motions.proofs.Rooms.{WriteFits}
 
-module _ (s : List ℕ) (t : Tape) (h : t .position ≤ t .end) {x : Moving} where
-  module _ (r : Reading) (reverse : Bool) where
+module _ (s : List ℕ) (t : Tape) (h : t .position ≤ t .end) {x : Ending} where
+  module _ (r : Buffer) (reverse : Bool) where
     pub read-one-fits : readOne s t r reverse ≡ motion.Ended x → ReadFits (t .end) r x
     read-one-fits y = rw y at (one-has (t .end) r s (t .position) reverse h)
 
@@ -36,7 +36,7 @@ module _ (s : List ℕ) (t : Tape) (h : t .position ≤ t .end) {x : Moving} whe
   pub space-fits : (r : Rule) (count : ℕ) (enb : Bool) → positioned s t r count enb ≡ motion.Ended x → SpaceFits (t .end) x
   space-fits r count enb y = rw y at (space-has s t r count enb h)
 
-module _ (t : Tape) (blocks : ℕ) (h : t .position ≤ t .end) (k : t .end ≤ blocks) (l : Laid) (mark : Bool) {x : Moving} where
+module _ (t : Tape) (blocks : ℕ) (h : t .position ≤ t .end) (k : t .end ≤ blocks) (l : Laid) (mark : Bool) {x : Ending} where
   pub write-fits : writtenAt t blocks l mark ≡ motion.Ended x → WriteFits blocks l x
   write-fits y = rw y at (written-has blocks l l mark (omega arith) t h k)
 

@@ -16,11 +16,11 @@ use Rattle.moves.proofs.Within.{spaced-within}
 use Rattle.signals.specs.declared.message.End.{End}
 use Rattle.motions.specs.Parts.{noLay, noMove, standing, stops}
 use Rattle.motions.specs.Spaces.{positioned, spaceMotion, spaceMotionBy, startSpan}
-use Rattle.motions.specs.declared.parts.Moving.{Moving}
+use Rattle.motions.specs.declared.parts.Ending.{Ending}
 use Rattle.motions.proofs.Ends.{EndFits, Has, space-end-fits}
 
 -- a space that ended, on a tape whose recorded end is e
-pub record SpaceFits (e : ℕ) (x : Moving) : Type 0 where
+pub record SpaceFits (e : ℕ) (x : Ending) : Type 0 where
   pub place : x .tape .position ≤ x .tape .end
   pub kept : x .tape .end ≡ e
   pub unmoved : x .moved ≡ noMove

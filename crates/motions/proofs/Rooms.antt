@@ -18,11 +18,11 @@ use Rattle.moves.proofs.Within.{SoughtIn, sought-in}
 use Rattle.motions.specs.Parts.{laidBlocks, noMove, objectBlocks, stops}
 use Rattle.motions.specs.Writes.{behindGap, noRoom, retried, retriedBy, writtenAt, writtenMotion}
 use Rattle.motions.specs.declared.parts.Laid.{Laid}
-use Rattle.motions.specs.declared.parts.Moving.{Moving}
+use Rattle.motions.specs.declared.parts.Ending.{Ending}
 use Rattle.motions.proofs.Ends.{EndFits, Has, flag-most}
 
 -- a write as asked by l that ended, on a reel of so many blocks
-pub record WriteFits (blocks : ℕ) (l : Laid) (x : Moving) : Type 0 where
+pub record WriteFits (blocks : ℕ) (l : Laid) (x : Ending) : Type 0 where
   pub place : x .tape .position ≤ x .tape .end
   pub inside : x .tape .end ≤ blocks
   pub unmoved : x .moved ≡ noMove

@@ -13,14 +13,14 @@ use Rattle.moves.specs.declared.seeking.Sought.the-variants as sought-as
 use Rattle.moves.proofs.Within.{SoughtIn, sought-in}
 use Rattle.motions.specs.Parts.{noLay, standing}
 use Rattle.motions.specs.Reads.{firstBlock, markEnd, nothingEnd, readMotion, readOne, readOneBy, readThenSpace, readThenSpaceBy, reread, spaceBack, spaceBackBy, spaceThenRead, spaceThenReadBy, stageBy, stageOf, stopMotion}
-use Rattle.motions.specs.declared.parts.Moving.{Moving}
-use Rattle.motions.specs.declared.reads.Reading.{Reading}
+use Rattle.motions.specs.declared.parts.Ending.{Ending}
+use Rattle.motions.specs.declared.reads.Buffer.{Buffer}
 use Rattle.motions.specs.declared.reads.Stage.{Stage}
 use Rattle.motions.specs.declared.reads.Stage.the-variants as stage
 use Rattle.motions.proofs.Ends.{EndFits, Has, mark-end-fits, nothing-end-fits, read-end-fits}
 
 -- a Read as asked by r that ended, on a tape whose recorded end is e
-pub record ReadFits (e : ℕ) (r : Reading) (x : Moving) : Type 0 where
+pub record ReadFits (e : ℕ) (r : Buffer) (x : Ending) : Type 0 where
   pub place : x .tape .position ≤ x .tape .end
   pub kept : x .tape .end ≡ e
   pub source : blockBytes * (x .moved .first + piecesOf (x .moved .length)) ≤ blockBytes * e
@@ -28,7 +28,7 @@ pub record ReadFits (e : ℕ) (r : Reading) (x : Moving) : Type 0 where
   pub unlaid : x .laid ≡ noLay
   pub told : EndFits (x .end)
 
-module _ (e : ℕ) (r : Reading) where
+module _ (e : ℕ) (r : Buffer) where
   stop-has : (x : End) (q : ℕ) → EndFits x → q ≤ e → Has (ReadFits e r) (stopMotion x q e)
   unfolding stopMotion
   stop-has x q f h = record { place = h; kept = refl; source = omega arith; buffer = omega arith; unlaid = refl; told = f }

@@ -8,9 +8,9 @@ use Rattle.signals.specs.declared.counts.Residual.{Residual}
 use Rattle.state.specs.declared.Tape.{Tape}
 use Rattle.motions.specs.declared.parts.Moved.{Moved}
 use Rattle.motions.specs.declared.parts.Laid.{Laid}
-use Rattle.motions.specs.declared.parts.Object.{Object}
-use Rattle.motions.specs.declared.parts.Object.the-variants as object
-use Rattle.motions.specs.declared.parts.Moving.{Moving}
+use Rattle.motions.specs.declared.parts.ObjectKind.{ObjectKind}
+use Rattle.motions.specs.declared.parts.ObjectKind.the-variants as kind
+use Rattle.motions.specs.declared.parts.Ending.{Ending}
 use Rattle.motions.specs.declared.parts.Motion.{Motion}
 use Rattle.motions.specs.declared.parts.Motion.the-variants as motion
 
@@ -25,18 +25,18 @@ abbrev pub noMove : Moved
 noMove = record { first = 0; length = 0; reverse = false; pointer = 0; count = 0; swb = false }
 
 abbrev pub noLay : Laid
-noLay = record { at = 0; «gap_first» = false; object = object.Nothing; pointer = 0; length = 0; swb = false }
+noLay = record { at = 0; «gap_first» = false; object = kind.Nothing; pointer = 0; length = 0; swb = false }
 
 -- a motion that ended and moves and lays nothing
 abbrev pub stops : End → Tape → Motion
 stops x t = motion.Ended (record { end = x; tape = t; moved = noMove; laid = noLay })
 
 -- the blocks of what is laid
-unfoldable pub objectBlocks : Object → ℕ → ℕ
-objectBlocks object.Nothing n = 0
-objectBlocks object.Mark n = 1
-objectBlocks object.Gap n = 1
-objectBlocks object.Record n = piecesOf n
+unfoldable pub objectBlocks : ObjectKind → ℕ → ℕ
+objectBlocks kind.Nothing n = 0
+objectBlocks kind.Mark n = 1
+objectBlocks kind.Gap n = 1
+objectBlocks kind.Record n = piecesOf n
 
 -- "gap and object together" for a retry
 unfoldable pub laidBlocks : Laid → ℕ

@@ -17,7 +17,7 @@ use Rattle.moves.specs.declared.seeking.Sought.the-variants as sought-as
 use Rattle.motions.specs.Parts.{end, noLay, standing, stops}
 use Rattle.motions.specs.declared.parts.Motion.{Motion}
 use Rattle.motions.specs.declared.parts.Motion.the-variants as motion
-use Rattle.motions.specs.declared.reads.Reading.{Reading}
+use Rattle.motions.specs.declared.reads.Buffer.{Buffer}
 use Rattle.motions.specs.declared.reads.Stage.{Stage}
 use Rattle.motions.specs.declared.reads.Stage.the-variants as stage
 
@@ -55,7 +55,7 @@ unfoldable pub firstBlock : Bool → ℕ → ℕ → ℕ
 firstBlock reverse n q = pick reverse q (q - piecesOf n)
 
 -- the record is read in direction `reverse`; the last stage ran `rev` and left the tape at t
-unfoldable pub readMotion : Reading → Bool → ℕ → ℕ → Tape → Bool → Motion
+unfoldable pub readMotion : Buffer → Bool → ℕ → ℕ → Tape → Bool → Motion
 readMotion r reverse n q t rev =
     motion.Ended
     (record {
@@ -73,35 +73,35 @@ readMotion r reverse n q t rev =
       laid = noLay;
     })
 
-unfoldable pub readOneBy : Tape → Reading → Bool → Stage → Motion
+unfoldable pub readOneBy : Tape → Buffer → Bool → Stage → Motion
 readOneBy t r reverse (stage.Record n q) = readMotion r reverse n q (standing q (t .end)) reverse
 readOneBy t r reverse (stage.Over m) = m
 
-unfoldable pub readOne : List ℕ → Tape → Reading → Bool → Motion
+unfoldable pub readOne : List ℕ → Tape → Buffer → Bool → Motion
 readOne s t r reverse = readOneBy t r reverse (stageOf s t (r .count) reverse)
 
-unfoldable pub spaceThenReadBy : List ℕ → Tape → Reading → Bool → Stage → Motion
+unfoldable pub spaceThenReadBy : List ℕ → Tape → Buffer → Bool → Stage → Motion
 spaceThenReadBy s t r reverse (stage.Record n q) = readOne s (standing q (t .end)) r (not reverse)
 spaceThenReadBy s t r reverse (stage.Over m) = m
 
 -- "Mode 2 reread: space reverse, read forward. Mode 3: space forward, read reverse."
-unfoldable pub spaceThenRead : List ℕ → Tape → Reading → Bool → Motion
+unfoldable pub spaceThenRead : List ℕ → Tape → Buffer → Bool → Motion
 spaceThenRead s t r reverse = spaceThenReadBy s t r reverse (stageOf s t (r .count) reverse)
 
-unfoldable pub spaceBackBy : ℕ → Reading → Bool → ℕ → ℕ → Stage → Motion
+unfoldable pub spaceBackBy : ℕ → Buffer → Bool → ℕ → ℕ → Stage → Motion
 spaceBackBy e r reverse n q (stage.Record n′ b) = readMotion r reverse n q (standing b e) (not reverse)
 spaceBackBy e r reverse n q (stage.Over m) = m
 
-unfoldable pub spaceBack : List ℕ → ℕ → Reading → Bool → ℕ → ℕ → Motion
+unfoldable pub spaceBack : List ℕ → ℕ → Buffer → Bool → ℕ → ℕ → Motion
 spaceBack s e r reverse n q = spaceBackBy e r reverse n q (stageOf s (standing q e) (r .count) (not reverse))
 
-unfoldable pub readThenSpaceBy : List ℕ → Tape → Reading → Bool → Stage → Motion
+unfoldable pub readThenSpaceBy : List ℕ → Tape → Buffer → Bool → Stage → Motion
 readThenSpaceBy s t r reverse (stage.Record n q) = spaceBack s (t .end) r reverse n q
 readThenSpaceBy s t r reverse (stage.Over m) = m
 
 -- "OPP puts the read first, same direction as the space had, then the space back."
-unfoldable pub readThenSpace : List ℕ → Tape → Reading → Bool → Motion
+unfoldable pub readThenSpace : List ℕ → Tape → Buffer → Bool → Motion
 readThenSpace s t r reverse = readThenSpaceBy s t r reverse (stageOf s t (r .count) reverse)
 
-unfoldable pub reread : List ℕ → Tape → Reading → Bool → Bool → Motion
+unfoldable pub reread : List ℕ → Tape → Buffer → Bool → Bool → Motion
 reread s t r reverse opp = pick opp (readThenSpace s t r reverse) (spaceThenRead s t r reverse)

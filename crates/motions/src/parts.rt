@@ -15,7 +15,7 @@ pub struct Moved {
     pub swb: bool,
 }
 
-pub enum Object {
+pub enum ObjectKind {
     Nothing,
     Mark,
     Gap,
@@ -27,14 +27,14 @@ pub enum Object {
 pub struct Laid {
     pub at: usize,
     pub gap_first: bool,
-    pub object: Object,
+    pub object: ObjectKind,
     pub pointer: usize,
     pub length: u16,
     pub swb: bool,
 }
 
 // How a command on the tape ended: what it says, where the tape stands, what is moved and laid.
-pub struct Moving {
+pub struct Ending {
     pub end: End,
     pub tape: Tape,
     pub moved: Moved,
@@ -42,7 +42,7 @@ pub struct Moving {
 }
 
 pub enum Motion {
-    Ended(Moving),
+    Ended(Ending),
     // A block at fault.
     Fault(usize),
 }
@@ -66,22 +66,22 @@ pub fn no_lay() -> Laid
     Laid {
         at: 0,
         gap_first: false,
-        object: Object::Nothing,
+        object: ObjectKind::Nothing,
         pointer: 0,
         length: 0,
         swb: false,
     }
 }
 
-fn object_blocks(o: Object, length: u16) -> usize
+fn object_blocks(o: ObjectKind, length: u16) -> usize
     ensures is { λ r. ⌜ r ≡ objectBlocks o length ⌝ }
     ensures low { λ r. ⌜ r ≤ 65536 ⌝ }
 {
     match o {
-        Object::Nothing => 0,
-        Object::Mark => 1,
-        Object::Gap => 1,
-        Object::Record => tape::pieces(length as usize),
+        ObjectKind::Nothing => 0,
+        ObjectKind::Mark => 1,
+        ObjectKind::Gap => 1,
+        ObjectKind::Record => tape::pieces(length as usize),
     }
 }
 

@@ -1,7 +1,7 @@
 // Read: one stage, or two for a reread.
 use crate::parts::Motion;
 use crate::parts::Moved;
-use crate::parts::Moving;
+use crate::parts::Ending;
 use crate::parts::no_lay;
 use crate::parts::no_move;
 use moves::Sought;
@@ -15,7 +15,7 @@ ghost use mathlib.Core.Path.{_≡_};
 ghost use Rattle.motions.specs.Reads.{firstBlock, markEnd, nothingEnd, readEnd, readMotion, readOne, readThenSpace, reread, spaceBack, spaceThenRead, stageOf, stopMotion};
 
 // What a Read asks for.
-pub struct Reading {
+pub struct Buffer {
     pub pointer: usize,
     pub count: u16,
     pub swb: bool,
@@ -87,7 +87,7 @@ fn stop_motion(end: End, position: usize, e: usize) -> Motion
     let tape = Tape { position, end: e };
     let moved = no_move();
     let laid = no_lay();
-    Motion::Ended(Moving {
+    Motion::Ended(Ending {
         end,
         tape,
         moved,
@@ -119,7 +119,7 @@ fn first_block(reverse: bool, n: usize, q: usize) -> usize
 }
 
 // The record's bytes go to the buffer by the direction of the read, and the tape stands at `position` after the last stage.
-fn read_motion(r: Reading, reverse: bool, n: usize, q: usize, t: Tape, rev: bool) -> Motion
+fn read_motion(r: Buffer, reverse: bool, n: usize, q: usize, t: Tape, rev: bool) -> Motion
     ensures { λ x. ⌜ x ≡ readMotion r reverse n q t rev ⌝ }
 {
     let end = read_end(n, r.count, rev);
@@ -133,7 +133,7 @@ fn read_motion(r: Reading, reverse: bool, n: usize, q: usize, t: Tape, rev: bool
         swb: r.swb,
     };
     let laid = no_lay();
-    Motion::Ended(Moving {
+    Motion::Ended(Ending {
         end,
         tape: t,
         moved,
@@ -141,7 +141,7 @@ fn read_motion(r: Reading, reverse: bool, n: usize, q: usize, t: Tape, rev: bool
     })
 }
 
-pub fn read_one(reel: &[u8], t: Tape, r: Reading, reverse: bool) -> Motion
+pub fn read_one(reel: &[u8], t: Tape, r: Buffer, reverse: bool) -> Motion
     ensures { λ x. ⌜ x ≡ readOne (now (reel .entry)) t r reverse ⌝ }
 {
     match run_stage(reel, t, r.count, reverse) {
@@ -161,7 +161,7 @@ pub fn read_one(reel: &[u8], t: Tape, r: Reading, reverse: bool) -> Motion
 }
 
 // Space, then read back over it.
-fn space_then_read(reel: &[u8], t: Tape, r: Reading, reverse: bool) -> Motion
+fn space_then_read(reel: &[u8], t: Tape, r: Buffer, reverse: bool) -> Motion
     ensures { λ x. ⌜ x ≡ spaceThenRead (now (reel .entry)) t r reverse ⌝ }
 {
     match run_stage(reel, t, r.count, reverse) {
@@ -179,7 +179,7 @@ fn space_then_read(reel: &[u8], t: Tape, r: Reading, reverse: bool) -> Motion
 }
 
 // The space back after a read, for OPP.
-fn space_back(reel: &[u8], e: usize, r: Reading, reverse: bool, n: usize, q: usize) -> Motion
+fn space_back(reel: &[u8], e: usize, r: Buffer, reverse: bool, n: usize, q: usize) -> Motion
     ensures { λ x. ⌜ x ≡ spaceBack (now (reel .entry)) e r reverse n q ⌝ }
 {
     match run_stage(
@@ -207,7 +207,7 @@ fn space_back(reel: &[u8], e: usize, r: Reading, reverse: bool, n: usize, q: usi
 }
 
 // Read, then space back over it: OPP.
-fn read_then_space(reel: &[u8], t: Tape, r: Reading, reverse: bool) -> Motion
+fn read_then_space(reel: &[u8], t: Tape, r: Buffer, reverse: bool) -> Motion
     ensures { λ x. ⌜ x ≡ readThenSpace (now (reel .entry)) t r reverse ⌝ }
 {
     match run_stage(reel, t, r.count, reverse) {
@@ -216,7 +216,7 @@ fn read_then_space(reel: &[u8], t: Tape, r: Reading, reverse: bool) -> Motion
     }
 }
 
-pub fn reread_one(reel: &[u8], t: Tape, r: Reading, reverse: bool, opp: bool) -> Motion
+pub fn reread_one(reel: &[u8], t: Tape, r: Buffer, reverse: bool, opp: bool) -> Motion
     ensures { λ x. ⌜ x ≡ reread (now (reel .entry)) t r reverse opp ⌝ }
 {
     if opp {

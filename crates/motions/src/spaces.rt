@@ -1,6 +1,6 @@
 // Position: records and marks, forward and in reverse.
 use crate::parts::Motion;
-use crate::parts::Moving;
+use crate::parts::Ending;
 use crate::parts::no_lay;
 use crate::parts::no_move;
 use moves::Rule;
@@ -93,7 +93,7 @@ fn space_motion(r: Rule, x: Spaced, e: usize) -> Motion
     };
     let moved = no_move();
     let laid = no_lay();
-    Motion::Ended(Moving {
+    Motion::Ended(Ending {
         end,
         tape,
         moved,
@@ -116,7 +116,7 @@ pub fn position(reel: &[u8], t: Tape, r: Rule, count: u16, enb: bool) -> Motion
         };
         let moved = no_move();
         let laid = no_lay();
-        return Motion::Ended(Moving {
+        return Motion::Ended(Ending {
             end,
             tape: t,
             moved,

@@ -1,7 +1,7 @@
 // Write and Format: the object goes where the tape stands, or for a retry, behind a gap, where the last object stood.
 use crate::parts::Laid;
 use crate::parts::Motion;
-use crate::parts::Moving;
+use crate::parts::Ending;
 use crate::parts::laid_blocks;
 use crate::parts::no_lay;
 use crate::parts::no_move;
@@ -30,7 +30,7 @@ fn no_room(t: Tape) -> Motion
     };
     let moved = no_move();
     let laid = no_lay();
-    Motion::Ended(Moving {
+    Motion::Ended(Ending {
         end,
         tape: t,
         moved,
@@ -59,7 +59,7 @@ fn written_motion(l: Laid, blocks: usize, mark: bool) -> Motion
         end: after,
     };
     let moved = no_move();
-    Motion::Ended(Moving {
+    Motion::Ended(Ending {
         end,
         tape,
         moved,
@@ -114,7 +114,7 @@ pub fn retry(reel: &[u8], t: Tape, blocks: usize, l: Laid, mark: bool) -> Motion
             };
             let moved = no_move();
             let laid = no_lay();
-            Motion::Ended(Moving {
+            Motion::Ended(Ending {
                 end,
                 tape,
                 moved,

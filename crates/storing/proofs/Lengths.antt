@@ -18,12 +18,12 @@ use Rattle.state.proofs.Tests.{either}
 use Rattle.motions.specs.Parts.{laidBlocks, objectBlocks}
 use Rattle.motions.specs.declared.parts.Laid.{Laid}
 use Rattle.motions.specs.declared.parts.Moved.{Moved}
-use Rattle.motions.specs.declared.parts.Object.{Object as Kind}
-use Rattle.motions.specs.declared.parts.Object.the-variants as kind
+use Rattle.motions.specs.declared.parts.ObjectKind.{ObjectKind}
+use Rattle.motions.specs.declared.parts.ObjectKind.the-variants as kind
 use Rattle.commands.specs.declared.plans.Plan.{Plan}
 use Rattle.storing.specs.Stored.{laidObject, laidObjects, laidOn, memoryAfter, messageOn, movedOn, reelAfter}
 
-blocks-object : (m : List ℕ) (l : Laid) (k : Kind) → blocksOf (laidObject m l k) ≡ objectBlocks k (l .length)
+blocks-object : (m : List ℕ) (l : Laid) (k : ObjectKind) → blocksOf (laidObject m l k) ≡ objectBlocks k (l .length)
 unfolding laidObject objectBlocks blocksOf blocksIn
 blocks-object m l kind.Nothing = refl
 blocks-object m l kind.Mark = refl

@@ -15,12 +15,12 @@ use Rattle.signals.specs.Message.{messageBytes, messaged}
 use Rattle.motions.specs.Parts.{laidBlocks}
 use Rattle.motions.specs.declared.parts.Laid.{Laid}
 use Rattle.motions.specs.declared.parts.Moved.{Moved}
-use Rattle.motions.specs.declared.parts.Object.{Object as Kind}
-use Rattle.motions.specs.declared.parts.Object.the-variants as kind
+use Rattle.motions.specs.declared.parts.ObjectKind.{ObjectKind}
+use Rattle.motions.specs.declared.parts.ObjectKind.the-variants as kind
 use Rattle.commands.specs.declared.plans.Plan.{Plan}
 
 -- the object that is laid, with its bytes from memory m
-unfoldable pub laidObject : List ℕ → Laid → Kind → List Object
+unfoldable pub laidObject : List ℕ → Laid → ObjectKind → List Object
 laidObject m l kind.Nothing = []
 laidObject m l kind.Mark = mark ∷ []
 laidObject m l kind.Gap = gap ∷ []

@@ -2,7 +2,7 @@
 use commands::Plan;
 use motions::Laid;
 use motions::Moved;
-use motions::Object;
+use motions::ObjectKind;
 ghost use mathlib.Core.Path.{_≡_};
 ghost use Prim.Native.Nat.{_+_, _*_, _≤_, _%_};
 ghost use lib.ListN.{length};
@@ -17,10 +17,10 @@ fn lay_object(reel: &mut [u8], at: usize, l: Laid, mem: &[u8])
 {
     let o = l.object;
     match o {
-        Object::Nothing => {}
-        Object::Mark => reel::lay_mark(reel, at),
-        Object::Gap => reel::lay_gap(reel, at),
-        Object::Record => reel::lay_record(reel, at, mem, l.pointer, l.length as usize, l.swb),
+        ObjectKind::Nothing => {}
+        ObjectKind::Mark => reel::lay_mark(reel, at),
+        ObjectKind::Gap => reel::lay_gap(reel, at),
+        ObjectKind::Record => reel::lay_record(reel, at, mem, l.pointer, l.length as usize, l.swb),
     }
 }
 
