@@ -1,0 +1,5 @@
+-- Laws of what is saved and put back.
+pub mod Parts
+pub mod PutBack
+pub mod Joins
+pub mod Fits

@@ -1,0 +1,80 @@
+-- `bring_back` meets its contract: three scatters put the saved bytes back.
+use Rattle.touched.proofs.Joins.{parts-brought}
+use borrow.Author.Needs.{needs}
+use Rattle.touched.proofs.saving.bring_back.Statement.{statement}
+use Rattle.touched.proofs.saving.bring_back.Tie as tie
+
+add-blocks : tie.Need-add-blocks
+add-blocks c = search needs
+
+sub-scatter : tie.Need-sub-scatter
+sub-scatter c = search needs
+
+part-scatter-start : tie.Need-part-scatter-start
+part-scatter-start c = search needs
+
+part-scatter-end : tie.Need-part-scatter-end
+part-scatter-end c = search needs
+
+mul-scatter : tie.Need-mul-scatter
+mul-scatter c = search needs
+
+scatter-requires : tie.Need-scatter-requires
+scatter-requires c κs = search needs
+
+sub-scatter-2 : tie.Need-sub-scatter-2
+sub-scatter-2 c = search needs
+
+part-scatter-start-2 : tie.Need-part-scatter-start-2
+part-scatter-start-2 c = search needs
+
+part-scatter-end-2 : tie.Need-part-scatter-end-2
+part-scatter-end-2 c = search needs
+
+scatter-requires-2 : tie.Need-scatter-requires-2
+scatter-requires-2 c κs = search needs
+
+sub-scatter-3 : tie.Need-sub-scatter-3
+sub-scatter-3 c = search needs
+
+part-scatter-start-3 : tie.Need-part-scatter-start-3
+part-scatter-start-3 c = search needs
+
+part-scatter-end-3 : tie.Need-part-scatter-end-3
+part-scatter-end-3 c = search needs
+
+scatter-requires-3 : tie.Need-scatter-requires-3
+scatter-requires-3 c κs = search needs
+
+same-length : tie.Need-same-length
+same-length c = search needs
+
+same-length-2 : tie.Need-same-length-2
+same-length-2 c = search needs
+
+returns : tie.Need-returns
+returns c =
+    let s = c .before .before .before .before .before .before .before .before .before .before .before .before .before .before .before .before .before .before .before .before in
+    parts-brought (s .args .t) (s .args .b .now) (s .args .mem .now) (s .args .reel .now) _ _ _ (s .pre .0) (c .before .before .before .before .before .before .before .before .before .before .before .before .scatter .ensures) (c .before .before .before .before .before .before .before .scatter2 .ensures) (c .before .before .scatter3 .ensures)
+
+pub bring-back-spec : {M : Type 1} → statement M
+bring-back-spec =
+    tie.close
+    (tie.spec
+    add-blocks
+    sub-scatter
+    part-scatter-start
+    part-scatter-end
+    mul-scatter
+    scatter-requires
+    sub-scatter-2
+    part-scatter-start-2
+    part-scatter-end-2
+    scatter-requires-2
+    sub-scatter-3
+    part-scatter-start-3
+    part-scatter-end-3
+    scatter-requires-3
+    same-length
+    same-length-2
+    returns)
