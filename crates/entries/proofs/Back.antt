@@ -7,9 +7,10 @@ use native.Mathlib.Omega.{arith}
 use lib.Dec.{eqb}
 use lib.ListN.{length, getD}
 use Rattle.entries.specs.declared.Entry.{Entry}
-use Rattle.entries.specs.Numbers.{Small, bit, entryOf, numberLimit, numbersOf, unitOf}
+use Rattle.entries.specs.Bytes.{headCount}
+use Rattle.entries.specs.Numbers.{Small, bit, entryOf, numberLimit, numbersOf, touchedOf, unitOf}
 
-pub length-numbers : (e : Entry) → length (numbersOf e) ≡ 32
+pub length-numbers : (e : Entry) → length (numbersOf e) ≡ headCount
 unfolding numbersOf
 length-numbers e = refl
 
@@ -22,7 +23,7 @@ told true = refl
 told false = refl
 
 pub entry-back : (e : Entry) → Small e → entryOf (numbersOf e) ≡ e
-unfolding numbersOf entryOf unitOf
+unfolding numbersOf entryOf unitOf touchedOf
 entry-back e h =
     let r = e .unit .registers in
     let p = e .unit .panel in
@@ -52,7 +53,7 @@ entry-back e h =
       low _ (h .blocks),
       low _ (h .data-at),
       low _ (h .data-length),
-      told (e .swb),
+      told (e .touched .swb),
       low _ (h .message-at),
       low _ (h .message-length),
       low _ (h .reel-at),

@@ -8,7 +8,7 @@ use lib.ListN.{length, getD}
 use Rattle.lists.specs.Words.{Bytes}
 use Rattle.entries.specs.declared.Entry.{Entry}
 use Rattle.entries.specs.Numbers.{Small, entryOf, numberLimit, numbersOf}
-use Rattle.entries.specs.Bytes.{headBytes, headNumbers, numberAt, numberBytes}
+use Rattle.entries.specs.Bytes.{headBytes, headCount, headNumbers, numberAt, numberBytes}
 use Rattle.entries.proofs.Back.{entry-back, length-numbers}
 
 pub length-head : (ns : List ℕ) → length (headBytes ns) ≡ 4 * length ns
@@ -27,7 +27,7 @@ bytes-head (n ∷ ns) h (suc (suc (suc zero))) = omega (arith, h 0)
 bytes-head (n ∷ ns) h (suc (suc (suc (suc i)))) = bytes-head ns (λ j. h (suc j)) i
 
 -- a number from its bytes
-number-back : (n : ℕ) (r : List ℕ) → numberAt (numberBytes n ++ r) 0 ≡ n
+pub number-back : (n : ℕ) (r : List ℕ) → numberAt (numberBytes n ++ r) 0 ≡ n
 number-back n r = omega arith
 
 pub head-back : (ns rest : List ℕ) → headNumbers (length ns) (headBytes ns ++ rest) ≡ ns
@@ -35,5 +35,5 @@ unfolding headBytes headNumbers
 head-back [] rest = refl
 head-back (n ∷ ns) rest = rw (number-back n (headBytes ns ++ rest), head-back ns rest)
 
-pub head-entry : (e : Entry) → Small e → entryOf (headNumbers 32 (headBytes (numbersOf e))) ≡ e
+pub head-entry : (e : Entry) → Small e → entryOf (headNumbers headCount (headBytes (numbersOf e))) ≡ e
 head-entry e h = rw (← length-numbers e, ← append-nil (headBytes (numbersOf e)), head-back (numbersOf e) []) (entry-back e h)

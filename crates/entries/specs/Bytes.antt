@@ -4,6 +4,16 @@ use Prim.Native.Nat.{ℕ, suc, _+_, _*_, _/_, _%_}
 use lib.ListN.{drop}
 use Rattle.lists.specs.Words.{wordAt, wordBytes}
 
+-- an entry's head is so many numbers, of four bytes each; its length stands at its front as one more
+abbrev pub headCount : ℕ
+headCount = 31
+
+abbrev pub headLength : ℕ
+headLength = 124
+
+abbrev pub frontLength : ℕ
+frontLength = 4
+
 abbrev pub numberBytes : ℕ → List ℕ
 numberBytes n = wordBytes (n % 65536) ++ wordBytes (n / 65536)
 

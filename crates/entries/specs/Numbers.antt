@@ -1,4 +1,4 @@
--- The head of an entry is 32 numbers; every field of the state has its place. (01: "Undoing registers but not VCK, owners or pending
+-- The head of an entry is 31 numbers; every field of the state has its place. (01: "Undoing registers but not VCK, owners or pending
 -- attention" is what this must rule out: see the law `entry-back`.)
 use mathlib.Core.Bool.{Bool, not}
 use mathlib.Core.List.{List, [], _∷_}
@@ -7,6 +7,7 @@ use lib.Dec.{eqb}
 use lib.ListN.{getD}
 use Rattle.lists.specs.Pick.{pick}
 use Rattle.state.specs.declared.Unit.{Unit}
+use Rattle.touched.specs.declared.Touched.{Touched}
 use Rattle.entries.specs.declared.Entry.{Entry}
 
 abbrev pub bit : Bool → ℕ
@@ -37,14 +38,13 @@ numbersOf e =
     ∷ bit (e .unit .characteristics .enb)
     ∷ e .unit .lengths .memory % numberLimit
     ∷ e .unit .lengths .blocks % numberLimit
-    ∷ e .«data_at» % numberLimit
-    ∷ e .«data_length» % numberLimit
-    ∷ bit (e .swb)
-    ∷ e .«message_at» % numberLimit
-    ∷ e .«message_length» % numberLimit
-    ∷ e .«reel_at» % numberLimit
-    ∷ e .«reel_blocks» % numberLimit
-    ∷ 0
+    ∷ e .touched .«data_at» % numberLimit
+    ∷ e .touched .«data_length» % numberLimit
+    ∷ bit (e .touched .swb)
+    ∷ e .touched .«message_at» % numberLimit
+    ∷ e .touched .«message_length» % numberLimit
+    ∷ e .touched .«reel_at» % numberLimit
+    ∷ e .touched .«reel_blocks» % numberLimit
     ∷ 0
     ∷ 0
     ∷ 0
@@ -77,10 +77,9 @@ unitOf n =
       lengths = record { memory = nth n 19; blocks = nth n 20 };
     }
 
-unfoldable pub entryOf : List ℕ → Entry
-entryOf n =
+unfoldable pub touchedOf : List ℕ → Touched
+touchedOf n =
     record {
-      unit = unitOf n;
       «data_at» = nth n 21;
       «data_length» = nth n 22;
       swb = isSet n 23;
@@ -89,6 +88,9 @@ entryOf n =
       «reel_at» = nth n 26;
       «reel_blocks» = nth n 27;
     }
+
+unfoldable pub entryOf : List ℕ → Entry
+entryOf n = record { unit = unitOf n; touched = touchedOf n }
 
 -- every number of the entry has at most four bytes; so has each that the journal writes
 pub record Small (e : Entry) : Type 0 where
@@ -100,9 +102,9 @@ pub record Small (e : Entry) : Type 0 where
   pub length : e .unit .characteristics .length < numberLimit
   pub memory : e .unit .lengths .memory < numberLimit
   pub blocks : e .unit .lengths .blocks < numberLimit
-  pub data-at : e .«data_at» < numberLimit
-  pub data-length : e .«data_length» < numberLimit
-  pub message-at : e .«message_at» < numberLimit
-  pub message-length : e .«message_length» < numberLimit
-  pub reel-at : e .«reel_at» < numberLimit
-  pub reel-blocks : e .«reel_blocks» < numberLimit
+  pub data-at : e .touched .«data_at» < numberLimit
+  pub data-length : e .touched .«data_length» < numberLimit
+  pub message-at : e .touched .«message_at» < numberLimit
+  pub message-length : e .touched .«message_length» < numberLimit
+  pub reel-at : e .touched .«reel_at» < numberLimit
+  pub reel-blocks : e .touched .«reel_blocks» < numberLimit

@@ -1,24 +1,35 @@
-// What a journal entry keeps: the whole state before the step, and where its bytes came from, as 32 numbers of four bytes.
+// What a journal entry keeps: the whole state before the step, and the bytes at the places that the step touches. It can be read from both
+// ends: its length stands at its front, and its head at its end.
 mod bytes;
+mod entering;
 mod numbers;
+mod restoring;
 
 pub use bytes::head_at;
+pub use bytes::number_at;
 pub use bytes::put_head;
+pub use bytes::put_number;
+pub use entering::enter;
+pub use entering::entry_length;
 pub use numbers::entry_of;
 pub use numbers::numbers_of;
+pub use restoring::bring_entry_back;
+pub use restoring::entry_fits;
+pub use restoring::newest_entry;
 use state::Unit;
+use touched::Touched;
 
-// The state before a step, and the places whose old bytes stand in the entry.
+// The state before a step, and what the step touches.
 pub struct Entry {
     pub unit: Unit,
-    pub data_at: usize,
-    pub data_length: usize,
-    pub swb: bool,
-    pub message_at: usize,
-    pub message_length: usize,
-    pub reel_at: usize,
-    pub reel_blocks: usize,
+    pub touched: Touched,
 }
 
+// The entry's length, at its front.
+pub const FRONT: usize = 4;
+
+// The state and the places, at its end: 31 numbers.
+pub const HEAD: usize = 124;
+
 // "Entry length is 128 + stored memory bytes + stored reel bytes".
-pub const HEAD: usize = 128;
+pub const BARE: usize = 128;

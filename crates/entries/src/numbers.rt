@@ -1,4 +1,4 @@
-// The one encoding of an entry's head: 32 numbers, and back.
+// The one encoding of an entry's head: 31 numbers, and back.
 use crate::Entry;
 use state::Attention;
 use state::Characteristics;
@@ -7,9 +7,10 @@ use state::Panel;
 use state::Registers;
 use state::Tape;
 use state::Unit;
+use touched::Touched;
 ghost use mathlib.Core.Path.{_≡_};
 ghost use Prim.Native.Nat.{_%_};
-ghost use Rattle.entries.specs.Numbers.{bit, entryOf, numbersOf, unitOf};
+ghost use Rattle.entries.specs.Numbers.{bit, entryOf, numbersOf, touchedOf, unitOf};
 
 fn low(x: usize) -> u32
     ensures { λ r. ⌜ r ≡ x % 4294967296 ⌝ }
@@ -23,10 +24,11 @@ fn bit_of(b: bool) -> u32
     if b { 1 } else { 0 }
 }
 
-pub fn numbers_of(e: Entry) -> [u32; 32]
+pub fn numbers_of(e: Entry) -> [u32; 31]
     ensures { λ r. ⌜ r ≡ numbersOf e ⌝ }
 {
     let u = e.unit;
+    let t = e.touched;
     [
         low(u.tape.position),
         low(u.tape.end),
@@ -49,21 +51,20 @@ pub fn numbers_of(e: Entry) -> [u32; 32]
         bit_of(u.characteristics.enb),
         low(u.lengths.memory),
         low(u.lengths.blocks),
-        low(e.data_at),
-        low(e.data_length),
-        bit_of(e.swb),
-        low(e.message_at),
-        low(e.message_length),
-        low(e.reel_at),
-        low(e.reel_blocks),
-        0,
+        low(t.data_at),
+        low(t.data_length),
+        bit_of(t.swb),
+        low(t.message_at),
+        low(t.message_length),
+        low(t.reel_at),
+        low(t.reel_blocks),
         0,
         0,
         0,
     ]
 }
 
-fn unit_of(n: [u32; 32]) -> Unit
+fn unit_of(n: [u32; 31]) -> Unit
     ensures { λ r. ⌜ r ≡ unitOf n ⌝ }
 {
     let tape = Tape {
@@ -109,12 +110,10 @@ fn unit_of(n: [u32; 32]) -> Unit
     }
 }
 
-pub fn entry_of(n: [u32; 32]) -> Entry
-    ensures { λ r. ⌜ r ≡ entryOf n ⌝ }
+fn touched_of(n: [u32; 31]) -> Touched
+    ensures { λ r. ⌜ r ≡ touchedOf n ⌝ }
 {
-    let unit = unit_of(n);
-    Entry {
-        unit,
+    Touched {
         data_at: n[21] as usize,
         data_length: n[22] as usize,
         swb: n[23] != 0,
@@ -123,4 +122,12 @@ pub fn entry_of(n: [u32; 32]) -> Entry
         reel_at: n[26] as usize,
         reel_blocks: n[27] as usize,
     }
+}
+
+pub fn entry_of(n: [u32; 31]) -> Entry
+    ensures { λ r. ⌜ r ≡ entryOf n ⌝ }
+{
+    let unit = unit_of(n);
+    let touched = touched_of(n);
+    Entry { unit, touched }
 }

@@ -14,7 +14,6 @@ use Rattle.touched.specs.Touches.{savedBlocks, savedBytes, savedData, sa
 
 -- the length, written out
 pub saved-whole : (t : Touched) → savedLength t ≡ t .«data_length» + t .«message_length» + blockBytes * t .«reel_blocks»
-
 saved-whole t = refl
 
 module _ (t : Touched) (m r : List ℕ) where

@@ -13,10 +13,10 @@ use Rattle.entries.proofs.bytes.head_at.Statement.{statement}
 use Rattle.entries.proofs.bytes.head_at.Tie as tie
 
 abbrev Inv-loop : tie.InvT-loop
-Inv-loop b at n₀ i₀ n i = (i ≤ 32) × (length n ≡ 32) × (sets n i (headNumbers (32 - i) (drop (at + 4 * i) b)) ≡ headNumbers 32 (drop at b))
+Inv-loop b at n₀ i₀ n i = (i ≤ 31) × (length n ≡ 31) × (sets n i (headNumbers (31 - i) (drop (at + 4 * i) b)) ≡ headNumbers 31 (drop at b))
 
 abbrev μ-loop : tie.MeasureT-loop
-μ-loop b at n₀ i₀ n i = 32 - i
+μ-loop b at n₀ i₀ n i = 31 - i
 
 blank-requires : tie.Need-blank-requires Inv-loop μ-loop
 blank-requires c κs = search needs
@@ -24,8 +24,8 @@ blank-requires c κs = search needs
 loop-holds : tie.Need-loop-holds Inv-loop μ-loop
 loop-holds c =
     let a = c .before .before .args in
-    let h = headNumbers 32 (drop (a .at) (a .b .now)) in
-    (omega arith, c .blank .ensures, rw (add-zero (a .at)) (sets-whole h (c .blank .result) (rw (length-read 32 (drop (a .at) (a .b .now)), c .blank .ensures))))
+    let h = headNumbers 31 (drop (a .at) (a .b .now)) in
+    (omega arith, c .blank .ensures, rw (add-zero (a .at)) (sets-whole h (c .blank .result) (rw (length-read 31 (drop (a .at) (a .b .now)), c .blank .ensures))))
 
 mul-number-at : tie.Need-mul-number-at Inv-loop μ-loop
 mul-number-at c = search needs
@@ -54,14 +54,14 @@ loop-again c =
     let a = l .before .before .before .args in
     let i = l .loop .i in
     let p : a .at + 4 * (i + 1) ≡ a .at + 4 * i + 4 = omega arith in
-    let k : 32 - i ≡ suc (32 - (i + 1)) = omega arith in
-    (omega arith, simp length-set (l .loop .inv .1), rw (c .number-at .ensures, p) (read-turn (l .loop .n) (a .b .now) (a .at + 4 * i) i (32 - (i + 1)) ∙ rw (← k) (l .loop .inv .2)))
+    let k : 31 - i ≡ suc (31 - (i + 1)) = omega arith in
+    (omega arith, simp length-set (l .loop .inv .1), rw (c .number-at .ensures, p) (read-turn (l .loop .n) (a .b .now) (a .at + 4 * i) i (31 - (i + 1)) ∙ rw (← k) (l .loop .inv .2)))
 
 returns : tie.Need-returns Inv-loop μ-loop
 returns c =
     let l = c .before in
     let a = l .before .before .before .args in
-    sym (read-end (l .loop .n) (drop (a .at + 4 * l .loop .i) (a .b .now)) (l .loop .i) (32 - l .loop .i) (omega arith)) ∙ l .loop .inv .2
+    sym (read-end (l .loop .n) (drop (a .at + 4 * l .loop .i) (a .b .now)) (l .loop .i) (31 - l .loop .i) (omega arith)) ∙ l .loop .inv .2
 
 pub head-at-spec : {M : Type 1} → statement M
 head-at-spec =

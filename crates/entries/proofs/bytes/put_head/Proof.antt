@@ -12,10 +12,10 @@ use Rattle.entries.proofs.bytes.put_head.Statement.{statement}
 use Rattle.entries.proofs.bytes.put_head.Tie as tie
 
 abbrev Inv-loop : tie.InvT-loop
-Inv-loop b₀ at n i₀ b i = (i ≤ 32) × (length b ≡ length b₀) × (sets b (at + 4 * i) (headBytes (drop i n)) ≡ sets b₀ at (headBytes n))
+Inv-loop b₀ at n i₀ b i = (i ≤ 31) × (length b ≡ length b₀) × (sets b (at + 4 * i) (headBytes (drop i n)) ≡ sets b₀ at (headBytes n))
 
 abbrev μ-loop : tie.MeasureT-loop
-μ-loop b₀ at n i₀ b i = 32 - i
+μ-loop b₀ at n i₀ b i = 31 - i
 
 loop-holds : tie.Need-loop-holds Inv-loop μ-loop
 loop-holds c = (omega arith, refl, rw add-zero)

@@ -106,7 +106,7 @@ returns c =
     ∷ (c8 .before .before .before .bit-of11 .ensures) i ∷ (c8 .before .before .bit-of12 .ensures) i ∷ (c8 .before .bit-of13 .ensures) i ∷ (c8 .low7 .ensures) i
     ∷ (c4 .before .before .before .low8 .ensures) i ∷ (c4 .before .before .low9 .ensures) i ∷ (c4 .before .low10 .ensures) i ∷ (c4 .bit-of14 .ensures) i
     ∷ (c .before .before .before .low11 .ensures) i ∷ (c .before .before .low12 .ensures) i ∷ (c .before .low13 .ensures) i ∷ (c .low14 .ensures) i
-    ∷ 0 ∷ 0 ∷ 0 ∷ 0 ∷ []
+    ∷ 0 ∷ 0 ∷ 0 ∷ []
 
 pub numbers-of-spec : {M : Type 1} → statement M
 numbers-of-spec =

@@ -1,0 +1,118 @@
+-- The used part of a journal: what entering adds to it, and what is read from it. What stands behind it does not matter.
+use mathlib.Core.Path.{_≡_, refl, sym, ap, ap₂, subst, _∙_}
+use mathlib.Core.List.{List, [], _∷_, _++_, append-assoc}
+use Prim.Native.Nat.{ℕ, zero, suc, _+_, _-_, _*_, _≤_, _<_}
+use native.Mathlib.Omega.{arith}
+use lib.ListN.{length, take, drop, getD, length-append, length-drop}
+use lib.Seq.{drop-at, drop-drop, getD-drop, getD-take, length-take-le, sets, sets-eq, take-at, take-take}
+use Rattle.tape.proofs.Runs.{part-of-front}
+use Rattle.touched.specs.Touches.{Restored, savedBytes, savedLength}
+use Rattle.touched.specs.declared.Touched.{Touched}
+use Rattle.touched.proofs.Parts.{length-saved}
+use Rattle.entries.specs.declared.Entry.{Entry}
+use Rattle.entries.specs.Numbers.{Small, entryOf, numbersOf}
+use Rattle.entries.specs.Bytes.{frontLength, headBytes, headCount, headLength, headNumbers, numberAt, numberBytes}
+use Rattle.entries.specs.Entries.{entryBare, entryBytes, entryLength, newestEntry, oldestLength, savedIn, usedIn}
+use Rattle.entries.proofs.HeadBytes.{head-entry, number-back}
+use Rattle.entries.proofs.Joined.{entry-whole, head-long, length-entry}
+
+-- how long it is; none of it; all of it
+pub length-used : (used : ℕ) (j : List ℕ) → used ≤ length j → length (usedIn used j) ≡ used
+unfolding usedIn
+length-used used j h = length-take-le used j h
+
+pub used-none : (j : List ℕ) → usedIn 0 j ≡ []
+unfolding usedIn
+used-none j = refl
+
+-- a part of the used part
+pub used-less : (a used : ℕ) (j : List ℕ) → a ≤ used → usedIn a (usedIn used j) ≡ usedIn a j
+unfolding usedIn
+used-less a used j h = take-take a used j h
+
+-- an entry stored behind it lies behind what was there
+pub used-more : (vs j : List ℕ) (used n : ℕ) → length vs ≡ n → used + n ≤ length j → usedIn (used + n) (sets j used vs) ≡ usedIn used j ++ vs
+unfolding usedIn
+used-more vs j used n k h =
+    let long : length (take used j ++ vs) ≡ used + n = length-append (take used j) vs ∙ ap (λ (i : ℕ). i + length vs) (length-take-le used j (omega arith)) ∙ ap (λ (i : ℕ). used + i) k in
+    rw (sets-eq vs j used (omega arith)) (take-at (take used j ++ vs) (drop (used + length vs) j) (used + n) long)
+
+-- the first k numbers are read from the first 4 * k bytes
+head-same : (k : ℕ) (b d : List ℕ) → ((i : ℕ) → i < 4 * k → getD b i 0 ≡ getD d i 0) → headNumbers k b ≡ headNumbers k d
+unfolding headNumbers
+head-same zero b d f = refl
+head-same (suc k) b d f =
+    let n : numberAt b 0 ≡ numberAt d 0 = rw (f 0 (omega arith), f 1 (omega arith), f 2 (omega arith), f 3 (omega arith)) in
+    ap₂ (λ (x : ℕ) (l : List ℕ). x ∷ l) n (head-same k (drop 4 b) (drop 4 d) (λ i h. getD-drop 4 b i 0 ∙ f (4 + i) (omega arith) ∙ sym (getD-drop 4 d i 0)))
+
+head-within : (a used : ℕ) (j : List ℕ) → a + headLength ≤ used → headNumbers headCount (drop a j) ≡ headNumbers headCount (drop a (take used j))
+head-within a used j h =
+    head-same headCount (drop a j) (drop a (take used j))
+    (λ i k. getD-drop a j i 0 ∙ sym (getD-drop a (take used j) i 0 ∙ getD-take used j (a + i) 0 (omega arith)))
+
+-- what `newest_entry` reads
+pub newest-read : (j n : List ℕ) (used : ℕ) (r : Entry) → headLength ≤ used → used ≤ length j → n ≡ headNumbers headCount (drop (used - headLength) j) → r ≡ entryOf n → r ≡ newestEntry (usedIn used j)
+unfolding newestEntry usedIn
+newest-read j n used r h k p q =
+    rw (length-take-le used j k) (q ∙ ap entryOf (p ∙ head-within (used - headLength) used j (omega arith)))
+
+-- what `bring_entry_back` reads
+pub saved-read : (e : Entry) (j : List ℕ) (used s : ℕ) → used ≤ length j → entryLength e ≤ used → s ≡ savedLength (e .touched) → take (used - headLength - (used - headLength - s)) (drop (used - headLength - s) j) ≡ savedIn e (usedIn used j)
+unfolding savedIn usedIn
+saved-read e j used s h k d =
+    let whole = entry-whole e in
+    let from : used - headLength - s ≡ used - entryLength e + frontLength = omega arith in
+    let n : used - headLength - (used - headLength - s) ≡ s = omega arith in
+    rw (length-take-le used j h, n, from, d)
+    (sym (part-of-front (savedLength (e .touched)) (used - entryLength e + frontLength) used j (omega arith)))
+
+-- and lends: as many bytes as were saved
+pub saved-lent : (e : Entry) (j : List ℕ) (used s : ℕ) → used ≤ length j → entryLength e ≤ used → s ≡ savedLength (e .touched) → length (take (used - headLength - (used - headLength - s)) (drop (used - headLength - s) j)) ≡ savedLength (e .touched)
+saved-lent e j used s h k d =
+    let whole = entry-whole e in
+    let n : used - headLength - (used - headLength - s) ≡ s = omega arith in
+    rw n (length-take-le s (drop (used - headLength - s) j) (rw length-drop (omega arith)) ∙ d)
+
+pub brought-as : (t : Touched) (x y m r m′ r′ : List ℕ) → x ≡ y → Restored t x m r m′ r′ → Restored t y m r m′ r′
+brought-as t x y m r m′ r′ e h = subst (λ (z : List ℕ). Restored t z m r m′ r′) e h
+
+-- an entry e at the end of the used journal: its head is read as e, its saved bytes are found, and without it the rest is left
+module _ (e : Entry) (m r j : List ℕ) where
+  abbrev front : List ℕ
+  front = j ++ (numberBytes (entryLength e) ++ savedBytes (e .touched) m r)
+
+  head-last : j ++ entryBytes e m r ≡ front ++ headBytes (numbersOf e)
+  unfolding entryBytes
+  head-last = simp append-assoc
+
+  pub newest-is : Small e → newestEntry (j ++ entryBytes e m r) ≡ e
+  unfolding newestEntry
+  newest-is h =
+      let whole : length (front ++ headBytes (numbersOf e)) ≡ length front + headLength = length-append front (headBytes (numbersOf e)) ∙ ap (λ (k : ℕ). length front + k) (head-long e) in
+      let at : length front ≡ length (front ++ headBytes (numbersOf e)) - headLength = omega (arith, whole) in
+      rw (head-last, drop-at front (headBytes (numbersOf e)) (length (front ++ headBytes (numbersOf e)) - headLength) at) (head-entry e h)
+
+  saved-middle : j ++ entryBytes e m r ≡ (j ++ numberBytes (entryLength e)) ++ (savedBytes (e .touched) m r ++ headBytes (numbersOf e))
+  unfolding entryBytes
+  saved-middle = simp append-assoc
+
+  pub saved-is : savedIn e (j ++ entryBytes e m r) ≡ savedBytes (e .touched) m r
+  unfolding savedIn
+  saved-is =
+      let whole : length (j ++ entryBytes e m r) ≡ length j + entryLength e = length-append j (entryBytes e m r) ∙ ap (λ (k : ℕ). length j + k) (length-entry e m r) in
+      let before : length (j ++ numberBytes (entryLength e)) ≡ length j + frontLength = length-append j (numberBytes (entryLength e)) in
+      let at : length (j ++ entryBytes e m r) - entryLength e + frontLength ≡ length j + frontLength = omega (arith, whole) in
+      rw (at, saved-middle, drop-at (j ++ numberBytes (entryLength e)) (savedBytes (e .touched) m r ++ headBytes (numbersOf e)) (length j + frontLength) before)
+      (take-at (savedBytes (e .touched) m r) (headBytes (numbersOf e)) (savedLength (e .touched)) (length-saved (e .touched) m r))
+
+  pub used-without : (used : ℕ) → length j ≡ used → usedIn used (j ++ entryBytes e m r) ≡ j
+  unfolding usedIn
+  used-without used h = take-at j (entryBytes e m r) used h
+
+  -- read from the other end: the first entry of a journal says how long it is, and behind it lies the rest
+  pub oldest-is : oldestLength (entryBytes e m r ++ j) ≡ entryLength e
+  unfolding oldestLength entryBytes
+  oldest-is = number-back (entryLength e) ((savedBytes (e .touched) m r ++ headBytes (numbersOf e)) ++ j)
+
+  pub oldest-gone : drop (oldestLength (entryBytes e m r ++ j)) (entryBytes e m r ++ j) ≡ j
+  oldest-gone = rw oldest-is (drop-at (entryBytes e m r) j (entryLength e) (length-entry e m r))

@@ -1,0 +1,38 @@
+// Making an entry: the state before the step, and the bytes that it is about to store over.
+use crate::BARE;
+use crate::Entry;
+use crate::FRONT;
+use crate::bytes::put_head;
+use crate::bytes::put_number;
+use crate::numbers::numbers_of;
+use touched::save;
+use touched::saved_length;
+ghost use mathlib.Core.Path.{_≡_};
+ghost use Prim.Native.Nat.{_+_, _≤_};
+ghost use lib.ListN.{length};
+ghost use lib.Seq.{sets};
+ghost use Rattle.touched.specs.Touches.{TouchedIn};
+ghost use Rattle.entries.specs.Entries.{entryBytes, entryLength};
+
+// "Entry length is 128 + stored memory bytes + stored reel bytes". The lengths of memory and reel are in bytes.
+pub fn entry_length(e: Entry, memory: usize, reel: usize) -> usize
+    requires { ⌜ TouchedIn (e .touched) memory reel ⌝ }
+    ensures { λ r. ⌜ r ≡ entryLength e ⌝ }
+{
+    let t = e.touched;
+    BARE + saved_length(t, memory, reel)
+}
+
+// The entry goes into the journal from `used` on: its length, the old bytes of its places, its head.
+pub fn enter(jrnl: &mut [u8], used: usize, e: Entry, mem: &[u8], reel: &[u8])
+    requires { ⌜ (used + entryLength e ≤ length (now jrnl)) × TouchedIn (e .touched) (length (now mem)) (length (now reel)) ⌝ }
+    ensures { λ _. ⌜ now (jrnl .exit) ≡ sets (now (jrnl .entry)) used (entryBytes e (now (mem .entry)) (now (reel .entry))) ⌝ }
+{
+    let t = e.touched;
+    let saved = saved_length(t, mem.len(), reel.len());
+    let from = used + FRONT;
+    let head = from + saved;
+    put_number(jrnl, used, (BARE + saved) as u32);
+    save(&mut jrnl[from..head], t, mem, reel);
+    put_head(jrnl, head, numbers_of(e));
+}
