@@ -1,7 +1,6 @@
--- Laws of the calls: what each return shows, what a refusal leaves, that a plan fits, and that a contract permits one outcome only.
+-- Laws of the unit's face: what a plan touches, and that every step keeps to it.
 pub mod Outside
-pub mod Hosting
-pub mod Still
+pub mod Moving
 pub mod Storing
-pub mod Unique
-pub mod Refused
+pub mod Touches
+pub mod Stepping

@@ -1,15 +1,17 @@
-// One TS11-compatible unit: the calls without a journal.
-mod calls;
+// One TS11-compatible unit, as the journal sees it: mounting it, what is asked of it, what it is about to do and to touch, and doing that.
+mod asking;
+mod mounting;
+mod registers;
 
-pub use calls::Outcome;
-pub use calls::Reading;
-pub use calls::Register;
-pub use calls::advance;
-pub use calls::host_store;
-pub use calls::mount;
-pub use calls::mount_refusal;
-pub use calls::operate;
-pub use calls::read_register;
-pub use calls::store_refusal;
-pub use calls::write_tsdb;
-pub use calls::write_tssr;
+pub use asking::HOST_LIMIT;
+pub use asking::carry;
+pub use asking::host_touched;
+pub use asking::plan;
+pub use asking::put_host;
+pub use asking::store_wrong;
+pub use asking::touched_by;
+pub use mounting::Mounted;
+pub use mounting::mount;
+pub use mounting::mount_refusal;
+pub use registers::Register;
+pub use registers::register_word;

@@ -1,0 +1,2 @@
+-- Laws of the calls' meaning.
+pub mod Passing

@@ -1,0 +1,138 @@
+-- The eight calls, each as a function of the world. (01, "Calls" and the table of refusals) A call is lent a journal of n bytes.
+use mathlib.Core.Bool.{Bool, true, false, _&&_, not}
+use mathlib.Core.List.{List, _++_}
+use Prim.Native.Nat.{ℕ, _+_, _-_}
+use lib.Dec.{eqb, ltb}
+use lib.ListN.{length}
+use Rattle.lists.specs.Pick.{pick}
+use Rattle.state.specs.Checks.{stateWrong}
+use Rattle.state.specs.declared.Unit.{Unit}
+use Rattle.commands.specs.declared.plans.Answer.{Answer}
+use Rattle.commands.specs.declared.plans.Answer.the-variants as answer
+use Rattle.touched.specs.Touches.{memoryBack, reelBack}
+use Rattle.unit.specs.Asks.{Ask}
+use Rattle.unit.specs.Cores.{Core}
+use Rattle.unit.specs.Steps.{Step, stepOf}
+use Rattle.unit.specs.Registers.{registerWord}
+use Rattle.unit.specs.Mounts.{mountCall, mountRefusal}
+use Rattle.unit.specs.declared.registers.Register.{Register}
+use Rattle.unit.specs.declared.mounting.Mounted.{Mounted}
+use Rattle.entries.specs.Entries.{entryBare, entryBytes, entryFits, entryLength, newestEntry, savedIn, usedIn}
+use Rattle.entries.specs.declared.Entry.{Entry}
+use Rattle.worlds.specs.Worlds.{Answered, Ledger, World, answered, sessionOf}
+use Rattle.worlds.specs.Refusals.{checked, journalLimit, sessionWrong}
+use Rattle.worlds.specs.declared.Session.{Session}
+use Rattle.worlds.specs.declared.Outcome.{Outcome}
+use Rattle.worlds.specs.declared.RegisterRead.{RegisterRead}
+
+-- "Each returns its number and changes nothing"
+abbrev pub refusedAs : ℕ → World → Answered
+refusedAs n w = answered (answer.Refused n) w
+
+-- refusals 1 to 4 first
+unfoldable pub guarded : World → ℕ → Answered → Answered
+guarded w n x =
+    pick (eqb (checked (sessionOf w) (length (w .core .memory)) (length (w .core .reel)) n) 0) x
+    (refusedAs (checked (sessionOf w) (length (w .core .memory)) (length (w .core .reel)) n) w)
+
+-- the entry of a step x from the core c
+unfoldable pub entryFor : Core → Step → Entry
+entryFor c x = record { unit = c .unit; touched = x .touched }
+
+-- "9 free journal less than the entry"
+abbrev pub noRoom : Ledger → Entry → Bool
+noRoom l e = ltb (l .length - l .used) (entryLength e)
+
+-- "answered 0 it adds one entry": the ledger with the entry e of a step from the core c
+unfoldable pub noted : Ledger → Entry → Core → Ledger
+noted l e c =
+    record {
+      used = l .used + entryLength e;
+      length = l .length;
+      bytes = l .bytes ++ entryBytes e (c .memory) (c .reel);
+    }
+
+-- a step whose entry fits is taken and noted
+unfoldable pub takenAs : World → Step → Answer → Answered
+takenAs w x a =
+    pick (noRoom (w .ledger) (entryFor (w .core) x)) (refusedAs 9 w)
+    (answered a (record { core = x .after; ledger = noted (w .ledger) (entryFor (w .core) x) (w .core) }))
+
+-- "Advance .. answers Idle .., changes nothing, adds no entry"; 5 and 7 change nothing either
+unfoldable pub takenBy : World → Step → Answer → Answered
+takenBy w x (answer.Done i) = takenAs w x (answer.Done i)
+takenBy w x answer.Idle = answered answer.Idle w
+takenBy w x (answer.Refused k) = answered (answer.Refused k) w
+takenBy w x (answer.BadBlock k) = answered (answer.BadBlock k) w
+
+-- a TSDB or TSSR write, host store, operator act or advance
+unfoldable pub stepOn : World → ℕ → Ask → Answered
+stepOn w n a = guarded w n (takenBy w (stepOf a (w .core)) (stepOf a (w .core) .answer))
+
+-- "Reading a register gives 0 and its word, or refusal 1 and word 0; it adds none."
+unfoldable pub registerOn : Session → Register → RegisterRead
+registerOn s r =
+    pick (sessionWrong s) (record { answer = answer.Refused 1; word = 0 })
+    (record { answer = answer.Done false; word = registerWord (s .unit) r })
+
+-- the core with the entry e brought back, whose saved bytes are b
+unfoldable pub undone : Entry → List ℕ → Core → Core
+undone e b c =
+    record {
+      unit = e .unit;
+      memory = memoryBack (e .touched) b (c .memory);
+      reel = reelBack (e .touched) b (c .reel);
+    }
+
+-- "Step back removes the newest": the ledger without its newest entry e
+unfoldable pub without : Ledger → Entry → Ledger
+without l e =
+    record {
+      used = l .used - entryLength e;
+      length = l .length;
+      bytes = usedIn (l .used - entryLength e) (l .bytes);
+    }
+
+-- "8 newest entry's own numbers don't fit journal, memory or reel, or it would restore a state that 1 refuses"
+unfoldable pub entryWrong : World → Entry → Bool
+entryWrong w e =
+    not (entryFits e (w .ledger .used) (w .core .unit .lengths) (length (w .core .memory)) (length (w .core .reel)) && not (stateWrong (e .unit)))
+
+unfoldable pub undoBy : World → Entry → Answered
+undoBy w e =
+    pick (entryWrong w e) (refusedAs 8 w)
+    (answered (answer.Done false)
+    (record { core = undone e (savedIn e (w .ledger .bytes)) (w .core); ledger = without (w .ledger) e }))
+
+unfoldable pub undoOn : World → Answered
+undoOn w = undoBy w (newestEntry (w .ledger .bytes))
+
+-- "6 step back with no entry"; a used journal too short for an entry is 8's
+unfoldable pub backOn : World → ℕ → Answered
+backOn w n =
+    guarded w n
+    (pick (eqb (w .ledger .used) 0) (refusedAs 6 w)
+    (pick (ltb (w .ledger .used) entryBare) (refusedAs 8 w) (undoOn w)))
+
+abbrev pub outcome : Answer → Session → Outcome
+outcome a s = record { answer = a; session = s }
+
+abbrev pub session : Unit → ℕ → ℕ → Session
+session u used journal = record { unit = u; used = used; journal = journal }
+
+-- "Mount .. empties the journal"; "a refused mount hands that back"
+unfoldable pub mountedBy : Session → ℕ → Unit → Answer → Outcome
+mountedBy old journal u (answer.Done i) = outcome (answer.Done i) (session u 0 journal)
+mountedBy old journal u answer.Idle = outcome answer.Idle old
+mountedBy old journal u (answer.Refused k) = outcome (answer.Refused k) old
+mountedBy old journal u (answer.BadBlock k) = outcome (answer.BadBlock k) old
+
+-- 2, 3, 4, then 7
+unfoldable pub mountOn : Session → ℕ → List ℕ → ℕ → ℕ → Bool → Bool → Outcome
+mountOn old memory r journal e online locked =
+    pick (eqb (mountRefusal memory (length r) e) 0)
+    (pick (ltb journalLimit journal) (outcome (answer.Refused 4) old)
+    (mountedBy old journal
+    (mountCall (old .unit) memory r e online locked .unit)
+    (mountCall (old .unit) memory r e online locked .answer)))
+    (outcome (answer.Refused (mountRefusal memory (length r) e)) old)

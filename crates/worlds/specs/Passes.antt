@@ -1,0 +1,15 @@
+-- What a call knows that refusals 1 to 4 let pass.
+use mathlib.Core.Path.{_≡_}
+use Prim.Native.Nat.{ℕ, _*_, _≤_}
+use Rattle.tape.specs.Numbers.{blockBytes}
+use Rattle.state.specs.Legal.{Legal}
+use Rattle.worlds.specs.Refusals.{journalLimit}
+use Rattle.worlds.specs.declared.Session.{Session}
+
+pub record Passed (s : Session) (memory reel journal : ℕ) : Type 0 where
+  pub legal : Legal (s .unit)
+  pub memory-is : memory ≡ s .unit .lengths .memory
+  pub reel-is : reel ≡ blockBytes * s .unit .lengths .blocks
+  pub journal-is : journal ≡ s .journal
+  pub used : s .used ≤ s .journal
+  pub limit : s .journal ≤ journalLimit

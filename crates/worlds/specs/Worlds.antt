@@ -1,0 +1,44 @@
+-- All that a call can change, in two parts: the core that steps change and steps back bring back, and the ledger of the steps that stand.
+use mathlib.Core.Path.{_≡_}
+use mathlib.Core.List.{List}
+use Prim.Native.Nat.{ℕ}
+use Rattle.commands.specs.declared.plans.Answer.{Answer}
+use Rattle.unit.specs.Cores.{Core}
+use Rattle.entries.specs.Entries.{usedIn}
+use Rattle.worlds.specs.declared.Session.{Session}
+use Rattle.worlds.specs.declared.Outcome.{Outcome}
+
+-- the used journal: how many bytes, of how many at the mount, and which
+pub record Ledger : Type 0 where
+  pub used : ℕ
+  pub length : ℕ
+  pub bytes : List ℕ
+
+pub record World : Type 0 where
+  pub core : Core
+  pub ledger : Ledger
+
+-- an answer, and the world after it
+pub record Answered : Type 0 where
+  pub answer : Answer
+  pub world : World
+
+abbrev pub answered : Answer → World → Answered
+answered a w = record { answer = a; world = w }
+
+-- the world of a call: of the lent journal only the used part. "Journal bytes outside the used part are not promised." (01)
+abbrev pub worldOf : Session → List ℕ → List ℕ → List ℕ → World
+worldOf s m r j =
+    record {
+      core = record { unit = s .unit; memory = m; reel = r };
+      ledger = record { used = s .used; length = s .journal; bytes = usedIn (s .used) j };
+    }
+
+-- the numbers of a world that a call is handed and hands back
+abbrev pub sessionOf : World → Session
+sessionOf w = record { unit = w .core .unit; used = w .ledger .used; journal = w .ledger .length }
+
+-- what a call hands back and leaves in the slices is the definition's answer and world
+pub record Leaves (x : Answered) (o : Outcome) (m r j : List ℕ) : Type 0 where
+  pub answer : o .answer ≡ x .answer
+  pub world : worldOf (o .session) m r j ≡ x .world
