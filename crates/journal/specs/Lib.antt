@@ -1,6 +1,2 @@
--- The calls with their journal.
-pub mod Worlds
-pub mod Refusals
-pub mod Entries
-pub mod Restoring
-pub mod Calls
+-- What the functions behind the calls ask of their caller.
+pub mod Readiness
