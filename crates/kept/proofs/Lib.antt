@@ -8,3 +8,5 @@ pub mod Carrying
 pub mod Lengths
 pub mod Stepping
 pub mod Advanced
+pub mod Walk
+pub mod Buffers

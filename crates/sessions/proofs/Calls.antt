@@ -1,146 +1,120 @@
 -- The calls as a machine of the session, and what holds of any session of them from a mounted reel on.
-use mathlib.Core.Path.{_≡_, refl, sym, ap, _∙_}
+use mathlib.Core.Path.{_≡_, refl, sym, ap, _∙_, subst}
 use mathlib.Core.Bool.{false}
-use mathlib.Core.List.{List, [], _∷_, _++_}
+use mathlib.Core.List.{List, [], _∷_}
 use Prim.Native.Nat.{ℕ, _+_, _≤_}
 use native.Mathlib.Omega.{arith}
 use lib.ListN.{length}
 use Rattle.commands.specs.declared.plans.Answer.the-variants as answer
-use Rattle.entries.specs.declared.Entry.{Entry}
-use Rattle.journal.specs.Worlds.{Answered, World, answered}
-use Rattle.journal.specs.Entries.{entryBytes, entryLength}
-use Rattle.journal.specs.Calls.{backOn, guarded, refusedAs}
-use Rattle.sessions.specs.Session.{Clean, Done, Kind, Machine, Ran, State, after, and-did, and-saw, backs, does, entries-stand, fit-clean, fit-ran, looked, one-did, one-end, one-saw, pops, refused, standing, start, stepped, strike, strike-clean, struck, went-back}
-use Rattle.sessions.specs.Calling.{Call, Kept, Said, entryAt, journalOf, keptAt, kindOf, lengthOf, onCall, wordOf}
-use Rattle.sessions.proofs.Formed.{Formed}
-use Rattle.sessions.proofs.Undone.{Fit}
-use Rattle.sessions.proofs.Stays.{stays}
-use Rattle.sessions.proofs.Advancing.{advance-sound}
-use Rattle.sessions.proofs.Taken.{Taken, taken, taken-fit, taken-journal, taken-undone, taken-used}
+use Rattle.touched.specs.Touches.{savedBytes}
+use Rattle.unit.specs.Cores.{Core}
+use Rattle.unit.specs.Steps.{Step}
+use Rattle.entries.specs.Entries.{entryBytes}
+use Rattle.worlds.specs.Worlds.{Answered, World, answered}
+use Rattle.worlds.specs.Calls.{backOn, entryFor, guarded, noted, refusedAs, undone}
+use Rattle.sessions.specs.Session.{Clean, Done, Kind, Machine, Moment, Ran, after, and-did, and-saw, back, backFrom, backs, does, looked, one-did, one-saw, pops, refused, standing, start, stepped, strike}
+use Rattle.sessions.specs.Calling.{Call, Noted, Said, broughtBack, doing, entryAt, journalOf, kindOf, ledgerOf, lengthOf, notedAt, onCall, wordOf, worldFrom}
+use Rattle.sessions.specs.Good.{Formed, Fresh, Good}
+use Rattle.sessions.proofs.Striking.{entries-stand, fit-clean, fit-ran, one-end, strike-clean, struck, went-back}
+use Rattle.sessions.proofs.Undone.{core-undone}
+use Rattle.sessions.proofs.Taken.{doing-keeps, doing-sound, stays, step-fit, step-undone, takenTo, took}
 
--- what every world of a session has: the checks let it pass, the reel is well formed, the position is 0 or just after an object
-pub record Good (n : ℕ) (w : World) : Type 0 where
-  pub fit : Fit n w
-  pub formed : Formed (w .reel) (w .session .unit .tape)
+abbrev pub Here : Type 0
+Here = Moment Core Noted
 
-abbrev pub Now : Type 0
-Now = State World Kept
+abbrev pub kindNow : ℕ → Call → Here → Kind
+kindNow n c s = kindOf c (onCall n c (worldFrom n s) .answer)
 
-abbrev pub kindNow : ℕ → Call → Now → Kind
-kindNow n c s = kindOf c (onCall n c (s .world) .answer)
+-- the moment after a step
+abbrev pub stepTo : Call → Here → Here
+stepTo c s = record { core = doing c (s .core) .after; entries = notedAt c (s .core) ∷ s .entries }
 
-good-after : (n : ℕ) (w next : World) (e : Entry) → Good n w → Taken w next e → Good n next
-good-after n w next e g t =
-    record {
-      fit = taken-fit n w next e (g .fit) t;
-      formed = rw (t .is) (t .formed (g .formed));
-    }
+-- a noted entry is the ledger's newest
+ledger-noted : (n : ℕ) (c : Call) (d : Core) (ks : List Noted) → noted (ledgerOf n ks) (entryAt c d) d ≡ ledgerOf n (notedAt c d ∷ ks)
+unfolding noted journalOf lengthOf notedAt
+ledger-noted n c d ks = refl
 
 module _ (n : ℕ) where
-  step : (c : Call) (s : Now) → Good n (s .world) → kindNow n c s ≡ stepped → Taken (s .world) (onCall n c (s .world) .world) (entryAt c (s .world))
-  step c s f k = taken advance-sound n c (s .world) (f .fit) k
+  -- the journal is the entries of the steps that stand: the world after a step is that of the moment after it
+  pub stepped-world : (c : Call) (s : Here) → kindNow n c s ≡ stepped → onCall n c (worldFrom n s) .world ≡ worldFrom n (stepTo c s)
+  stepped-world c s k = took n c (worldFrom n s) k .is ∙ rw (ledger-noted n c (s .core) (s .entries))
 
-  pub kept-good : (c : Call) (s : Now) → Good n (s .world) → kindNow n c s ≡ stepped → Good n (onCall n c (s .world) .world)
-  kept-good c s f k = good-after n (s .world) (onCall n c (s .world) .world) (entryAt c (s .world)) f (step c s f k)
+  pub kept-good : (c : Call) (s : Here) → Good n s → kindNow n c s ≡ stepped → Good n (stepTo c s)
+  kept-good c s f k =
+      record {
+        fit = rw (← stepped-world c s k) (step-fit n (worldFrom n s) (f .fit) c k);
+        formed = doing-keeps n (worldFrom n s) (f .fit) c k .formed (f .formed);
+      }
 
-  pub undone : (c : Call) (s : Now) → Good n (s .world) → kindNow n c s ≡ stepped → backOn (onCall n c (s .world) .world) n ≡ answered (answer.Done false) (s .world)
-  undone c s f k = taken-undone n (s .world) (onCall n c (s .world) .world) (entryAt c (s .world)) (f .fit) (step c s f k)
+  -- a step is undone by its entry
+  pub went : (c : Call) (s : Here) → Good n s → kindNow n c s ≡ stepped → broughtBack (notedAt c (s .core)) (doing c (s .core) .after) ≡ s .core
+  unfolding notedAt
+  went c s f k = core-undone (s .core) (doing c (s .core)) (doing-sound n (worldFrom n s) (f .fit) c k)
 
-  pub went : (c : Call) (s : Now) → Good n (s .world) → kindNow n c s ≡ stepped → backOn (onCall n c (s .world) .world) n .world ≡ s .world
-  went c s f k = ap (λ (x : Answered). x .world) (undone c s f k)
-
-  -- the step back is the call's own: nothing but the bytes of the journal tells it what to do
   abbrev pub calls : Machine
   calls =
       record {
-        W = World;
-        E = Kept;
-        C = Call;
+        C = Core;
+        E = Noted;
+        K = Call;
         A = Said;
         kind = kindNow n;
-        next = λ c w. onCall n c w .world;
-        entry = keptAt;
-        answer = λ c s. record { answer = onCall n c (s .world) .answer; word = wordOf c (s .world) };
-        undo = λ k w. backOn w n .world;
+        next = λ c d. doing c d .after;
+        entry = notedAt;
+        answer = λ c s. record { answer = onCall n c (worldFrom n s) .answer; word = wordOf c (worldFrom n s) };
+        undo = broughtBack;
         Fit = Good n;
         keeps = kept-good;
         undoes = went;
       }
 
-  -- a session begins with no entry
-  pub record Fresh (s : Now) : Type 0 where
-    pub good : Good n (s .world)
-    pub none : s .entries ≡ []
-    pub empty : s .world .journal ≡ []
+  -- the call itself, step back: nothing but the bytes of the journal tells it what to do, and it leads where the model leads
+  back-stepped : (c : Call) (s : Here) → Good n s → kindNow n c s ≡ stepped → backOn (worldFrom n (stepTo c s)) n ≡ answered (answer.Done false) (worldFrom n s)
+  back-stepped c s f k = rw (← stepped-world c s k) (step-undone n (worldFrom n s) (f .fit) c k)
 
-  -- the journal is the entries of the steps that stand, newest last, and nothing else
-  pub record JournalIs (s : Now) : Type 0 where
-    pub bytes : s .world .journal ≡ journalOf (s .entries)
-    pub used : s .world .session .used ≡ lengthOf (s .entries)
-
-  fresh-is : (s : Now) → Fresh s → JournalIs s
-  unfolding journalOf lengthOf
-  fresh-is s f = record { bytes = rw (f .empty, f .none); used = rw (f .none) (sym (f .good .fit .kept) ∙ ap length (f .empty)) }
-
-  step-is : (c : Call) (s : Now) → Good n (s .world) → kindNow n c s ≡ stepped → JournalIs s → JournalIs (record { world = onCall n c (s .world) .world; entries = keptAt c (s .world) ∷ s .entries })
-  unfolding journalOf lengthOf keptAt
-  step-is c s f k x =
-      let t = step c s f k in
-      record {
-        bytes = taken-journal n (s .world) (onCall n c (s .world) .world) (entryAt c (s .world)) (f .fit) t ∙ ap (λ (j : List ℕ). j ++ entryBytes (entryAt c (s .world)) (s .world .memory) (s .world .reel)) (x .bytes);
-        used = taken-used n (s .world) (onCall n c (s .world) .world) (entryAt c (s .world)) (f .fit) t ∙ ap (λ (j : ℕ). j + entryLength (entryAt c (s .world))) (x .used);
-      }
-
-  clean-is : {s₀ s : Now} {l : List (Done calls)} → Fresh s₀ → Clean calls l → Ran calls s₀ l s → JournalIs s
-  clean-is {s₀} f k start = fresh-is s₀ f
-  clean-is f (one-did k) (and-did {c = c} {s = s} r kd an st) = rw st (step-is c s (fit-clean calls (f .good) k r) kd (clean-is f k r))
-  clean-is f (one-saw k) (and-saw r kd an) = clean-is f k r
-
-  clean-back : {s₀ s : Now} {l : List (Done calls)} {k : Kept} {ks : List Kept} → Fresh s₀ → Clean calls l → Ran calls s₀ l s → s .entries ≡ k ∷ ks → backOn (s .world) n .answer ≡ answer.Done false
-  clean-back f k start e = absurd (let z : _≡_ {A = ℕ} 0 1 = cc (f .none) in omega arith)
-  clean-back f (one-did k) (and-did {c = c} {s = s} r kd an st) e = rw st (ap (λ (x : Answered). x .answer) (undone c s (fit-clean calls (f .good) k r) kd))
-  clean-back f (one-saw k) (and-saw r kd an) e = clean-back f k r e
+  clean-back : {s₀ s : Here} {l : List (Done calls)} {e : Noted} {es : List Noted} → Fresh n s₀ → Clean calls l → Ran calls s₀ l s → s .entries ≡ e ∷ es → backOn (worldFrom n s) n ≡ answered (answer.Done false) (worldFrom n (back calls s))
+  clean-back f k start q = absurd (let z : _≡_ {A = ℕ} 0 1 = cc (f .none) in omega arith)
+  clean-back f (one-did k) (and-did {k = c} {s = s} r kd an st) q =
+      let good = fit-clean calls (f .good) k r in
+      let was : back calls (stepTo c s) ≡ s = λ i. record { core = went c s good kd i; entries = s .entries } in
+      rw st (back-stepped c s good kd ∙ ap (λ (x : Here). answered (answer.Done false) (worldFrom n x)) (sym was))
+  clean-back f (one-saw k) (and-saw r kd an) q = clean-back f k r q
 
   -- Any session from its beginning on.
-  module _ {s₀ s : Now} {l : List (Done calls)} (f : Fresh s₀) (r : Ran calls s₀ l s) where
+  module _ {s₀ s : Here} {l : List (Done calls)} (f : Fresh n s₀) (r : Ran calls s₀ l s) where
     -- no check refuses; "the reel is well formed, the position is 0 or just after an object"
-    pub always-good : Good n (s .world)
+    pub always-good : Good n s
     always-good = fit-ran calls (f .good) (f .none) r
 
     -- what was undone never was
     pub never-was : Ran calls s₀ (strike calls l) s
     never-was = struck calls (f .good) (f .none) r
 
-    -- "the journal holds one entry per step taken and still standing (128 bytes plus the memory and reel bytes stored)"
+    -- "the journal holds one entry per step taken and still standing": the world's ledger is, by `worldFrom`, that of the entries
     pub one-each : length (s .entries) ≡ standing calls (strike calls l)
     one-each = entries-stand calls (f .none) (strike-clean calls l) never-was
-
-    pub journal-is : JournalIs s
-    journal-is = clean-is f (strike-clean calls l) never-was
 
     -- "going back k gives the state, memory and reel before the earliest of those k"
     pub back-to : (k : ℕ) → k ≤ standing calls (strike calls l) → Ran calls s₀ (pops calls k (strike calls l)) (backs calls k s)
     back-to k h = went-back calls k (f .good) (f .none) (strike-clean calls l) never-was h
 
-    -- "6 step back with no entry", and no other refusal of a step back: with an entry it is done
-    pub back-none : s .entries ≡ [] → backOn (s .world) n ≡ refusedAs 6 (s .world)
-    unfolding backOn guarded lengthOf
-    back-none e =
-        let used : s .world .session .used ≡ 0 = journal-is .used ∙ ap lengthOf e in
-        rw (always-good .fit .sound, used)
-
-    pub back-done : {k : Kept} {ks : List Kept} → s .entries ≡ k ∷ ks → backOn (s .world) n .answer ≡ answer.Done false
-    back-done e = clean-back f (strike-clean calls l) never-was e
-
-    -- the log without its k newest steps leads to one state, and that is where going back k leads
-    pub back-exactly : (k : ℕ) {s′ : Now} → k ≤ standing calls (strike calls l) → Ran calls s₀ (pops calls k (strike calls l)) s′ → backs calls k s ≡ s′
+    -- the log without its k newest steps leads to one moment, and that is where going back k leads
+    pub back-exactly : (k : ℕ) {s′ : Here} → k ≤ standing calls (strike calls l) → Ran calls s₀ (pops calls k (strike calls l)) s′ → backs calls k s ≡ s′
     back-exactly k h q = one-end calls (back-to k h) q
 
-  -- what the model does with the world is what the call does
-  does-by : (c : Call) (s : Now) (k : Kind) → kindNow n c s ≡ k → after calls k c s .world ≡ onCall n c (s .world) .world
-  does-by c s stepped e = refl
-  does-by c s refused e = sym (stays n c (s .world) (λ z. let y : refused ≡ stepped = sym e ∙ z in absurd (let x : _≡_ {A = ℕ} 0 1 = cc in omega arith)))
-  does-by c s looked e = sym (stays n c (s .world) (λ z. let y : looked ≡ stepped = sym e ∙ z in absurd (let x : _≡_ {A = ℕ} 0 1 = cc in omega arith)))
+    -- the call leads where the model leads: with an entry it is done, without one it is refused with 6
+    pub back-does : {e : Noted} {es : List Noted} → s .entries ≡ e ∷ es → backOn (worldFrom n s) n ≡ answered (answer.Done false) (worldFrom n (back calls s))
+    back-does q = clean-back f (strike-clean calls l) never-was q
 
-  pub does-that : (c : Call) (s : Now) → does calls c s .world ≡ onCall n c (s .world) .world
+    pub back-none : s .entries ≡ [] → backOn (worldFrom n s) n ≡ refusedAs 6 (worldFrom n s)
+    unfolding backOn guarded lengthOf
+    back-none e = rw (always-good .fit .sound, ap lengthOf e)
+
+  -- what the model does is what the call does
+  does-by : (c : Call) (s : Here) (k : Kind) → kindNow n c s ≡ k → worldFrom n (after calls k c s) ≡ onCall n c (worldFrom n s) .world
+  does-by c s stepped e = sym (stepped-world c s e)
+  does-by c s refused e = sym (stays n c (worldFrom n s) (λ z. let y : refused ≡ stepped = sym e ∙ z in absurd (let x : _≡_ {A = ℕ} 0 1 = cc in omega arith)))
+  does-by c s looked e = sym (stays n c (worldFrom n s) (λ z. let y : looked ≡ stepped = sym e ∙ z in absurd (let x : _≡_ {A = ℕ} 0 1 = cc in omega arith)))
+
+  pub does-that : (c : Call) (s : Here) → worldFrom n (does calls c s) ≡ onCall n c (worldFrom n s) .world
   does-that c s = does-by c s (kindNow n c s) refl

@@ -1,14 +1,10 @@
--- Laws of the journal's definitions and of sessions.
-pub mod EntryParts
-pub mod Checked
+-- Laws of sessions.
+pub mod Striking
 pub mod Undone
+pub mod Keeping
 pub mod Taken
-pub mod Stays
-pub mod Calls
 pub mod Room
+pub mod Calls
 pub mod Mounting
-pub mod Walk
-pub mod Buffers
-pub mod Advancing
-pub mod Formed
+pub mod Backs
 pub mod Unique

@@ -1,4 +1,4 @@
--- A mount begins a session: its world is fit, and its journal is empty.
+-- A mount begins a session: its world is fit, its reel well formed, and its journal empty.
 use mathlib.Core.Path.{_≡_, refl, ap}
 use mathlib.Core.Bool.{Bool, true, false, _||_, not}
 use mathlib.Core.List.{List, []}
@@ -9,7 +9,7 @@ use lib.Dec.{eqb, ltb}
 use lib.ListN.{length}
 use Rattle.lists.specs.Pick.{pick}
 use Rattle.lists.specs.Words.{Bytes}
-use Rattle.lists.proofs.Cases.{by-test}
+use Rattle.lists.proofs.Cases.{by-test, past}
 use Rattle.tape.specs.Numbers.{blockBytes}
 use Rattle.tape.specs.Sweep.{sweptBelow}
 use Rattle.tape.proofs.Sweeps.{whole-swept}
@@ -17,21 +17,23 @@ use Rattle.tape.specs.declared.Swept.{Swept}
 use Rattle.tape.specs.declared.Swept.the-variants as swept
 use Rattle.state.specs.Changes.{mountedAs}
 use Rattle.state.specs.Checks.{blocksRight, memoryRight}
+use Rattle.state.specs.declared.Unit.{Unit}
 use Rattle.state.proofs.Legal.{legal-mounted}
-use Rattle.lists.proofs.Cases.{past}
 use Rattle.state.proofs.Tests.{neither}
 use Rattle.commands.specs.declared.plans.Answer.the-variants as answer
-use Rattle.journal.specs.declared.Session.{Session}
-use Rattle.journal.specs.Worlds.{World}
-use Rattle.unit.specs.Calls.{mountRefusal}
-use Rattle.journal.specs.Refusals.{journalLimit}
-use Rattle.journal.specs.Calls.{mountOn, mountSweptOn, session}
-use Rattle.sessions.specs.Session.{refused, stepped}
-use Rattle.sessions.specs.Calling.{stepKind}
-use Rattle.sessions.proofs.Checked.{let-pass}
-use Rattle.sessions.proofs.Undone.{Fit}
-use Rattle.sessions.proofs.Formed.{Formed, first-bound}
-use Rattle.sessions.proofs.Calls.{Fresh}
+use Rattle.unit.specs.Mounts.{mountCall, mountRefusal, mountSwept}
+use Rattle.worlds.specs.declared.Session.{Session}
+use Rattle.worlds.specs.declared.Outcome.{Outcome}
+use Rattle.worlds.specs.Refusals.{journalLimit}
+use Rattle.worlds.specs.Calls.{mountOn, mountedBy, session}
+use Rattle.worlds.proofs.Passing.{let-pass}
+use Rattle.unit.specs.declared.mounting.Mounted.{Mounted}
+use Rattle.unit.specs.Cores.{Core}
+use Rattle.sessions.specs.Session.{Moment, refused, stepped}
+use Rattle.sessions.specs.Calling.{Noted, journalOf, lengthOf, stepKind, worldFrom}
+use Rattle.sessions.specs.Good.{Fit, Formed, Fresh}
+use Rattle.sessions.proofs.Keeping.{first-bound}
+use Rattle.sessions.proofs.Taken.{refused-none}
 
 -- a mount that is not refused
 pub record Accepts (memory reel e : ℕ) : Type 0 where
@@ -59,93 +61,94 @@ accepts memory reel e h =
     })
     (λ t. let y : _≡_ {A = ℕ} 2 0 = rw t at h in absurd (omega arith))
 
--- the session of a mount
-abbrev mountSession : ℕ → ℕ → ℕ → ℕ → Bool → Bool → Session
-mountSession memory reel journal e online locked =
-    session (mountedAs e online locked (record { memory = memory; blocks = reel / blockBytes })) 0 journal
+-- the state of a mount
+abbrev mountUnit : ℕ → ℕ → ℕ → Bool → Bool → Unit
+mountUnit memory reel e online locked = mountedAs e online locked (record { memory = memory; blocks = reel / blockBytes })
 
 -- a refusal is no "done"
 not-done : {P : Type 0} (k : ℕ) → answer.Refused k ≡ answer.Done false → P
 unfolding stepKind
-not-done k e =
-    let z : refused ≡ stepped = ap stepKind e in
-    absurd (let y : _≡_ {A = ℕ} 0 1 = cc in omega arith)
+not-done k e = let z : refused ≡ stepped = ap stepKind e in refused-none z
 
 no-bad : {P : Type 0} (k : ℕ) → answer.BadBlock k ≡ answer.Done false → P
 unfolding stepKind
-no-bad k e =
-    let z : refused ≡ stepped = ap stepKind e in
-    absurd (let y : _≡_ {A = ℕ} 0 1 = cc in omega arith)
+no-bad k e = let z : refused ≡ stepped = ap stepKind e in refused-none z
 
 -- what a mount that was done has found
-pub record Mounts (old : Session) (memory : ℕ) (r : List ℕ) (journal e : ℕ) (online locked : Bool) : Type 0 where
+pub record MountDone (old : Session) (memory : ℕ) (r : List ℕ) (journal e : ℕ) (online locked : Bool) : Type 0 where
   pub accepts : Accepts memory (length r) e
   pub limit : journal ≤ journalLimit
   pub swept : sweptBelow r e ≡ swept.Whole
-  pub is : mountOn old memory r journal e online locked .session ≡ mountSession memory (length r) journal e online locked
+  pub is : mountOn old memory r journal e online locked .session ≡ session (mountUnit memory (length r) e online locked) 0 journal
 
 module _ (old : Session) (memory : ℕ) (r : List ℕ) (journal e : ℕ) (online locked : Bool) where
-  swept-done : (x : Swept) → mountSweptOn old (mountSession memory (length r) journal e online locked) x .answer ≡ answer.Done false → x ≡ swept.Whole
-  unfolding mountSweptOn
-  swept-done swept.Whole k = refl
+  -- by what the sweep found
+  abbrev by : Swept → Outcome
+  by x =
+      mountedBy old journal
+      (mountSwept (old .unit) (mountUnit memory (length r) e online locked) x .unit)
+      (mountSwept (old .unit) (mountUnit memory (length r) e online locked) x .answer)
+
+  swept-done : (x : Swept) → by x .answer ≡ answer.Done false → (x ≡ swept.Whole) × (by x .session ≡ session (mountUnit memory (length r) e online locked) 0 journal)
+  unfolding mountSwept mountedBy
+  swept-done swept.Whole k = (refl, refl)
   swept-done (swept.Bad j) k = no-bad j k
 
-  pub mount-done : mountOn old memory r journal e online locked .answer ≡ answer.Done false → Mounts old memory r journal e online locked
-  unfolding mountOn mountSweptOn
+  pub mount-done : mountOn old memory r journal e online locked .answer ≡ answer.Done false → MountDone old memory r journal e online locked
+  unfolding mountOn mountCall
   mount-done k =
       by-test (eqb (mountRefusal memory (length r) e) 0)
       (λ t. by-test (ltb journalLimit journal)
       (λ v. let y : answer.Refused 4 ≡ answer.Done false = rw (t, v) at k in not-done 4 y)
       (λ v.
-      let y : mountSweptOn old (mountSession memory (length r) journal e online locked) (sweptBelow r e) .answer ≡ answer.Done false = rw (t, v) at k in
-      let z : sweptBelow r e ≡ swept.Whole = swept-done (sweptBelow r e) y in
+      let y : by (sweptBelow r e) .answer ≡ answer.Done false = rw (t, v) at k in
+      let z = swept-done (sweptBelow r e) y in
       record {
         accepts = accepts memory (length r) e (eqb-true (mountRefusal memory (length r) e) 0 t);
         limit = ltb-false journalLimit journal v;
-        swept = z;
-        is = rw (t, v, z);
+        swept = z .0;
+        is = rw (t, v) (z .1);
       }))
       (λ t. let y : answer.Refused (mountRefusal memory (length r) e) ≡ answer.Done false = rw t at k in not-done (mountRefusal memory (length r) e) y)
 
--- the world that a mount leaves
-abbrev pub mountWorld : Session → List ℕ → List ℕ → ℕ → ℕ → Bool → Bool → World
-mountWorld old m r journal e online locked =
-    record { session = mountOn old (length m) r journal e online locked .session; memory = m; reel = r; journal = [] }
+-- the moment that a mount leaves
+abbrev pub mountMoment : Session → List ℕ → List ℕ → ℕ → ℕ → Bool → Bool → Moment Core Noted
+mountMoment old m r journal e online locked =
+    record { core = record { unit = mountOn old (length m) r journal e online locked .session .unit; memory = m; reel = r }; entries = [] }
 
-pub mounted-fit : (old : Session) (m r : List ℕ) (journal e : ℕ) (online locked : Bool) → mountOn old (length m) r journal e online locked .answer ≡ answer.Done false → Fit journal (mountWorld old m r journal e online locked)
-unfolding mountedAs
-mounted-fit old m r journal e online locked k =
-    let x = mount-done old (length m) r journal e online locked k in
-    let a = x .accepts in
-    rw (x .is)
-    (record {
-      sound = let-pass (mountSession (length m) (length r) journal e online locked) (length m) (length r) journal
-          (record {
-            legal = legal-mounted (length m) (length r / blockBytes) e online locked (a .memory-right) (a .blocks-right) (a .below);
-            memory-is = refl;
-            reel-is = a .whole;
-            used = omega arith;
-            limit = x .limit;
-            journal-is = refl;
-          });
-      kept = refl;
-      address = omega arith;
-      extent = omega arith;
-    })
+module _ (old : Session) (m r : List ℕ) (journal e : ℕ) (online locked : Bool) (k : mountOn old (length m) r journal e online locked .answer ≡ answer.Done false) where
+  found : MountDone old (length m) r journal e online locked
+  found = mount-done old (length m) r journal e online locked k
 
--- the reel of a mount is well formed, and the tape stands at its first block
-pub mounted-formed : (old : Session) (m r : List ℕ) (journal e : ℕ) (online locked : Bool) → Bytes r → mountOn old (length m) r journal e online locked .answer ≡ answer.Done false → Formed r (mountOn old (length m) r journal e online locked .session .unit .tape)
-unfolding mountedAs
-mounted-formed old m r journal e online locked bytes k =
-    let x = mount-done old (length m) r journal e online locked k in
-    let f = whole-swept r e bytes (x .swept) in
-    rw (x .is) (record { objects = f .0; holds = f .1; bound = first-bound (f .0) })
+  pub mount-session : mountOn old (length m) r journal e online locked .session ≡ session (mountUnit (length m) (length r) e online locked) 0 journal
+  mount-session = found .is
 
--- a mount begins a session
-pub mounted : (old : Session) (m r : List ℕ) (journal e : ℕ) (online locked : Bool) → Bytes r → mountOn old (length m) r journal e online locked .answer ≡ answer.Done false → Fresh journal (record { world = mountWorld old m r journal e online locked; entries = [] })
-mounted old m r journal e online locked bytes k =
-    record {
-      good = record { fit = mounted-fit old m r journal e online locked k; formed = mounted-formed old m r journal e online locked bytes k };
-      none = refl;
-      empty = refl;
-    }
+  pub mounted-fit : Fit journal (worldFrom journal (mountMoment old m r journal e online locked))
+  unfolding mountedAs lengthOf journalOf
+  mounted-fit =
+      let a = found .accepts in
+      rw (found .is)
+      (record {
+        sound = let-pass (session (mountUnit (length m) (length r) e online locked) 0 journal) (length m) (length r) journal
+            (record {
+              legal = legal-mounted (length m) (length r / blockBytes) e online locked (a .memory-right) (a .blocks-right) (a .below);
+              memory-is = refl;
+              reel-is = a .whole;
+              used = omega arith;
+              limit = found .limit;
+              journal-is = refl;
+            });
+        whole = refl;
+        held = record { address = omega arith; extent = omega arith };
+      })
+
+  -- the reel of a mount is well formed, and the tape stands at its first block
+  mounted-formed : Bytes r → Formed r (mountOn old (length m) r journal e online locked .session .unit .tape)
+  unfolding mountedAs
+  mounted-formed bytes =
+      let f = whole-swept r e bytes (found .swept) in
+      rw (found .is) (record { objects = f .0; holds = f .1; bound = first-bound (f .0) })
+
+  -- a mount begins a session
+  pub mounted : Bytes r → Fresh journal (mountMoment old m r journal e online locked)
+  mounted bytes = record { good = record { fit = mounted-fit; formed = mounted-formed bytes }; none = refl }

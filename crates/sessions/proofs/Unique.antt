@@ -2,17 +2,17 @@
 use mathlib.Core.List.{List}
 use mathlib.Core.Path.{_≡_, ap, sym, _∙_}
 use Prim.Native.Nat.{ℕ}
-use lib.ListN.{take}
 use Rattle.commands.specs.declared.plans.Answer.{Answer}
-use Rattle.journal.specs.Worlds.{Answered, Leaves}
-use Rattle.journal.specs.declared.Session.{Session}
-use Rattle.journal.specs.declared.calls.Outcome.{Outcome}
+use Rattle.worlds.specs.Worlds.{Answered, Leaves, World, sessionOf, worldOf}
+use Rattle.worlds.specs.declared.Session.{Session}
+use Rattle.worlds.specs.declared.Outcome.{Outcome}
 
 same-outcome : (o p : Outcome) → o .answer ≡ p .answer → o .session ≡ p .session → o ≡ p
 same-outcome o p a s =
     ap (λ (x : Answer). record { answer = x; session = o .session }) a ∙ ap (λ (x : Session). record { answer = p .answer; session = x }) s
 
 pub leaves-unique : {x : Answered} {o o₂ : Outcome} {m r j m₂ r₂ j₂ : List ℕ} → Leaves x o m r j → Leaves x o₂ m₂ r₂ j₂
-    → (o ≡ o₂) × (m ≡ m₂) × (r ≡ r₂) × (take (o .session .used) j ≡ take (o₂ .session .used) j₂)
+    → (o ≡ o₂) × (worldOf (o .session) m r j ≡ worldOf (o₂ .session) m₂ r₂ j₂)
 leaves-unique {o = o} {o₂ = o₂} p q =
-    (same-outcome o o₂ (p .answer ∙ sym (q .answer)) (p .session ∙ sym (q .session)), p .memory ∙ sym (q .memory), p .reel ∙ sym (q .reel), p .journal ∙ sym (q .journal))
+    let same = p .world ∙ sym (q .world) in
+    (same-outcome o o₂ (p .answer ∙ sym (q .answer)) (ap sessionOf same), same)

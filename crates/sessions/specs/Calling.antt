@@ -1,36 +1,28 @@
 -- The journal's calls as the steps of a session. (01, "Calls")
 use mathlib.Core.List.{List, [], _∷_, _++_}
-use Prim.Native.Nat.{ℕ, _+_, _<_}
-use lib.ListN.{length}
-use Rattle.state.specs.Changes.{initialized, operated, tsdbWritten}
-use Rattle.state.specs.declared.act.Act.{Act}
+use Prim.Native.Nat.{ℕ, _+_}
 use Rattle.commands.specs.declared.plans.Answer.{Answer}
 use Rattle.commands.specs.declared.plans.Answer.the-variants as answer
-use Rattle.advance.specs.Steps.{advanced}
+use Rattle.touched.specs.Touches.{none, savedBytes}
+use Rattle.unit.specs.Asks.{Ask, Asked}
+use Rattle.unit.specs.Cores.{Core}
+use Rattle.unit.specs.Steps.{Step, stepOf}
+use Rattle.unit.specs.declared.registers.Register.{Register}
+use Rattle.entries.specs.Entries.{entryBytes, entryLength}
 use Rattle.entries.specs.declared.Entry.{Entry}
-use Rattle.unit.specs.declared.calls.Register.{Register}
-use Rattle.journal.specs.Worlds.{Answered, World, answered}
-use Rattle.journal.specs.Entries.{entryBytes, entryFor, entryLength, hostEntry}
-use Rattle.journal.specs.Calls.{advanceOn, changed, hostOn, operateOn, registerOn, tsdbOn, tssrOn}
-use Rattle.sessions.specs.Session.{Kind, looked, refused, stepped}
+use Rattle.worlds.specs.Worlds.{Answered, Ledger, World, answered, sessionOf}
+use Rattle.worlds.specs.Calls.{entryFor, registerOn, stepOn, undone}
+use Rattle.sessions.specs.Session.{Kind, Moment, looked, refused, stepped}
 
--- a call of a session; a word of TSDB has 16 bits
+-- a call of a session
 pub data Call : Type 0 where
-  write-tsdb : (word : ℕ) → word < 65536 → Call
-  write-tssr : Call
-  operate : Act → Call
-  host-store : ℕ → List ℕ → Call
-  advance : Call
+  step : (a : Ask) → Asked a → Call
   read-register : Register → Call
 
 -- what the call does and answers, with a journal of n bytes
 unfoldable pub onCall : ℕ → Call → World → Answered
-onCall n (write-tsdb word h) w = tsdbOn w n word
-onCall n write-tssr w = tssrOn w n
-onCall n (operate a) w = operateOn w n a
-onCall n (host-store place bytes) w = hostOn w n place bytes
-onCall n advance w = advanceOn w n
-onCall n (read-register r) w = answered (registerOn (w .session) r .answer) w
+onCall n (step a h) w = stepOn w n a
+onCall n (read-register r) w = answered (registerOn (sessionOf w) r .answer) w
 
 -- an answer, and the word that a register reads
 pub record Said : Type 0 where
@@ -38,12 +30,8 @@ pub record Said : Type 0 where
   pub word : ℕ
 
 unfoldable pub wordOf : Call → World → ℕ
-wordOf (write-tsdb word h) w = 0
-wordOf write-tssr w = 0
-wordOf (operate a) w = 0
-wordOf (host-store place bytes) w = 0
-wordOf advance w = 0
-wordOf (read-register r) w = registerOn (w .session) r .word
+wordOf (step a h) w = 0
+wordOf (read-register r) w = registerOn (sessionOf w) r .word
 
 -- "Done" takes a step, "Idle" none; reading a register "adds none"
 unfoldable pub stepKind : Answer → Kind
@@ -59,35 +47,49 @@ readKind (answer.Refused k) = refused
 readKind (answer.BadBlock k) = refused
 
 unfoldable pub kindOf : Call → Answer → Kind
-kindOf (write-tsdb word h) a = stepKind a
-kindOf write-tssr a = stepKind a
-kindOf (operate b) a = stepKind a
-kindOf (host-store place bytes) a = stepKind a
-kindOf advance a = stepKind a
+kindOf (step b h) a = stepKind a
 kindOf (read-register r) a = readKind a
 
--- the entry of a call's step from the world w
-unfoldable pub entryAt : Call → World → Entry
-entryAt (write-tsdb word h) w = entryFor (w .session .unit) (changed (tsdbWritten (w .session .unit) word))
-entryAt write-tssr w = entryFor (w .session .unit) (changed (initialized (w .session .unit)))
-entryAt (operate a) w = entryFor (w .session .unit) (changed (operated (w .session .unit) a))
-entryAt (host-store place bytes) w = hostEntry (w .session .unit) place (length bytes)
-entryAt advance w = entryFor (w .session .unit) (advanced (w .session .unit) (w .memory) (w .reel))
-entryAt (read-register r) w = entryFor (w .session .unit) (changed (w .session .unit))
+-- what a call does to the core, if it takes a step
+unfoldable pub doing : Call → Core → Step
+doing (step a h) c = stepOf a c
+doing (read-register r) c = record { answer = answer.Idle; touched = none; after = c }
 
--- an entry of the journal and its bytes there
-pub record Kept : Type 0 where
+-- its entry
+abbrev pub entryAt : Call → Core → Entry
+entryAt k c = entryFor c (doing k c)
+
+-- an entry that stands in the journal, the bytes it saved, and its own bytes there
+pub record Noted : Type 0 where
   pub entry : Entry
+  pub saved : List ℕ
   pub bytes : List ℕ
 
-unfoldable pub keptAt : Call → World → Kept
-keptAt c w = record { entry = entryAt c w; bytes = entryBytes (entryAt c w) (w .memory) (w .reel) }
+unfoldable pub notedAt : Call → Core → Noted
+notedAt k c =
+    record {
+      entry = entryAt k c;
+      saved = savedBytes (doing k c .touched) (c .memory) (c .reel);
+      bytes = entryBytes (entryAt k c) (c .memory) (c .reel);
+    }
 
 -- the used journal that holds these entries, newest first, and how long it is
-unfoldable pub journalOf : List Kept → List ℕ
+unfoldable pub journalOf : List Noted → List ℕ
 journalOf [] = []
 journalOf (k ∷ ks) = journalOf ks ++ k .bytes
 
-unfoldable pub lengthOf : List Kept → ℕ
+unfoldable pub lengthOf : List Noted → ℕ
 lengthOf [] = 0
 lengthOf (k ∷ ks) = lengthOf ks + entryLength (k .entry)
+
+-- the ledger of these entries, in a journal of n bytes
+abbrev pub ledgerOf : ℕ → List Noted → Ledger
+ledgerOf n ks = record { used = lengthOf ks; length = n; bytes = journalOf ks }
+
+-- the world of a moment: its core, and the ledger of the entries that stand, which is the journal and nothing else
+abbrev pub worldFrom : ℕ → Moment Core Noted → World
+worldFrom n s = record { core = s .core; ledger = ledgerOf n (s .entries) }
+
+-- a core with an entry that stands brought back
+abbrev pub broughtBack : Noted → Core → Core
+broughtBack k c = undone (k .entry) (k .saved) c

@@ -1,3 +1,4 @@
--- Sessions of calls: the model, and the journal's calls in it.
+-- Sessions of calls: the model, the journal's calls in it, and what every moment of a session has.
 pub mod Session
 pub mod Calling
+pub mod Good
