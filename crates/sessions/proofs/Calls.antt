@@ -16,7 +16,7 @@ use Rattle.sessions.specs.Session.{Clean, Done, Kind, Machine, Moment, R
 use Rattle.sessions.specs.Calling.{Call, Noted, Said, broughtBack, doing, entryAt, journalOf, kindOf, ledgerOf, lengthOf, notedAt, onCall, wordOf, worldFrom}
 use Rattle.sessions.specs.Good.{Formed, Fresh, Good}
 use Rattle.sessions.proofs.Striking.{entries-stand, fit-clean, fit-ran, one-end, strike-clean, struck, went-back}
-use Rattle.sessions.proofs.Undone.{core-undone}
+use Rattle.worlds.proofs.Undoing.{core-undone}
 use Rattle.sessions.proofs.Taken.{doing-keeps, doing-sound, stays, step-fit, step-undone, takenTo, took}
 
 abbrev pub Here : Type 0

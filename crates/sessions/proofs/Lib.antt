@@ -1,6 +1,5 @@
 -- Laws of sessions.
 pub mod Striking
-pub mod Undone
 pub mod Keeping
 pub mod Taken
 pub mod Room

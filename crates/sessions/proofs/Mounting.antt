@@ -29,9 +29,10 @@ use Rattle.worlds.specs.Calls.{mountOn, mountedBy, session}
 use Rattle.worlds.proofs.Passing.{let-pass}
 use Rattle.unit.specs.declared.mounting.Mounted.{Mounted}
 use Rattle.unit.specs.Cores.{Core}
+use Rattle.worlds.specs.Passes.{Fit}
 use Rattle.sessions.specs.Session.{Moment, refused, stepped}
 use Rattle.sessions.specs.Calling.{Noted, journalOf, lengthOf, stepKind, worldFrom}
-use Rattle.sessions.specs.Good.{Fit, Formed, Fresh}
+use Rattle.sessions.specs.Good.{Formed, Fresh}
 use Rattle.sessions.proofs.Keeping.{first-bound}
 use Rattle.sessions.proofs.Taken.{refused-none}
 

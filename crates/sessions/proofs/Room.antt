@@ -11,9 +11,10 @@ use Rattle.unit.specs.Steps.{Step, stepOf}
 use Rattle.entries.specs.Entries.{entryLength}
 use Rattle.worlds.specs.Worlds.{Answered, World}
 use Rattle.worlds.specs.Calls.{entryFor, noRoom, refusedAs, stepOn, takenAs, takenBy}
+use Rattle.worlds.specs.Passes.{Fit}
 use Rattle.sessions.specs.Session.{refused, stepped}
 use Rattle.sessions.specs.Calling.{Call, doing, entryAt, onCall, read-register, step, stepKind}
-use Rattle.sessions.specs.Good.{Exactly, Fit, Steppable}
+use Rattle.sessions.specs.Good.{Exactly, Steppable}
 use Rattle.sessions.proofs.Taken.{let-through, refused-none}
 
 -- "done" is no refusal

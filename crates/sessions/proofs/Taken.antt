@@ -20,11 +20,11 @@ use Rattle.worlds.specs.Worlds.{Answered, World, answered, sessionOf}
 use Rattle.worlds.specs.Refusals.{checked}
 use Rattle.worlds.specs.Calls.{backOn, entryFor, guarded, noRoom, noted, refusedAs, stepOn, takenAs, takenBy}
 use Rattle.worlds.proofs.Passing.{core-accepted, passed}
+use Rattle.worlds.specs.Passes.{Fit}
 use Rattle.sessions.specs.Session.{looked, refused, stepped}
 use Rattle.sessions.specs.Calling.{Call, doing, entryAt, kindOf, onCall, read-register, readKind, step, stepKind}
-use Rattle.sessions.specs.Good.{Fit}
 use Rattle.sessions.proofs.Keeping.{Keeps, keeping}
-use Rattle.sessions.proofs.Undone.{fit-after, taken-undone}
+use Rattle.worlds.proofs.Undoing.{fit-after, taken-undone}
 
 -- kinds are apart
 pub refused-none : {P : Type 0} → refused ≡ stepped → P

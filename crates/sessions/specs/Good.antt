@@ -3,9 +3,7 @@ use mathlib.Core.List.{List, []}
 use mathlib.Core.Path.{_≡_}
 use mathlib.Core.Bool.{Bool}
 use Prim.Native.Nat.{ℕ, _-_, _<_}
-use lib.ListN.{length}
 use Rattle.tape.specs.Objects.{Holds, Object}
-use Rattle.state.specs.Legal.{Held}
 use Rattle.state.specs.declared.Tape.{Tape}
 use Rattle.moves.specs.Between.{Bound}
 use Rattle.commands.specs.declared.plans.Answer.the-variants as answer
@@ -13,8 +11,8 @@ use Rattle.unit.specs.Cores.{Core}
 use Rattle.unit.specs.Steps.{stepOf}
 use Rattle.entries.specs.Entries.{entryLength}
 use Rattle.entries.specs.declared.Entry.{Entry}
-use Rattle.worlds.specs.Worlds.{Answered, Ledger, World, sessionOf}
-use Rattle.worlds.specs.Refusals.{checked}
+use Rattle.worlds.specs.Worlds.{Answered, Ledger, World}
+use Rattle.worlds.specs.Passes.{Fit}
 use Rattle.worlds.specs.Calls.{refusedAs}
 use Rattle.sessions.specs.Session.{Moment}
 use Rattle.sessions.specs.Calling.{Call, Noted, read-register, step, worldFrom}
@@ -24,13 +22,6 @@ pub record Formed (s : List ℕ) (t : Tape) : Type 0 where
   pub objects : List Object
   pub holds : Holds s (t .end) objects
   pub bound : Bound objects (t .position)
-
--- a world that refusals 1 to 4 let pass, for a journal of n bytes; its ledger's bytes are as many as are used, and its state's numbers as
--- large as their type lets them be
-pub record Fit (n : ℕ) (w : World) : Type 0 where
-  pub sound : checked (sessionOf w) (length (w .core .memory)) (length (w .core .reel)) n ≡ 0
-  pub whole : length (w .ledger .bytes) ≡ w .ledger .used
-  pub held : Held (w .core .unit)
 
 -- what every moment of a session has
 pub record Good (n : ℕ) (s : Moment Core Noted) : Type 0 where

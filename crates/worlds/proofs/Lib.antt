@@ -1,2 +1,3 @@
 -- Laws of the calls' meaning.
 pub mod Passing
+pub mod Undoing
