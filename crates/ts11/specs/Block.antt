@@ -1,38 +1,41 @@
--- The state's block: 32 numbers of four bytes, low byte first, as in the head of a journal entry; the used journal and the mount's journal
--- length stand where an entry has its data's place and length, and the numbers after them are 0.
+-- The state's block: 32 numbers of four bytes, low byte first: the 31 of a journal entry's head, and a 0. The used journal and the mount's
+-- journal length stand where an entry has its data's place and length, and the numbers after them are 0.
 use mathlib.Core.Bool.{Bool, false, _&&_}
-use mathlib.Core.List.{List}
+use mathlib.Core.List.{List, _++_}
 use Prim.Native.Nat.{ℕ}
 use lib.Dec.{eqb, ltb}
 use Rattle.entries.specs.Numbers.{entryOf, nth, numbersOf}
-use Rattle.entries.specs.Bytes.{headBytes, headNumbers}
+use Rattle.entries.specs.Bytes.{headBytes, headCount, headLength, headNumbers, numberAt, numberBytes}
 use Rattle.entries.specs.declared.Entry.{Entry}
-use Rattle.journal.specs.declared.Session.{Session}
+use Rattle.worlds.specs.declared.Session.{Session}
 
 -- a session as an entry that keeps no bytes, and back
 unfoldable pub entryWith : Session → Entry
 entryWith s =
     record {
       unit = s .unit;
-      «data_at» = s .used;
-      «data_length» = s .journal;
-      swb = false;
-      «message_at» = 0;
-      «message_length» = 0;
-      «reel_at» = 0;
-      «reel_blocks» = 0;
+      touched =
+          record {
+            «data_at» = s .used;
+            «data_length» = s .journal;
+            swb = false;
+            «message_at» = 0;
+            «message_length» = 0;
+            «reel_at» = 0;
+            «reel_blocks» = 0;
+          };
     }
 
 unfoldable pub sessionWith : Entry → Session
-sessionWith e = record { unit = e .unit; used = e .«data_at»; journal = e .«data_length» }
+sessionWith e = record { unit = e .unit; used = e .touched .«data_at»; journal = e .touched .«data_length» }
 
 -- the block of a session
 unfoldable pub blockOf : Session → List ℕ
-blockOf s = headBytes (numbersOf (entryWith s))
+blockOf s = headBytes (numbersOf (entryWith s)) ++ numberBytes 0
 
 -- the session that a block is read as, whatever its bytes
 unfoldable pub sessionIn : List ℕ → Session
-sessionIn b = sessionWith (entryOf (headNumbers 32 b))
+sessionIn b = sessionWith (entryOf (headNumbers headCount b))
 
 -- number i is a flag's; number i is 0
 abbrev flag : List ℕ → ℕ → Bool
@@ -50,8 +53,8 @@ flagsRight n =
 
 unfoldable pub restZero : List ℕ → Bool
 restZero n =
-    unused n 23 && (unused n 24 && (unused n 25 && (unused n 26 && (unused n 27 && (unused n 28 && (unused n 29 && (unused n 30 && unused n 31)))))))
+    unused n 23 && (unused n 24 && (unused n 25 && (unused n 26 && (unused n 27 && (unused n 28 && (unused n 29 && unused n 30))))))
 
 -- the bytes are some session's block: the laws `block-own` and `block-is` say that this is so exactly when they are the block of what they are read as
 unfoldable pub isBlock : List ℕ → Bool
-isBlock b = flagsRight (headNumbers 32 b) && restZero (headNumbers 32 b)
+isBlock b = flagsRight (headNumbers headCount b) && (restZero (headNumbers headCount b) && eqb (numberAt b headLength) 0)

@@ -1,22 +1,24 @@
--- What an exported call gives: the journal's answer as numbers, and the block after it.
+-- What an exported call gives: the journal's answer as numbers, and what the host holds after it.
 use mathlib.Core.Bool.{Bool, true, false}
 use mathlib.Core.List.{List}
 use mathlib.Core.Path.{_≡_}
 use Prim.Native.Nat.{ℕ}
-use lib.ListN.{length, take}
+use lib.ListN.{length}
 use Rattle.lists.specs.Pick.{pick}
 use Rattle.state.specs.declared.act.Act.{Act}
 use Rattle.state.specs.declared.act.Act.the-variants as act
 use Rattle.commands.specs.Answers.{numberOf}
 use Rattle.commands.specs.declared.plans.Answer.{Answer}
 use Rattle.commands.specs.declared.plans.Answer.the-variants as answer
-use Rattle.unit.specs.declared.calls.Register.{Register}
-use Rattle.unit.specs.declared.calls.Register.the-variants as register
-use Rattle.journal.specs.Worlds.{Answered, World, worldOf}
-use Rattle.journal.specs.Calls.{advanceOn, backOn, hostOn, operateOn, refusedAs, registerOn, tsdbOn, tssrOn}
-use Rattle.journal.specs.declared.Session.{Session}
-use Rattle.journal.specs.declared.calls.Outcome.{Outcome}
-use Rattle.journal.specs.declared.calls.Reading.{Reading}
+use Rattle.unit.specs.Asks.{Ask}
+use Rattle.unit.specs.declared.registers.Register.{Register}
+use Rattle.unit.specs.declared.registers.Register.the-variants as register
+use Rattle.entries.specs.Entries.{usedIn}
+use Rattle.worlds.specs.Worlds.{Answered, World, sessionOf, worldOf}
+use Rattle.worlds.specs.Calls.{backOn, refusedAs, registerOn, stepOn}
+use Rattle.worlds.specs.declared.Session.{Session}
+use Rattle.worlds.specs.declared.Outcome.{Outcome}
+use Rattle.worlds.specs.declared.RegisterRead.{RegisterRead}
 use Rattle.ts11.specs.Block.{blockOf, isBlock, sessionIn}
 
 -- "answered 0 it adds one entry", "Advance .. answers Idle .., and is no step taken"
@@ -47,21 +49,30 @@ blockAfter b answer.Idle s = b
 blockAfter b (answer.Refused n) s = b
 blockAfter b (answer.BadBlock k) s = b
 
--- the world that a call is handed, with the state's block b
-abbrev pub handed : List ℕ → List ℕ → List ℕ → List ℕ → World
-handed b m r j = worldOf (sessionIn b) m r j
+-- all that a host holds and hands to a call: the state's block and three buffers
+pub record Host : Type 0 where
+  pub block : List ℕ
+  pub memory : List ℕ
+  pub reel : List ℕ
+  pub journal : List ℕ
+
+abbrev pub holding : (b m r j : List ℕ) → Host
+holding b m r j = record { block = b; memory = m; reel = r; journal = j }
+
+-- the world of the session that it holds
+abbrev pub worldIn : Host → World
+worldIn h = worldOf (sessionIn (h .block)) (h .memory) (h .reel) (h .journal)
 
 -- bytes that are no session's block are refused with 1, as a state out of range is
-unfoldable pub opened : List ℕ → World → Answered → Answered
-opened b w x = pick (isBlock b) x (refusedAs 1 w)
+unfoldable pub opened : Host → Answered → Answered
+opened h x = pick (isBlock (h .block)) x (refusedAs 1 (worldIn h))
 
--- the seven calls on buffers
-unfoldable pub tsdbGiven : (b m r j : List ℕ) → ℕ → Answered
-tsdbGiven b m r j word = opened b (handed b m r j) (tsdbOn (handed b m r j) (length j) word)
+-- a TSDB or TSSR write, operator act, host store or advance
+unfoldable pub stepGiven : Ask → Host → Answered
+stepGiven a h = opened h (stepOn (worldIn h) (length (h .journal)) a)
 
--- "A TSSR write initializes", whatever its word
-unfoldable pub tssrGiven : (b m r j : List ℕ) → Answered
-tssrGiven b m r j = opened b (handed b m r j) (tssrOn (handed b m r j) (length j))
+unfoldable pub backGiven : Host → Answered
+backGiven h = opened h (backOn (worldIn h) (length (h .journal)))
 
 -- "operator act (on line, off line, write lock on, off)": which switch, and where it is put
 unfoldable pub actOf : Bool → Bool → Act
@@ -70,34 +81,22 @@ actOf false false = act.OffLine
 actOf true true = act.Lock
 actOf true false = act.Unlock
 
-unfoldable pub operateGiven : (b m r j : List ℕ) → Bool → Bool → Answered
-operateGiven b m r j lock on = opened b (handed b m r j) (operateOn (handed b m r j) (length j) (actOf lock on))
-
-unfoldable pub hostGiven : (b m r j : List ℕ) → ℕ → List ℕ → Answered
-hostGiven b m r j place bytes = opened b (handed b m r j) (hostOn (handed b m r j) (length j) place bytes)
-
-unfoldable pub advanceGiven : (b m r j : List ℕ) → Answered
-advanceGiven b m r j = opened b (handed b m r j) (advanceOn (handed b m r j) (length j))
-
-unfoldable pub backGiven : (b m r j : List ℕ) → Answered
-backGiven b m r j = opened b (handed b m r j) (backOn (handed b m r j) (length j))
-
 unfoldable pub registerOf : Bool → Register
 registerOf false = register.Tsba
 registerOf true = register.Tssr
 
 -- "Reading a register gives 0 and its word, or refusal 1 and word 0"
-unfoldable pub registerGiven : List ℕ → Bool → Reading
+unfoldable pub registerGiven : List ℕ → Bool → RegisterRead
 registerGiven b tssr =
     pick (isBlock b) (registerOn (sessionIn b) (registerOf tssr)) (record { answer = answer.Refused 1; word = 0 })
 
--- what a call returns and leaves in the block and the buffers is the definition's answer and world
-pub record Gives (b : List ℕ) (x : Answered) (number : ℕ) (b′ m′ r′ j′ : List ℕ) : Type 0 where
+-- what a call returns, and what the host h holds after it, is the definition's answer and world
+pub record Gives (h : Host) (x : Answered) (number : ℕ) (h′ : Host) : Type 0 where
   pub answer : number ≡ numberOf (x .answer)
-  pub state : b′ ≡ blockAfter b (x .answer) (x .world .session)
-  pub memory : m′ ≡ x .world .memory
-  pub reel : r′ ≡ x .world .reel
-  pub journal : take (x .world .session .used) j′ ≡ x .world .journal
+  pub state : h′ .block ≡ blockAfter (h .block) (x .answer) (sessionOf (x .world))
+  pub memory : h′ .memory ≡ x .world .core .memory
+  pub reel : h′ .reel ≡ x .world .core .reel
+  pub journal : usedIn (x .world .ledger .used) (h′ .journal) ≡ x .world .ledger .bytes
 
 -- an advance's answer, told beside its number
 pub record Tells (x : Answered) (s i : Bool) (k : ℕ) : Type 0 where
@@ -106,7 +105,7 @@ pub record Tells (x : Answered) (s i : Bool) (k : ℕ) : Type 0 where
   pub fault : k ≡ faultIn (x .answer)
 
 -- a register's word, and its answer
-pub record Reads (x : Reading) (number w : ℕ) : Type 0 where
+pub record Reads (x : RegisterRead) (number w : ℕ) : Type 0 where
   pub answer : number ≡ numberOf (x .answer)
   pub word : w ≡ x .word
 

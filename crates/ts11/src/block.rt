@@ -1,13 +1,17 @@
-// The state's block: the head of a journal entry, with the used journal and the mount's journal length where an entry has its data's
+// The state's block: the head of a journal entry and a 0, with the used journal and the mount's journal length where an entry has its data's
 // place and length. A session has one block, and a block that no session has is refused.
 use commands::Answer;
 use entries::Entry;
 use entries::entry_of;
+use entries::HEAD;
 use entries::head_at;
+use entries::number_at;
 use entries::numbers_of;
 use entries::put_head;
-use journal::Outcome;
-use journal::Session;
+use entries::put_number;
+use touched::Touched;
+use worlds::Outcome;
+use worlds::Session;
 ghost use mathlib.Core.Path.{_≡_};
 ghost use mathlib.Core.Bool.{_&&_};
 ghost use lib.ListN.{length};
@@ -28,8 +32,7 @@ fn entry_with(s: Session) -> Entry
     ensures { λ r. ⌜ r ≡ entryWith s ⌝ }
 {
     let unit = s.unit;
-    Entry {
-        unit,
+    let touched = Touched {
         data_at: s.used,
         data_length: s.journal,
         swb: false,
@@ -37,7 +40,8 @@ fn entry_with(s: Session) -> Entry
         message_length: 0,
         reel_at: 0,
         reel_blocks: 0,
-    }
+    };
+    Entry { unit, touched }
 }
 
 fn session_with(e: Entry) -> Session
@@ -46,13 +50,13 @@ fn session_with(e: Entry) -> Session
     let unit = e.unit;
     Session {
         unit,
-        used: e.data_at,
-        journal: e.data_length,
+        used: e.touched.data_at,
+        journal: e.touched.data_length,
     }
 }
 
 // The flags are 0 or 1.
-fn flags_right(n: [u32; 32]) -> bool
+fn flags_right(n: [u32; 31]) -> bool
     ensures { λ r. ⌜ r ≡ flagsRight n ⌝ }
 {
     let registers = (n[4] < 2) & ((n[5] < 2) & ((n[6] < 2) & (n[7] < 2)));
@@ -63,10 +67,10 @@ fn flags_right(n: [u32; 32]) -> bool
 }
 
 // The numbers that a session has no use for are 0.
-fn rest_zero(n: [u32; 32]) -> bool
+fn rest_zero(n: [u32; 31]) -> bool
     ensures { λ r. ⌜ r ≡ restZero n ⌝ }
 {
-    let free = (n[28] == 0) & ((n[29] == 0) & ((n[30] == 0) & (n[31] == 0)));
+    let free = (n[28] == 0) & ((n[29] == 0) & (n[30] == 0));
     (n[23] == 0) & ((n[24] == 0) & ((n[25] == 0) & ((n[26] == 0) & ((n[27] == 0) & free))))
 }
 
@@ -76,7 +80,7 @@ pub fn open(b: &[u8; 128]) -> Opened
     let n = head_at(b, 0);
     let session = session_with(entry_of(n));
     Opened {
-        right: flags_right(n) & rest_zero(n),
+        right: flags_right(n) & (rest_zero(n) & (number_at(b, HEAD) == 0)),
         session,
     }
 }
@@ -90,6 +94,7 @@ pub fn close(b: &mut [u8; 128], o: Outcome) -> usize
         Answer::Done(_) => {
             let s = o.session;
             put_head(b, 0, numbers_of(entry_with(s)));
+            put_number(b, HEAD, 0);
             0
         }
         Answer::Idle => 0,

@@ -6,9 +6,10 @@ use state::Act;
 use unit::Register;
 ghost use mathlib.Core.Path.{_≡_};
 ghost use Rattle.commands.specs.Answers.{numberOf};
-ghost use Rattle.journal.specs.Calls.{mountOn};
+ghost use Rattle.unit.specs.Asks.{Ask};
+ghost use Rattle.worlds.specs.Calls.{mountOn};
 ghost use Rattle.ts11.specs.Block.{sessionIn};
-ghost use Rattle.ts11.specs.Given.{Gives, Mounts, Reads, Tells, actOf, advanceGiven, backGiven, faultIn, hostGiven, interruptIn, isStep, operateGiven, registerGiven, registerOf, tsdbGiven, tssrGiven};
+ghost use Rattle.ts11.specs.Given.{Gives, Mounts, Reads, Tells, actOf, backGiven, faultIn, holding, interruptIn, isStep, registerGiven, registerOf, stepGiven};
 
 // The block at fault, with refusal 7, else 0.
 fn fault_in(a: Answer) -> usize
@@ -82,7 +83,7 @@ pub extern "C" fn ts11_write_tsdb(
     journal: &mut [u8],
     word: u16,
 ) -> usize
-    ensures { λ r. ⌜ Gives (now (state .entry)) (tsdbGiven (now (state .entry)) (now (memory .entry)) (now (reel .entry)) (now (journal .entry)) word) r (now (state .exit)) (now (memory .exit)) (now (reel .exit)) (now (journal .exit)) ⌝ }
+    ensures { λ r. ⌜ Gives (holding (now (state .entry)) (now (memory .entry)) (now (reel .entry)) (now (journal .entry))) (stepGiven (Ask.write-tsdb word) (holding (now (state .entry)) (now (memory .entry)) (now (reel .entry)) (now (journal .entry)))) r (holding (now (state .exit)) (now (memory .exit)) (now (reel .exit)) (now (journal .exit))) ⌝ }
 {
     let s = open(state);
     if !s.right {
@@ -102,7 +103,7 @@ pub extern "C" fn ts11_write_tssr(
     journal: &mut [u8],
     _word: u16,
 ) -> usize
-    ensures { λ r. ⌜ Gives (now (state .entry)) (tssrGiven (now (state .entry)) (now (memory .entry)) (now (reel .entry)) (now (journal .entry))) r (now (state .exit)) (now (memory .exit)) (now (reel .exit)) (now (journal .exit)) ⌝ }
+    ensures { λ r. ⌜ Gives (holding (now (state .entry)) (now (memory .entry)) (now (reel .entry)) (now (journal .entry))) (stepGiven Ask.write-tssr (holding (now (state .entry)) (now (memory .entry)) (now (reel .entry)) (now (journal .entry)))) r (holding (now (state .exit)) (now (memory .exit)) (now (reel .exit)) (now (journal .exit))) ⌝ }
 {
     let s = open(state);
     if !s.right {
@@ -130,7 +131,7 @@ pub extern "C" fn ts11_operate(
     write_lock: bool,
     on: bool,
 ) -> usize
-    ensures { λ r. ⌜ Gives (now (state .entry)) (operateGiven (now (state .entry)) (now (memory .entry)) (now (reel .entry)) (now (journal .entry)) «write_lock» on) r (now (state .exit)) (now (memory .exit)) (now (reel .exit)) (now (journal .exit)) ⌝ }
+    ensures { λ r. ⌜ Gives (holding (now (state .entry)) (now (memory .entry)) (now (reel .entry)) (now (journal .entry))) (stepGiven (Ask.operate (actOf «write_lock» on)) (holding (now (state .entry)) (now (memory .entry)) (now (reel .entry)) (now (journal .entry)))) r (holding (now (state .exit)) (now (memory .exit)) (now (reel .exit)) (now (journal .exit))) ⌝ }
 {
     let s = open(state);
     if !s.right {
@@ -184,7 +185,7 @@ pub extern "C" fn ts11_host_store(
     place: usize,
     bytes: &[u8],
 ) -> usize
-    ensures { λ r. ⌜ Gives (now (state .entry)) (hostGiven (now (state .entry)) (now (memory .entry)) (now (reel .entry)) (now (journal .entry)) place (now (bytes .entry))) r (now (state .exit)) (now (memory .exit)) (now (reel .entry)) (now (journal .exit)) ⌝ }
+    ensures { λ r. ⌜ Gives (holding (now (state .entry)) (now (memory .entry)) (now (reel .entry)) (now (journal .entry))) (stepGiven (Ask.host-store place (now (bytes .entry))) (holding (now (state .entry)) (now (memory .entry)) (now (reel .entry)) (now (journal .entry)))) r (holding (now (state .exit)) (now (memory .exit)) (now (reel .entry)) (now (journal .exit))) ⌝ }
 {
     let s = open(state);
     if !s.right {
@@ -206,8 +207,8 @@ pub extern "C" fn ts11_advance(
     interrupt: &mut bool,
     block: &mut usize,
 ) -> usize
-    ensures { λ r. ⌜ Gives (now (state .entry)) (advanceGiven (now (state .entry)) (now (memory .entry)) (now (reel .entry)) (now (journal .entry))) r (now (state .exit)) (now (memory .exit)) (now (reel .exit)) (now (journal .exit)) ⌝ }
-    ensures { λ _. ⌜ Tells (advanceGiven (now (state .entry)) (now (memory .entry)) (now (reel .entry)) (now (journal .entry))) (now (stepped .exit)) (now (interrupt .exit)) (now (block .exit)) ⌝ }
+    ensures { λ r. ⌜ Gives (holding (now (state .entry)) (now (memory .entry)) (now (reel .entry)) (now (journal .entry))) (stepGiven Ask.advance (holding (now (state .entry)) (now (memory .entry)) (now (reel .entry)) (now (journal .entry)))) r (holding (now (state .exit)) (now (memory .exit)) (now (reel .exit)) (now (journal .exit))) ⌝ }
+    ensures { λ _. ⌜ Tells (stepGiven Ask.advance (holding (now (state .entry)) (now (memory .entry)) (now (reel .entry)) (now (journal .entry)))) (now (stepped .exit)) (now (interrupt .exit)) (now (block .exit)) ⌝ }
 {
     let s = open(state);
     if !s.right {
@@ -232,7 +233,7 @@ pub extern "C" fn ts11_step_back(
     reel: &mut [u8],
     journal: &[u8],
 ) -> usize
-    ensures { λ r. ⌜ Gives (now (state .entry)) (backGiven (now (state .entry)) (now (memory .entry)) (now (reel .entry)) (now (journal .entry))) r (now (state .exit)) (now (memory .exit)) (now (reel .exit)) (now (journal .entry)) ⌝ }
+    ensures { λ r. ⌜ Gives (holding (now (state .entry)) (now (memory .entry)) (now (reel .entry)) (now (journal .entry))) (backGiven (holding (now (state .entry)) (now (memory .entry)) (now (reel .entry)) (now (journal .entry)))) r (holding (now (state .exit)) (now (memory .exit)) (now (reel .exit)) (now (journal .entry))) ⌝ }
 {
     let s = open(state);
     if !s.right {
