@@ -9,20 +9,21 @@ use lib.ListN.{length, take, drop, getD}
 use Rattle.lists.specs.Words.{wordAt, wordSum}
 use Rattle.block.proofs.Checked.{check-in-two, second-lent}
 use Rattle.block.proofs.Padding.{padding-sum, wordsWith}
+use Rattle.tape.specs.Numbers.{checkModulus, dataBytes, headBytes, summedBytes, summedWords}
 use Rattle.tape.specs.Reading.{bodyRight}
 
 -- two sums of words, each as far as the check asks for it
-sums-same : (h r x y : ℕ) → h % 65535 ≡ x % 65535 → r % 65535 ≡ y % 65535 → (h + r) % 65535 ≡ (x + y) % 65535
+sums-same : (h r x y : ℕ) → h % checkModulus ≡ x % checkModulus → r % checkModulus ≡ y % checkModulus → (h + r) % checkModulus ≡ (x + y) % checkModulus
 sums-same h r x y p q = omega arith
 
-module _ (b : List ℕ) (used shared head rest check : ℕ) (long : 510 ≤ length b) (low : used ≤ 504) where
+module _ (b : List ℕ) (used shared head rest check : ℕ) (long : summedBytes ≤ length b) (low : used ≤ dataBytes) where
   abbrev first : ℕ
   first = wordSum (take (2 * wordsWith used) b)
 
   abbrev second : ℕ
-  second = wordSum (take (2 * (255 - wordsWith used)) (take (510 - 2 * wordsWith used) (drop (2 * wordsWith used) b)))
+  second = wordSum (take (2 * (summedWords - wordsWith used)) (take (summedBytes - 2 * wordsWith used) (drop (2 * wordsWith used) b)))
 
-  pub body-read : shared ≡ getD b (6 + used) 0 → head % 65535 ≡ first % 65535 → rest % 65535 ≡ second % 65535 → eqb rest 0 ≡ eqb second 0 → check ≡ wordAt b 510 → (((eqb (used % 2) 0 || eqb shared 0) && eqb rest 0) && eqb check ((head + rest) % 65535)) ≡ bodyRight b used
+  pub body-read : shared ≡ getD b (headBytes + used) 0 → head % checkModulus ≡ first % checkModulus → rest % checkModulus ≡ second % checkModulus → eqb rest 0 ≡ eqb second 0 → check ≡ wordAt b summedBytes → (((eqb (used % 2) 0 || eqb shared 0) && eqb rest 0) && eqb check ((head + rest) % checkModulus)) ≡ bodyRight b used
   unfolding bodyRight
   body-read p q r z s =
       rw (sums-same head rest first second q r, z)

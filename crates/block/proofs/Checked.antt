@@ -8,26 +8,27 @@ use lib.Seq.{drop-at, length-take-le, take-add, take-take}
 use lib.Dec.{eqb}
 use Rattle.lists.specs.Words.{wordAt, wordSum}
 use Rattle.lists.proofs.Sums.{sum-split}
+use Rattle.tape.specs.Numbers.{checkModulus, summedBytes, summedWords}
 use Rattle.tape.specs.Layout.{checkOf}
 use Rattle.tape.specs.Reading.{checkRight}
 
-module _ (b : List ℕ) (w : ℕ) (long : 510 ≤ length b) (low : w ≤ 255) where
-  in-two : take 510 b ≡ take (2 * w) b ++ take (510 - 2 * w) (drop (2 * w) b)
+module _ (b : List ℕ) (w : ℕ) (long : summedBytes ≤ length b) (low : w ≤ summedWords) where
+  in-two : take summedBytes b ≡ take (2 * w) b ++ take (summedBytes - 2 * w) (drop (2 * w) b)
   in-two =
-      let e : 510 ≡ 2 * w + (510 - 2 * w) = omega arith in
-      ap (λ (n : ℕ). take n b) e ∙ take-add (2 * w) (510 - 2 * w) b
+      let e : summedBytes ≡ 2 * w + (summedBytes - 2 * w) = omega arith in
+      ap (λ (n : ℕ). take n b) e ∙ take-add (2 * w) (summedBytes - 2 * w) b
 
-  second : drop (2 * w) (take 510 b) ≡ take (510 - 2 * w) (drop (2 * w) b)
-  second = rw in-two (drop-at (take (2 * w) b) (take (510 - 2 * w) (drop (2 * w) b)) (2 * w) (length-take-le (2 * w) b (omega arith)))
+  second : drop (2 * w) (take summedBytes b) ≡ take (summedBytes - 2 * w) (drop (2 * w) b)
+  second = rw in-two (drop-at (take (2 * w) b) (take (summedBytes - 2 * w) (drop (2 * w) b)) (2 * w) (length-take-le (2 * w) b (omega arith)))
 
   -- the second run, as the words of the part that is lent
-  pub second-lent : take (2 * (255 - w)) (take (510 - 2 * w) (drop (2 * w) b)) ≡ drop (2 * w) (take 510 b)
+  pub second-lent : take (2 * (summedWords - w)) (take (summedBytes - 2 * w) (drop (2 * w) b)) ≡ drop (2 * w) (take summedBytes b)
   second-lent =
-      let e : 2 * (255 - w) ≡ 510 - 2 * w = omega arith in
-      rw (e, second) (take-take (510 - 2 * w) (510 - 2 * w) (drop (2 * w) b) (omega arith))
+      let e : 2 * (summedWords - w) ≡ summedBytes - 2 * w = omega arith in
+      rw (e, second) (take-take (summedBytes - 2 * w) (summedBytes - 2 * w) (drop (2 * w) b) (omega arith))
 
-  pub check-in-two : checkRight b ≡ eqb (wordAt b 510) ((wordSum (take (2 * w) b) + wordSum (drop (2 * w) (take 510 b))) % 65535)
+  pub check-in-two : checkRight b ≡ eqb (wordAt b summedBytes) ((wordSum (take (2 * w) b) + wordSum (drop (2 * w) (take summedBytes b))) % checkModulus)
   unfolding checkRight checkOf
   check-in-two =
-      let e : wordSum (take 510 b) ≡ wordSum (take (2 * w) b) + wordSum (drop (2 * w) (take 510 b)) = rw second (ap wordSum in-two ∙ sum-split w b (take (510 - 2 * w) (drop (2 * w) b)) (omega arith)) in
-      ap (λ (n : ℕ). eqb (wordAt b 510) (n % 65535)) e
+      let e : wordSum (take summedBytes b) ≡ wordSum (take (2 * w) b) + wordSum (drop (2 * w) (take summedBytes b)) = rw second (ap wordSum in-two ∙ sum-split w b (take (summedBytes - 2 * w) (drop (2 * w) b)) (omega arith)) in
+      ap (λ (n : ℕ). eqb (wordAt b summedBytes) (n % checkModulus)) e

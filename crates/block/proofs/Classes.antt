@@ -6,6 +6,7 @@ use Prim.Native.Nat.{ℕ, _/_, _<_, _≤_}
 use borrow.Author.Tests.{le-ltb, lt-ltb}
 use lib.ListN.{length}
 use Rattle.lists.specs.Words.{wordAt}
+use Rattle.tape.specs.Numbers.{blockBytes}
 use Rattle.tape.specs.Reading.{bodyRight, blockAt, classAt, classBy, classOf, headRight, kindOf, usedOf}
 use Rattle.tape.specs.declared.Block.{Block}
 use Rattle.tape.specs.declared.Block.the-variants as block
@@ -29,10 +30,10 @@ module _ (b : List ℕ) (k n i : ℕ) (p : k ≡ wordAt b 0) (q : n ≡ wordAt b
   class-right h u e o = rw (← by-words) (simp (h, ← u, e) o)
 
 module _ (s : List ℕ) (k : ℕ) where
-  pub class-outside : length s / 512 ≤ k → block.Damaged ≡ classAt s k
+  pub class-outside : length s / blockBytes ≤ k → block.Damaged ≡ classAt s k
   unfolding classAt
-  class-outside h = simp (le-ltb k (length s / 512) h)
+  class-outside h = simp (le-ltb k (length s / blockBytes) h)
 
-  pub class-inside : {r : Block} → k < length s / 512 → r ≡ classOf (blockAt s k) → r ≡ classAt s k
+  pub class-inside : {r : Block} → k < length s / blockBytes → r ≡ classOf (blockAt s k) → r ≡ classAt s k
   unfolding classAt
-  class-inside h e = simp (lt-ltb k (length s / 512) h) e
+  class-inside h e = simp (lt-ltb k (length s / blockBytes) h) e

@@ -5,14 +5,15 @@ use Prim.Native.Nat.{ℕ, _*_, _<_}
 use native.Mathlib.Omega.{arith}
 use borrow.Author.Tests.{ltb-true}
 use lib.Dec.{leb, ltb}
-use Rattle.tape.specs.Numbers.{piecesOf, recordLimit}
+use Rattle.tape.specs.Numbers.{dataBytes, piecesOf, recordLimit}
+use Rattle.tape.specs.Layout.{pieceKind}
 use Rattle.tape.specs.Reading.{headRight}
 
 right-of : (a b : Bool) → (a && b) ≡ true → b ≡ true
 right-of true b h = h
 right-of false b h = absurd (false≢true h)
 
-pub head-piece : (k n i : ℕ) → k ≡ 1 → headRight k n i ≡ true → 504 * i < n
+pub head-piece : (k n i : ℕ) → k ≡ pieceKind → headRight k n i ≡ true → dataBytes * i < n
 unfolding headRight
 head-piece k n i e h =
     let p : i < piecesOf n = ltb-true i (piecesOf n) (right-of (leb 1 n && leb n recordLimit) (ltb i (piecesOf n)) (rw e at h)) in

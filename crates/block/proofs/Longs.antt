@@ -10,6 +10,7 @@ use lib.Seq.{take-add, take-take}
 use Rattle.lists.specs.Words.{wordAt, wordSum}
 use Rattle.lists.proofs.Sums.{sum-split}
 use Rattle.block.specs.Sums.{longAt, longSum}
+use Rattle.tape.specs.Numbers.{checkModulus}
 
 -- four times a number by recursion, since `4 * suc j` does not compute
 abbrev four : ℕ → ℕ
@@ -50,7 +51,7 @@ two-more j l h =
 -- the words and the numbers of one list, and how the two sums differ
 pub record Folds (s t : ℕ) : Type 0 where
   pub over : ℕ
-  pub is : s ≡ t + 65535 * over
+  pub is : s ≡ t + checkModulus * over
   pub least : over ≤ t
 
 folds : (j : ℕ) (l : List ℕ) → four j ≤ length l → Folds (longSum (take (four j) l)) (wordSum (take (four j) l))
@@ -64,12 +65,12 @@ folds (suc j) (a ∷ (b ∷ (c ∷ (d ∷ r)))) h =
     let f = folds j r (omega arith) in
     record { over = c + 256 * d + f .over; is = omega (arith, f .is); least = omega (arith, f .least) }
 
-none-by : (s t k : ℕ) → s ≡ t + 65535 * k → k ≤ t → eqb s 0 ≡ eqb t 0
+none-by : (s t k : ℕ) → s ≡ t + checkModulus * k → k ≤ t → eqb s 0 ≡ eqb t 0
 none-by s zero k e h = eq-eqb s 0 (omega arith) ∙ sym (eq-eqb 0 0 refl)
 none-by s (suc t) k e h = ne-eqb s 0 (λ (z : s ≡ 0). omega arith) ∙ sym (ne-eqb (suc t) 0 (λ (z : suc t ≡ 0). omega arith))
 
 module _ (s t : ℕ) (f : Folds s t) where
-  pub fold-same : s % 65535 ≡ t % 65535
+  pub fold-same : s % checkModulus ≡ t % checkModulus
   fold-same = omega (arith, f .is)
 
   pub fold-none : eqb s 0 ≡ eqb t 0

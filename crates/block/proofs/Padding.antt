@@ -9,6 +9,7 @@ use lib.Dec.{eqb}
 use lib.ListN.{length, take, drop, getD}
 use lib.Seq.{slice-cons}
 use Rattle.lists.specs.Words.{wordSum}
+use Rattle.tape.specs.Numbers.{dataBytes, headBytes, summedBytes}
 use Rattle.tape.specs.Reading.{paddingRight, zeros}
 
 -- a sum is 0 just where each of its parts is
@@ -28,23 +29,23 @@ zeros-sum (a ∷ (b ∷ r)) = rw (zeros-sum r) (word-zero a b (wordSum r))
 abbrev pub wordsWith : ℕ → ℕ
 wordsWith used = 3 + (used + 1) / 2
 
-module _ (b : List ℕ) (used : ℕ) (long : 510 ≤ length b) (low : used ≤ 504) where
-  even : used % 2 ≡ 0 → paddingRight b used ≡ zeros (drop (2 * wordsWith used) (take 510 b))
+module _ (b : List ℕ) (used : ℕ) (long : summedBytes ≤ length b) (low : used ≤ dataBytes) where
+  even : used % 2 ≡ 0 → paddingRight b used ≡ zeros (drop (2 * wordsWith used) (take summedBytes b))
   unfolding paddingRight
   even e =
-      let p : 6 + used ≡ 2 * wordsWith used = omega arith in
+      let p : headBytes + used ≡ 2 * wordsWith used = omega arith in
       rw p
 
-  odd : used % 2 ≡ 1 → paddingRight b used ≡ (eqb (getD b (6 + used) 0) 0 && zeros (drop (2 * wordsWith used) (take 510 b)))
+  odd : used % 2 ≡ 1 → paddingRight b used ≡ (eqb (getD b (headBytes + used) 0) 0 && zeros (drop (2 * wordsWith used) (take summedBytes b)))
   unfolding paddingRight zeros
   odd e =
-      let p : 2 * wordsWith used ≡ suc (6 + used) = omega arith in
-      rw (p, slice-cons (6 + used) 510 b 0 (omega arith) long)
+      let p : 2 * wordsWith used ≡ suc (headBytes + used) = omega arith in
+      rw (p, slice-cons (headBytes + used) summedBytes b 0 (omega arith) long)
 
-  by-rest : (m : ℕ) → used % 2 ≡ m → paddingRight b used ≡ ((eqb (used % 2) 0 || eqb (getD b (6 + used) 0) 0) && zeros (drop (2 * wordsWith used) (take 510 b)))
+  by-rest : (m : ℕ) → used % 2 ≡ m → paddingRight b used ≡ ((eqb (used % 2) 0 || eqb (getD b (headBytes + used) 0) 0) && zeros (drop (2 * wordsWith used) (take summedBytes b)))
   by-rest zero e = even e ∙ rw e
   by-rest (suc zero) e = odd e ∙ rw e
   by-rest (suc (suc m)) e = absurd (omega arith)
 
-  pub padding-sum : paddingRight b used ≡ ((eqb (used % 2) 0 || eqb (getD b (6 + used) 0) 0) && eqb (wordSum (drop (2 * wordsWith used) (take 510 b))) 0)
-  padding-sum = by-rest (used % 2) refl ∙ rw (zeros-sum (drop (2 * wordsWith used) (take 510 b)))
+  pub padding-sum : paddingRight b used ≡ ((eqb (used % 2) 0 || eqb (getD b (headBytes + used) 0) 0) && eqb (wordSum (drop (2 * wordsWith used) (take summedBytes b))) 0)
+  padding-sum = by-rest (used % 2) refl ∙ rw (zeros-sum (drop (2 * wordsWith used) (take summedBytes b)))

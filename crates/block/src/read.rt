@@ -8,18 +8,19 @@ ghost use mathlib.Core.Bool.{true};
 ghost use mathlib.Core.Path.{_≡_};
 ghost use Prim.Native.Nat.{_≤_};
 ghost use lib.ListN.{length};
+ghost use Rattle.tape.specs.Numbers.{blockBytes, dataBytes};
 ghost use Rattle.tape.specs.Reading.{bodyRight, classAt, classOf, headRight, indexRight, kindOf, kindRight, lengthRight, usedOf};
 
 fn kind_right(k: usize) -> bool
     ensures { λ r. ⌜ r ≡ kindRight k ⌝ }
 {
-    (1 <= k) & (k <= 3)
+    (tape::PIECE_KIND <= k) & (k <= tape::GAP_KIND)
 }
 
 fn length_right(k: usize, n: usize) -> bool
     ensures { λ r. ⌜ r ≡ lengthRight k n ⌝ }
 {
-    if k == 1 {
+    if k == tape::PIECE_KIND {
         (1 <= n) & (n <= Geometry::RECORD_LIMIT)
     } else {
         n == 0
@@ -29,7 +30,11 @@ fn length_right(k: usize, n: usize) -> bool
 fn index_right(k: usize, n: usize, i: usize) -> bool
     ensures { λ r. ⌜ r ≡ indexRight k n i ⌝ }
 {
-    if k == 1 { i < tape::pieces(n) } else { i == 0 }
+    if k == tape::PIECE_KIND {
+        i < tape::pieces(n)
+    } else {
+        i == 0
+    }
 }
 
 fn head_right(k: usize, n: usize, i: usize) -> bool
@@ -42,9 +47,9 @@ fn head_right(k: usize, n: usize, i: usize) -> bool
 fn used_of(k: usize, n: usize, i: usize) -> usize
     requires { ⌜ headRight k n i ≡ true ⌝ }
     ensures is { λ r. ⌜ r ≡ usedOf k n i ⌝ }
-    ensures low { λ r. ⌜ r ≤ 504 ⌝ }
+    ensures low { λ r. ⌜ r ≤ dataBytes ⌝ }
 {
-    if k == 1 {
+    if k == tape::PIECE_KIND {
         let left = n - Geometry::DATA * i;
         if left < Geometry::DATA {
             left
@@ -58,31 +63,31 @@ fn used_of(k: usize, n: usize, i: usize) -> usize
 
 // Padding and check in one pass: the words in use are summed, then those that must be 0. An odd last data byte shares its word.
 fn body_right(b: &[u8], used: usize) -> bool
-    requires { ⌜ (length (now b) ≡ 512) × (used ≤ 504) ⌝ }
+    requires { ⌜ (length (now b) ≡ blockBytes) × (used ≤ dataBytes) ⌝ }
     ensures { λ r. ⌜ r ≡ bodyRight (now (b .entry)) used ⌝ }
 {
     let words = 3 + (used + 1) / 2;
     let cut = 2 * words;
     let head = check_sum(b, words);
-    let rest = check_sum(&b[cut..510], 255 - words);
-    let shared = (used % 2 == 0) | (wide(b[6 + used]) == 0);
-    (shared & (rest == 0)) & (word(b, 510) == (head + rest) % 65535)
+    let rest = check_sum(&b[cut..Geometry::SUMMED], Geometry::SUMMED_WORDS - words);
+    let shared = (used % 2 == 0) | (wide(b[Geometry::HEAD + used]) == 0);
+    (shared & (rest == 0)) & (word(b, Geometry::SUMMED) == (head + rest) % Geometry::CHECK_MODULUS)
 }
 
 fn kind_of(k: usize, n: usize, i: usize) -> Block
     ensures { λ r. ⌜ r ≡ kindOf k n i ⌝ }
 {
-    if k == 1 {
+    if k == tape::PIECE_KIND {
         return Block::Piece(n, i);
     }
-    if k == 2 {
+    if k == tape::MARK_KIND {
         return Block::Mark;
     }
     Block::Gap
 }
 
 fn class_of(b: &[u8]) -> Block
-    requires { ⌜ length (now b) ≡ 512 ⌝ }
+    requires { ⌜ length (now b) ≡ blockBytes ⌝ }
     ensures { λ r. ⌜ r ≡ classOf (now (b .entry)) ⌝ }
 {
     let k = word(b, 0);

@@ -5,7 +5,8 @@ ghost use mathlib.Core.Path.{_≡_};
 ghost use Prim.Native.Nat.{_+_, _*_, _%_, _≤_, _<_};
 ghost use lib.Dec.{eqb};
 ghost use lib.ListN.{length, take};
-ghost use Rattle.lists.specs.Words.{wordSum};
+ghost use Rattle.lists.specs.Words.{wordLimit, wordSum};
+ghost use Rattle.tape.specs.Numbers.{checkModulus};
 ghost use Rattle.block.specs.Sums.{longAt, longSum};
 
 fn long(b: &[u8], at: usize) -> usize
@@ -18,7 +19,7 @@ fn long(b: &[u8], at: usize) -> usize
 
 // The first n runs of eight bytes, two numbers each.
 fn long_sum(b: &[u8], n: usize) -> usize
-    requires { ⌜ (8 * n ≤ length (now b)) × (n ≤ 65536) ⌝ }
+    requires { ⌜ (8 * n ≤ length (now b)) × (n ≤ wordLimit) ⌝ }
     ensures is { λ r. ⌜ r ≡ longSum (take (8 * n) (now (b .entry))) ⌝ }
     ensures low { λ r. ⌜ r ≤ 8589934592 * n ⌝ }
 {
@@ -34,7 +35,7 @@ fn long_sum(b: &[u8], n: usize) -> usize
 // The sum of the first n words as far as the check and the padding ask: modulo 65,535, and whether it is 0.
 pub fn check_sum(b: &[u8], n: usize) -> usize
     requires { ⌜ (2 * n ≤ length (now b)) × (n ≤ 256) ⌝ }
-    ensures same { λ r. ⌜ r % 65535 ≡ wordSum (take (2 * n) (now (b .entry))) % 65535 ⌝ }
+    ensures same { λ r. ⌜ r % checkModulus ≡ wordSum (take (2 * n) (now (b .entry))) % checkModulus ⌝ }
     ensures none { λ r. ⌜ eqb r 0 ≡ eqb (wordSum (take (2 * n) (now (b .entry)))) 0 ⌝ }
     ensures low { λ r. ⌜ r ≤ 1099511627776 ⌝ }
 {

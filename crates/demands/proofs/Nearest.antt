@@ -6,12 +6,13 @@ use Prim.Native.Nat.{ℕ}
 use lib.ListN.{length}
 use Rattle.tape.specs.Objects.{AllAllowed, Holds, Object, blocksOf, gap, mark, record-of}
 use Rattle.tape.proofs.Accepted.{clash}
-use Rattle.moves.specs.Between.{Between, Bound, Gaps, no-gap, one-gap}
+use Rattle.moves.specs.Between.{Between, Bound, Gaps, no-gap, one-gap, withGaps}
+use Rattle.moves.specs.Finding.{Finds, finds-mark, finds-nothing, finds-record}
 use Rattle.moves.specs.Seeking.{sought}
 use Rattle.moves.specs.declared.seeking.Sought.{Sought}
 use Rattle.moves.specs.declared.seeking.Sought.the-variants as sought-as
 use Rattle.moves.proofs.Bounds.{back-again, backward, bound-to, one-cut}
-use Rattle.moves.proofs.Finds.{Finds, finds, finds-mark, finds-nothing, finds-record, withGaps}
+use Rattle.moves.proofs.Finds.{finds}
 
 -- an object that is no gap is not among gaps
 not-among : {gs : List Object} → Gaps gs → (xs : List Object) (o : Object) (ys : List Object) → (o ≡ gap → ⊥) → gs ≡ xs ++ (o ∷ ys) → ⊥

@@ -7,8 +7,7 @@ use native.Mathlib.Omega.{arith}
 use borrow.Author.Tests.{eq-eqb, le-ltb}
 use lib.ListN.{length}
 use lib.Seq.{length-sets, sets, take-all}
-use Rattle.lists.specs.Pick.{pick}
-use Rattle.lists.specs.Places.{gathered, placed}
+use Rattle.lists.specs.Places.{placed}
 use Rattle.lists.proofs.Cases.{pick-told}
 use Rattle.lists.proofs.Placed.{length-gathered}
 use Rattle.tape.specs.Bytes.{movedBytes, movedTo, readInto}
@@ -20,20 +19,17 @@ use Rattle.tape.specs.declared.Met.the-variants as met
 use Rattle.tape.proofs.Passes.{pass-forward, pass-reverse}
 use Rattle.tape.proofs.Recorded.{record-stands}
 use Rattle.tape.proofs.Written.{laid-stands}
-use Rattle.signals.specs.Residuals.{residualWord}
 use Rattle.moves.specs.Seeking.{sought, soughtOn}
 use Rattle.moves.specs.declared.seeking.Sought.the-variants as sought-as
 use Rattle.moves.proofs.Seeks.{seek-turn}
 use Rattle.motions.specs.Parts.{laidBlocks, objectBlocks, standing}
-use Rattle.motions.specs.Reads.{firstBlock, readEnd, readMotion, readOne, readOneBy, stageBy, stageOf}
+use Rattle.motions.specs.Reads.{firstBlock, onRecord, readEnd, readMotion, readOne, stageBy, stageOf}
 use Rattle.motions.specs.declared.parts.Laid.{Laid}
-use Rattle.motions.specs.declared.parts.Motion.{Motion}
-use Rattle.motions.specs.declared.parts.Motion.the-variants as motion
-use Rattle.motions.specs.declared.parts.Ending.{Ending}
 use Rattle.motions.specs.declared.parts.ObjectKind.{ObjectKind}
 use Rattle.motions.specs.declared.parts.ObjectKind.the-variants as kind
 use Rattle.motions.specs.declared.reads.Buffer.{Buffer}
 use Rattle.storing.specs.Stored.{laidObject, laidOn, movedOn}
+use Rattle.demands.specs.ReadBack.{GivesAll, written, writtenAtBlock, writtenEnd}
 use Rattle.storing.proofs.Ways.{blocks-after-gap, blocks-alone, laid-after-gap, laid-alone}
 
 -- a record met at once is what the search finds
@@ -43,7 +39,7 @@ found-at-once s reverse p e n q h k = sym (seek-turn e s reverse p e {m = met.Re
 
 -- and a Read that finds one moves it
 pub read-found : (s : List ℕ) (reverse : Bool) (p e n q : ℕ) (r : Buffer) → sought s reverse p e ≡ sought-as.Record n q → readOne s (standing p e) r reverse ≡ readMotion r reverse n q (standing q e) reverse
-unfolding readOne stageOf stageBy readOneBy
+unfolding readOne stageOf stageBy onRecord
 read-found s reverse p e n q r k = rw k
 
 -- the whole record is moved where the count is its length
@@ -54,20 +50,9 @@ whole-moved true swb m d pointer =
     rw (none) (ap (λ (a : ℕ). placed swb m a d) (omega arith))
 whole-moved false swb m d pointer = rw (take-all (length d) d (omega arith))
 
--- a Read as asked by r that gave all of the bytes d and left the tape at q
-pub record GaveAll (s : List ℕ) (r : Buffer) (d : List ℕ) (q : ℕ) (x : Ending) : Type 0 where
-  pub class : x .end .class ≡ 0
-  pub found : x .end .found ≡ 0
-  pub residual : residualWord (x .end .residual) ≡ 0
-  pub place : x .tape .position ≡ q
-  pub bytes : (m : List ℕ) → movedOn s (x .moved) m ≡ placed (r .swb) m (r .pointer) d
-
-abbrev pub Gives : List ℕ → Buffer → List ℕ → ℕ → Motion → Type 0
-Gives s r d q a = (x : Ending) × (a ≡ motion.Ended x) × GaveAll s r d q x
-
 -- a record that stands at block p
 module _ (s d : List ℕ) (p e : ℕ) (r : Buffer) (a : Allowed (record-of d)) (h : StandsAt s p (record-of d)) (room : p + piecesOf (length d) ≤ e) (asks : r .count ≡ length d) where
-  gave : (reverse : Bool) (q : ℕ) → firstBlock reverse (length d) q ≡ p → Gives s r d q (readMotion r reverse (length d) q (standing q e) reverse)
+  gave : (reverse : Bool) (q : ℕ) → firstBlock reverse (length d) q ≡ p → GivesAll s r d q (readMotion r reverse (length d) q (standing q e) reverse)
   unfolding readMotion readEnd movedOn
   gave reverse q first = (
     _,
@@ -81,27 +66,17 @@ module _ (s d : List ℕ) (p e : ℕ) (r : Buffer) (a : Allowed (record-of d)) (
     },
   )
 
-  pub stands-forward : Gives s r d (p + piecesOf (length d)) (readOne s (standing p e) r false)
+  pub stands-forward : GivesAll s r d (p + piecesOf (length d)) (readOne s (standing p e) r false)
   unfolding metAs blocksIn firstBlock
   stands-forward =
       let q : ℕ = p + piecesOf (length d) in
       rw (read-found s false p e (length d) q r (found-at-once s false p e (length d) q (omega (arith, a .0)) (pass-forward s p e (record-of d) a h room))) (gave false q (omega arith))
 
-  pub stands-reverse : Gives s r d p (readOne s (standing (p + piecesOf (length d)) e) r true)
+  pub stands-reverse : GivesAll s r d p (readOne s (standing (p + piecesOf (length d)) e) r true)
   unfolding metAs blocksIn firstBlock
   stands-reverse =
       let q : ℕ = p + piecesOf (length d) in
       rw (read-found s true q e (length d) p r (found-at-once s true q e (length d) p (omega (arith, a .0)) (pass-reverse s p e (record-of d) a h))) (gave true p refl)
-
--- what a Write lays: its bytes as they lay in memory, its first block, and the recorded end that it leaves
-abbrev pub written : List ℕ → Laid → List ℕ
-written m l = gathered (l .swb) m (l .pointer) (l .length)
-
-abbrev pub writtenAtBlock : Laid → ℕ
-writtenAtBlock l = pick (l .«gap_first») (l .at + 1) (l .at)
-
-abbrev pub writtenEnd : Laid → ℕ
-writtenEnd l = l .at + laidBlocks l
 
 -- "Write 5 / 0, 2 retry": a record as a Write lays it, alone, or behind a gap for a retry
 module _ (s m : List ℕ) (l : Laid) (o : l .object ≡ kind.Record) (some : 1 ≤ l .length) (most : l .length ≤ recordLimit) (room : blockBytes * (l .at + laidBlocks l) ≤ length s) where
@@ -140,13 +115,13 @@ module _ (s m : List ℕ) (l : Laid) (o : l .object ≡ kind.Record) (some : 1 �
 
   module _ (r : Buffer) (asks : r .count ≡ l .length) where
     -- "Read 1 / 0 next": forward from its first block, with either SWB and to any address
-    pub written-forward : Gives (laidOn s m l) r (written m l) (writtenEnd l) (readOne (laidOn s m l) (standing (writtenAtBlock l) (writtenEnd l)) r false)
+    pub written-forward : GivesAll (laidOn s m l) r (written m l) (writtenEnd l) (readOne (laidOn s m l) (standing (writtenAtBlock l) (writtenEnd l)) r false)
     written-forward =
         let w = record-laid in
         rw (w .1) at (stands-forward (laidOn s m l) (written m l) (writtenAtBlock l) (writtenEnd l) r allowed (w .0) (omega (arith, w .1)) (asks ∙ sym long))
 
     -- "1 previous": in reverse from where the Write left the tape ("moves the end to just after them")
-    pub written-reverse : Gives (laidOn s m l) r (written m l) (writtenAtBlock l) (readOne (laidOn s m l) (standing (writtenEnd l) (writtenEnd l)) r true)
+    pub written-reverse : GivesAll (laidOn s m l) r (written m l) (writtenAtBlock l) (readOne (laidOn s m l) (standing (writtenEnd l) (writtenEnd l)) r true)
     written-reverse =
         let w = record-laid in
         rw (w .1) at (stands-reverse (laidOn s m l) (written m l) (writtenAtBlock l) (writtenEnd l) r allowed (w .0) (omega (arith, w .1)) (asks ∙ sym long))

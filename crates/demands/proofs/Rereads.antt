@@ -14,27 +14,23 @@ use Rattle.tape.specs.Objects.{Holds, Object, blocksIn, record-of}
 use Rattle.tape.specs.Pass.{ahead, beyond, lowest}
 use Rattle.tape.proofs.Passes.{pass-whole}
 use Rattle.tape.proofs.Within.{RecordIn}
-use Rattle.moves.specs.Between.{Between, Bound, Gaps}
+use Rattle.moves.specs.Between.{Between, Bound, Gaps, withGaps}
+use Rattle.moves.specs.Finding.{Finds, finds-mark, finds-nothing, finds-record}
 use Rattle.moves.specs.Seeking.{sought}
 use Rattle.moves.specs.declared.seeking.Sought.{Sought}
 use Rattle.moves.specs.declared.seeking.Sought.the-variants as sought-as
 use Rattle.moves.proofs.Bounds.{bound-below}
-use Rattle.moves.proofs.Finds.{Finds, finds, finds-mark, finds-nothing, finds-record, withGaps}
+use Rattle.moves.proofs.Finds.{finds}
 use Rattle.moves.proofs.FoundAt.{found-stands}
 use Rattle.moves.proofs.Within.{sought-record}
 use Rattle.motions.specs.Parts.{standing}
-use Rattle.motions.specs.Reads.{readOne, firstBlock, readThenSpace, readThenSpaceBy, reread, spaceBack, spaceBackBy, spaceThenRead, spaceThenReadBy, stageBy, stageOf}
+use Rattle.motions.specs.Reads.{firstBlock, onRecord, readOne, readThenSpace, reread, spaceBack, spaceThenRead, stageBy, stageOf}
 use Rattle.motions.specs.declared.parts.Motion.{Motion}
 use Rattle.motions.specs.declared.reads.Buffer.{Buffer}
-use Rattle.motions.specs.declared.reads.Stage.the-variants as stage
+use Rattle.demands.specs.Reading.{BothStages, Moves, ReadEnds, met-mark, met-nothing, met-record}
 use Rattle.demands.proofs.Nearest.{bound-from, nearest}
 use Rattle.demands.proofs.ReadBack.{found-at-once, read-found}
-use Rattle.demands.proofs.ReadEnds.{Moves, ReadEnds, met-mark, met-nothing, met-record, moves-found}
-
--- a reread that met the record d, beyond which its first stage stopped at q: it moved the record by the read's own direction, its last
--- stage ran the other way than the first, and the tape stands at the edge of the record that the first stage met first
-abbrev pub BothStages : List ℕ → ℕ → Buffer → Bool → Bool → List ℕ → ℕ → Motion → Type 0
-BothStages s e r reverse opp d q = Moves s e r d (pick opp reverse (not reverse)) (not reverse) (beyond (not reverse) q (piecesOf (length d)))
+use Rattle.demands.proofs.ReadEnds.{moves-found}
 
 -- the record's blocks lie ahead on the way back, and stand where the way back meets them
 back-ahead : (reverse : Bool) (e n q : ℕ) → RecordIn reverse e n q → piecesOf n ≤ ahead (not reverse) q e
@@ -64,16 +60,15 @@ module _ {s : List ℕ} {e : ℕ} {os : List Object} (h : Holds s e os) (r : Buf
         found-at-once s (not reverse) q e (length d) _ (omega (arith, inside .inside, inside .some))
         (pass-whole s (not reverse) q e (record-of d) (f .0) (rw (back-lowest reverse q (piecesOf (length d))) (f .1)) (back-ahead reverse e (length d) q inside))
 
-    -- the motion after a first stage that found it
-    space-then-read : BothStages s e r reverse false d q (spaceThenReadBy s (standing p e) r reverse (stage.Record (length d) q))
-    unfolding spaceThenReadBy
-    space-then-read =
+    -- what goes on from a first stage that found it: the read, or with OPP the space back
+    then-read : BothStages s e r reverse false d q (readOne s (standing q e) r (not reverse))
+    then-read =
         let q′ : ℕ = beyond (not reverse) q (piecesOf (length d)) in
         rw (read-found s (not reverse) q e (length d) q′ r second) (moves-found h r reverse d gaps w (not reverse) (not reverse) q′ q′ (back-first reverse (length d) q))
 
-    read-then-space : BothStages s e r reverse true d q (readThenSpaceBy s (standing p e) r reverse (stage.Record (length d) q))
-    unfolding readThenSpaceBy stageBy spaceBack stageOf spaceBackBy firstBlock
-    read-then-space = rw second (moves-found h r reverse d gaps w reverse (not reverse) q _ refl)
+    then-space : BothStages s e r reverse true d q (spaceBack s e r reverse (length d) q)
+    unfolding spaceBack stageOf stageBy onRecord firstBlock
+    then-space = rw second (moves-found h r reverse d gaps w reverse (not reverse) q _ refl)
 
   -- by what the first stage found, with the read last or, with OPP, first
   abbrev Ends : Bool → Motion → Type 0
@@ -82,11 +77,11 @@ module _ {s : List ℕ} {e : ℕ} {os : List Object} (h : Holds s e os) (r : Buf
   by-first : (opp : Bool) {f : Sought} → sought s reverse p e ≡ f → Finds os reverse p f
       → Ends opp
       (pick opp
-      (readThenSpaceBy s (standing p e) r reverse (stageBy (standing p e) (r .count) reverse f))
-      (spaceThenReadBy s (standing p e) r reverse (stageBy (standing p e) (r .count) reverse f)))
-  unfolding spaceThenReadBy readThenSpaceBy stageBy
-  by-first false k (finds-record d {gaps = gaps} g w) = met-record d g w (space-then-read d gaps w k)
-  by-first true k (finds-record d {gaps = gaps} g w) = met-record d g w (read-then-space d gaps w k)
+      (onRecord (stageBy (standing p e) (r .count) reverse f) (λ n q. spaceBack s e r reverse n q))
+      (onRecord (stageBy (standing p e) (r .count) reverse f) (λ n q. readOne s (standing q e) r (not reverse))))
+  unfolding onRecord stageBy
+  by-first false k (finds-record d {gaps = gaps} g w) = met-record d g w (then-read d gaps w k)
+  by-first true k (finds-record d {gaps = gaps} g w) = met-record d g w (then-space d gaps w k)
   by-first false k (finds-mark g w) = met-mark g w
   by-first true k (finds-mark g w) = met-mark g w
   by-first false k (finds-nothing g w z) = met-nothing g w z
@@ -104,6 +99,6 @@ module _ {s : List ℕ} {e : ℕ} {os : List Object} (h : Holds s e os) (r : Buf
   read-record = rw (read-found s reverse p e (length d) q r (nearest h reverse d gaps g w)) (moves-found h r reverse d gaps w reverse reverse q q refl)
 
   pub reread-record : (opp : Bool) → BothStages s e r reverse opp d q (reread s (standing p e) r reverse opp)
-  unfolding reread spaceThenRead readThenSpace stageOf stageBy
-  reread-record false = rw (nearest h reverse d gaps g w) (space-then-read h r reverse (bound-from reverse w) d gaps w (nearest h reverse d gaps g w))
-  reread-record true = rw (nearest h reverse d gaps g w) (read-then-space h r reverse (bound-from reverse w) d gaps w (nearest h reverse d gaps g w))
+  unfolding reread spaceThenRead readThenSpace stageOf stageBy onRecord
+  reread-record false = rw (nearest h reverse d gaps g w) (then-read h r reverse (bound-from reverse w) d gaps w (nearest h reverse d gaps g w))
+  reread-record true = rw (nearest h reverse d gaps g w) (then-space h r reverse (bound-from reverse w) d gaps w (nearest h reverse d gaps g w))

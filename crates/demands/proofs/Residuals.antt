@@ -25,14 +25,16 @@ use Rattle.moves.specs.declared.spacing.Stop.the-variants as stop-as
 use Rattle.moves.proofs.Bounds.{bound-below, stays}
 use Rattle.moves.proofs.Counts.{spaced-between, spaced-sound, spaced-why}
 use Rattle.motions.specs.Parts.{end, movedLength, standing, stops}
-use Rattle.motions.specs.Reads.{markEnd, nothingEnd, readEnd, readMotion, readOne, readOneBy, readThenSpace, readThenSpaceBy, reread, spaceBack, spaceBackBy, spaceThenRead, spaceThenReadBy, stageBy, stageOf, stopMotion}
+use Rattle.motions.specs.Reads.{markEnd, nothingEnd, onRecord, readEnd, readMotion, readOne, readThenSpace, reread, spaceBack, spaceThenRead, stageBy, stageOf, stopMotion}
 use Rattle.motions.specs.Spaces.{positioned, residualOf, spaceEnd, spaceMotion, spaceMotionBy, startSpan}
+use Rattle.motions.specs.declared.parts.Motion.{Motion}
 use Rattle.motions.specs.declared.parts.Motion.the-variants as motion
 use Rattle.motions.specs.declared.parts.Ending.{Ending}
 use Rattle.motions.specs.declared.reads.Buffer.{Buffer}
 use Rattle.motions.specs.declared.reads.Stage.{Stage}
-use Rattle.motions.specs.declared.reads.Stage.the-variants as stage
 use Rattle.motions.proofs.Ends.{Has}
+use Rattle.motions.proofs.Onward.{StageHas, on-record}
+use Rattle.demands.specs.Spacing.{SpacedPast}
 
 -- the bytes that a Read moved and its residual
 module _ (r : Buffer) where
@@ -54,8 +56,7 @@ module _ (r : Buffer) where
 
   -- a stage that is over
   abbrev StageAdds : Stage → Type 0
-  StageAdds (stage.Record n q) = Unit {0}
-  StageAdds (stage.Over m) = Has Adds m
+  StageAdds = StageHas (Has Adds) (λ n q. Unit {0})
 
   stage-by : (t : Tape) (reverse : Bool) (f : Sought) → StageAdds (stageBy t (r .count) reverse f)
   unfolding stageBy
@@ -69,34 +70,29 @@ module _ (r : Buffer) where
     unfolding stageOf
     stage-adds t reverse = stage-by t reverse _
 
-    one-by : (t : Tape) (reverse : Bool) (f : Stage) → StageAdds f → Has Adds (readOneBy t r reverse f)
-    unfolding readOneBy
-    one-by t reverse (stage.Record n q) i = record-adds reverse n q _ reverse
-    one-by t reverse (stage.Over m) i = i
+    -- what goes on from a stage
+    goes-on : (t : Tape) (reverse : Bool) (f : ℕ → ℕ → Motion) → ((n q : ℕ) → Has Adds (f n q)) → Has Adds (onRecord (stageOf s t (r .count) reverse) f)
+    goes-on t reverse f h = on-record (Has Adds) (λ n q. Unit {0}) _ f (stage-adds t reverse) (λ n q i. h n q)
 
     one-adds : (t : Tape) (reverse : Bool) → Has Adds (readOne s t r reverse)
     unfolding readOne
-    one-adds t reverse = one-by t reverse _ (stage-adds t reverse)
+    one-adds t reverse = goes-on t reverse _ (λ n q. record-adds reverse n q _ reverse)
 
-    then-read-by : (t : Tape) (reverse : Bool) (f : Stage) → StageAdds f → Has Adds (spaceThenReadBy s t r reverse f)
-    unfolding spaceThenReadBy
-    then-read-by t reverse (stage.Record n q) i = one-adds _ (not reverse)
-    then-read-by t reverse (stage.Over m) i = i
+    then-read-adds : (t : Tape) (reverse : Bool) → Has Adds (spaceThenRead s t r reverse)
+    unfolding spaceThenRead
+    then-read-adds t reverse = goes-on t reverse _ (λ n q. one-adds _ (not reverse))
 
-    back-by : (e : ℕ) (reverse : Bool) (n q : ℕ) (f : Stage) → StageAdds f → Has Adds (spaceBackBy e r reverse n q f)
-    unfolding spaceBackBy
-    back-by e reverse n q (stage.Record n′ b) i = record-adds reverse n q _ (not reverse)
-    back-by e reverse n q (stage.Over m) i = i
+    back-adds : (e : ℕ) (reverse : Bool) (n q : ℕ) → Has Adds (spaceBack s e r reverse n q)
+    unfolding spaceBack
+    back-adds e reverse n q = goes-on _ (not reverse) _ (λ n′ b. record-adds reverse n q _ (not reverse))
 
-    then-space-by : (t : Tape) (reverse : Bool) (f : Stage) → StageAdds f → Has Adds (readThenSpaceBy s t r reverse f)
-    unfolding readThenSpaceBy spaceBack
-    then-space-by t reverse (stage.Record n q) i = back-by (t .end) reverse n q _ (stage-adds _ (not reverse))
-    then-space-by t reverse (stage.Over m) i = i
+    then-space-adds : (t : Tape) (reverse : Bool) → Has Adds (readThenSpace s t r reverse)
+    unfolding readThenSpace
+    then-space-adds t reverse = goes-on t reverse _ (λ n q. back-adds (t .end) reverse n q)
 
     reread-adds : (t : Tape) (reverse opp : Bool) → Has Adds (reread s t r reverse opp)
-    unfolding reread readThenSpace spaceThenRead
-    reread-adds t reverse opp =
-        either (Has Adds) opp _ _ (then-space-by t reverse _ (stage-adds t reverse)) (then-read-by t reverse _ (stage-adds t reverse))
+    unfolding reread
+    reread-adds t reverse opp = either (Has Adds) opp _ _ (then-space-adds t reverse) (then-read-adds t reverse)
 
 module _ (s : List ℕ) (t : Tape) (r : Buffer) (reverse : Bool) {x : Ending} where
   -- "The residual counts bytes for Read"
@@ -132,16 +128,9 @@ module _ (r : Rule) (x : Span) where
   class-told stop-as.Nothing n c = absurd (either (λ (y : End). y .class ≡ 0 → ⊥) (r .reverse) _ _ (λ z. omega arith) (λ z. omega arith) c)
   class-told (stop-as.Bad k) n c = absurd (n k refl)
 
--- the objects passed, with the residual; and class 0 leaves none
-pub record Passed (os : List Object) (r : Rule) (p count : ℕ) (x : Ending) : Type 0 where
-  pub mid : List Object
-  pub between : Between os (r .reverse) p (x .tape .position) mid
-  pub counted : countIn (r .marks) mid + residualWord (x .end .residual) ≡ count
-  pub whole : x .end .class ≡ 0 → residualWord (x .end .residual) ≡ 0
-
 module _ {s : List ℕ} {os : List Object} (t : Tape) (h : Holds s (t .end) os) (b : Bound os (t .position)) (r : Rule) (count : ℕ) where
   -- "A Position count of 0 moves nothing, class 0"
-  none-asked : eqb count 0 ≡ true → Has (Passed os r (t .position) count) (stops (end 0 0 0 (residualOf (r .marks) 0)) t)
+  none-asked : eqb count 0 ≡ true → Has (SpacedPast os r (t .position) count) (stops (end 0 0 0 (residualOf (r .marks) 0)) t)
   unfolding countIn
   none-asked e =
       record {
@@ -158,7 +147,7 @@ module _ {s : List ℕ} {os : List Object} (t : Tape) (h : Holds s (t .end) os) 
     abbrev spaces : Spaced
     spaces = spaced s r (t .end) from
 
-    stopped-as : (stop : Stop) → spaces .stop ≡ stop → Has (Passed os r (t .position) count) (stops (spaceEnd r (spaces .span) stop) (standing (spaces .span .position) (t .end)))
+    stopped-as : (stop : Stop) → spaces .stop ≡ stop → Has (SpacedPast os r (t .position) count) (stops (spaceEnd r (spaces .span) stop) (standing (spaces .span .position) (t .end)))
     stopped-as stop e =
         let done = spaced-between h r from b in
         record {
@@ -170,7 +159,7 @@ module _ {s : List ℕ} {os : List Object} (t : Tape) (h : Holds s (t .end) os) 
               ∙ spaced-why s r (t .end) from (bound-below h b) (e ∙ class-told r (spaces .span) stop (λ k z. spaced-sound h r from b k (e ∙ z)) c);
         }
 
-    motion-by : (stop : Stop) → spaces .stop ≡ stop → Has (Passed os r (t .position) count) (spaceMotionBy r (spaces .span) (t .end) stop)
+    motion-by : (stop : Stop) → spaces .stop ≡ stop → Has (SpacedPast os r (t .position) count) (spaceMotionBy r (spaces .span) (t .end) stop)
     unfolding spaceMotionBy
     motion-by stop-as.Count e = stopped-as stop-as.Count e
     motion-by stop-as.Mark e = stopped-as stop-as.Mark e
@@ -178,12 +167,12 @@ module _ {s : List ℕ} {os : List Object} (t : Tape) (h : Holds s (t .end) os) 
     motion-by stop-as.Nothing e = stopped-as stop-as.Nothing e
     motion-by (stop-as.Bad k) e = tt
 
-    passes : Has (Passed os r (t .position) count) (positioned s t r count enb)
+    passes : Has (SpacedPast os r (t .position) count) (positioned s t r count enb)
     unfolding positioned spaceMotion
-    passes = pick-told (Has (Passed os r (t .position) count)) (eqb count 0) _ _ none-asked (λ e. motion-by (spaces .stop) refl)
+    passes = pick-told (Has (SpacedPast os r (t .position) count)) (eqb count 0) _ _ none-asked (λ e. motion-by (spaces .stop) refl)
 
     module _ {x : Ending} (y : positioned s t r count enb ≡ motion.Ended x) where
-      passed-as : Passed os r (t .position) count x
+      passed-as : SpacedPast os r (t .position) count x
       passed-as = rw y at passes
 
       -- "records or marks for Position modes 0 to 3": those between the two positions and the residual make up the count asked

@@ -1,1 +1,2 @@
-// What document 01 asks of the unit beyond each contract, as theorems over the definitions: proofs/ states and proves them.
+// What document 01 asks of the unit beyond each contract, as theorems over the definitions: specs/ has what they say of a
+// motion, proofs/ states and proves them.

@@ -5,29 +5,30 @@ use Prim.Native.Nat.{ℕ}
 use Rattle.tape.specs.Objects.{Holds, Object}
 use Rattle.state.proofs.Tests.{either}
 use Rattle.moves.specs.Between.{Bound}
+use Rattle.moves.specs.Finding.{Finds, finds-mark, finds-nothing, finds-record}
 use Rattle.moves.specs.declared.seeking.Sought.{Sought}
 use Rattle.moves.proofs.Bounds.{bound-to}
-use Rattle.moves.proofs.Finds.{Finds, finds, finds-mark, finds-nothing, finds-record}
+use Rattle.moves.proofs.Finds.{finds}
 use Rattle.motions.specs.Parts.{standing}
-use Rattle.motions.specs.Reads.{readMotion, readOne, readOneBy, readThenSpace, readThenSpaceBy, reread, spaceBack, spaceBackBy, spaceThenRead, spaceThenReadBy, stageBy, stageOf, stopMotion}
+use Rattle.motions.specs.Reads.{onRecord, readMotion, readOne, readThenSpace, reread, spaceBack, spaceThenRead, stageBy, stageOf, stopMotion}
 use Rattle.motions.specs.declared.reads.Buffer.{Buffer}
 use Rattle.motions.specs.declared.reads.Stage.{Stage}
-use Rattle.motions.specs.declared.reads.Stage.the-variants as stage
+use Rattle.motions.specs.declared.parts.Motion.{Motion}
+use Rattle.motions.proofs.Onward.{StageHas, on-record}
 use Rattle.kept.proofs.Standing.{KeptMotion, halts}
 
--- what is known of a stage: the record that it passed ends at a bound, or it is over
-abbrev StageKept : List ℕ → List ℕ → List Object → Stage → Type 0
-StageKept s m os (stage.Record n q) = Bound os q
-StageKept s m os (stage.Over x) = KeptMotion s m x
-
 module _ (s m : List ℕ) {e : ℕ} {os : List Object} (h : Holds s e os) (r : Buffer) where
-  stage-by : (p : ℕ) (reverse : Bool) {f : Sought} → Finds os reverse p f → StageKept s m os (stageBy (standing p e) (r .count) reverse f)
+  -- what is known of a stage: the record that it passed ends at a bound, or it is over
+  abbrev StageKept : Stage → Type 0
+  StageKept = StageHas (KeptMotion s m) (λ n q. Bound os q)
+
+  stage-by : (p : ℕ) (reverse : Bool) {f : Sought} → Finds os reverse p f → StageKept (stageBy (standing p e) (r .count) reverse f)
   unfolding stageBy stopMotion
   stage-by p reverse (finds-record d g b) = bound-to reverse b
   stage-by p reverse (finds-mark g b) = halts s m h (bound-to reverse b)
   stage-by p reverse (finds-nothing g b z) = halts s m h (bound-to reverse b)
 
-  stage-kept : (p : ℕ) (reverse : Bool) → Bound os p → StageKept s m os (stageOf s (standing p e) (r .count) reverse)
+  stage-kept : (p : ℕ) (reverse : Bool) → Bound os p → StageKept (stageOf s (standing p e) (r .count) reverse)
   unfolding stageOf
   stage-kept p reverse b = stage-by p reverse (finds h reverse b)
 
@@ -36,31 +37,26 @@ module _ (s m : List ℕ) {e : ℕ} {os : List Object} (h : Holds s e os) (r : B
   unfolding readMotion
   record-kept reverse rev n q b i = halts s m h i
 
-  one-by : (p : ℕ) (reverse : Bool) (f : Stage) → StageKept s m os f → KeptMotion s m (readOneBy (standing p e) r reverse f)
-  unfolding readOneBy
-  one-by p reverse (stage.Record n q) i = record-kept reverse reverse n q q i
-  one-by p reverse (stage.Over x) i = i
+  -- what goes on from a stage
+  goes-on : (p : ℕ) (reverse : Bool) (f : ℕ → ℕ → Motion) → Bound os p → ((n q : ℕ) → Bound os q → KeptMotion s m (f n q)) → KeptMotion s m (onRecord (stageOf s (standing p e) (r .count) reverse) f)
+  goes-on p reverse f b on = on-record (KeptMotion s m) (λ n q. Bound os q) _ f (stage-kept p reverse b) on
 
   pub read-one-kept : (p : ℕ) (reverse : Bool) → Bound os p → KeptMotion s m (readOne s (standing p e) r reverse)
   unfolding readOne
-  read-one-kept p reverse b = one-by p reverse _ (stage-kept p reverse b)
+  read-one-kept p reverse b = goes-on p reverse _ b (λ n q i. record-kept reverse reverse n q q i)
 
-  then-read-by : (p : ℕ) (reverse : Bool) (f : Stage) → StageKept s m os f → KeptMotion s m (spaceThenReadBy s (standing p e) r reverse f)
-  unfolding spaceThenReadBy
-  then-read-by p reverse (stage.Record n q) i = read-one-kept q (not reverse) i
-  then-read-by p reverse (stage.Over x) i = i
+  then-read-kept : (p : ℕ) (reverse : Bool) → Bound os p → KeptMotion s m (spaceThenRead s (standing p e) r reverse)
+  unfolding spaceThenRead
+  then-read-kept p reverse b = goes-on p reverse _ b (λ n q i. read-one-kept q (not reverse) i)
 
-  back-by : (reverse : Bool) (n q : ℕ) (f : Stage) → StageKept s m os f → KeptMotion s m (spaceBackBy e r reverse n q f)
-  unfolding spaceBackBy
-  back-by reverse n q (stage.Record n′ b) i = record-kept reverse (not reverse) n q b i
-  back-by reverse n q (stage.Over x) i = i
+  back-kept : (reverse : Bool) (n q : ℕ) → Bound os q → KeptMotion s m (spaceBack s e r reverse n q)
+  unfolding spaceBack
+  back-kept reverse n q b = goes-on q (not reverse) _ b (λ n′ k i. record-kept reverse (not reverse) n q k i)
 
-  then-space-by : (p : ℕ) (reverse : Bool) (f : Stage) → StageKept s m os f → KeptMotion s m (readThenSpaceBy s (standing p e) r reverse f)
-  unfolding readThenSpaceBy spaceBack
-  then-space-by p reverse (stage.Record n q) i = back-by reverse n q _ (stage-kept q (not reverse) i)
-  then-space-by p reverse (stage.Over x) i = i
+  then-space-kept : (p : ℕ) (reverse : Bool) → Bound os p → KeptMotion s m (readThenSpace s (standing p e) r reverse)
+  unfolding readThenSpace
+  then-space-kept p reverse b = goes-on p reverse _ b (λ n q i. back-kept reverse n q i)
 
   pub reread-kept : (p : ℕ) (reverse opp : Bool) → Bound os p → KeptMotion s m (reread s (standing p e) r reverse opp)
-  unfolding reread readThenSpace spaceThenRead
-  reread-kept p reverse opp b =
-      either (KeptMotion s m) opp _ _ (then-space-by p reverse _ (stage-kept p reverse b)) (then-read-by p reverse _ (stage-kept p reverse b))
+  unfolding reread
+  reread-kept p reverse opp b = either (KeptMotion s m) opp _ _ (then-space-kept p reverse b) (then-read-kept p reverse b)

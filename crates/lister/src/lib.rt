@@ -1,11 +1,12 @@
 // The listing's lines. What is printed is decided by `reel::examine` and `reel::pass`; here it only gets its letters.
 use libc::STDOUT_FILENO;
+use tape::Geometry;
 use tape::Image;
 use tape::Met;
 
 // One byte more than the longest image, so that a longer one is seen.
-fn space() -> [u8; 65537] {
-    [0u8; 65537]
+fn space() -> [u8; Geometry::IMAGE_LIMIT + 1] {
+    [0u8; Geometry::IMAGE_LIMIT + 1]
 }
 
 fn write_number(n: usize) {

@@ -3,6 +3,10 @@ use mathlib.Core.List.{List, [], _∷_}
 use Prim.Native.Nat.{ℕ, _+_, _*_, _/_, _%_, _<_}
 use lib.ListN.{getD}
 
+-- one more than the largest word
+abbrev pub wordLimit : ℕ
+wordLimit = 65536
+
 -- the word in the bytes at i and i + 1
 abbrev pub wordAt : List ℕ → ℕ → ℕ
 wordAt b i = getD b i 0 + 256 * getD b (i + 1) 0

@@ -12,11 +12,11 @@ use Rattle.moves.specs.declared.seeking.Sought.{Sought}
 use Rattle.moves.specs.declared.seeking.Sought.the-variants as sought-as
 use Rattle.moves.proofs.Within.{SoughtIn, sought-in}
 use Rattle.motions.specs.Parts.{noLay, standing}
-use Rattle.motions.specs.Reads.{firstBlock, markEnd, nothingEnd, readMotion, readOne, readOneBy, readThenSpace, readThenSpaceBy, reread, spaceBack, spaceBackBy, spaceThenRead, spaceThenReadBy, stageBy, stageOf, stopMotion}
+use Rattle.motions.specs.Reads.{firstBlock, markEnd, nothingEnd, readMotion, readOne, readThenSpace, reread, spaceBack, spaceThenRead, stageBy, stageOf, stopMotion}
 use Rattle.motions.specs.declared.parts.Ending.{Ending}
 use Rattle.motions.specs.declared.reads.Buffer.{Buffer}
 use Rattle.motions.specs.declared.reads.Stage.{Stage}
-use Rattle.motions.specs.declared.reads.Stage.the-variants as stage
+use Rattle.motions.proofs.Onward.{StageHas, on-record}
 use Rattle.motions.proofs.Ends.{EndFits, Has, mark-end-fits, nothing-end-fits, read-end-fits}
 
 -- a Read as asked by r that ended, on a tape whose recorded end is e
@@ -40,11 +40,10 @@ module _ (e : ℕ) (r : Buffer) where
       record { place = h; kept = refl; source = omega (arith, i .inside); buffer = omega arith; unlaid = refl; told = read-end-fits n (r .count) rev }
 
   -- what is known of a stage
-  abbrev StageHas : Bool → Stage → Type 0
-  StageHas reverse (stage.Record n q) = RecordIn reverse e n q
-  StageHas reverse (stage.Over m) = Has (ReadFits e r) m
+  abbrev StageFits : Bool → Stage → Type 0
+  StageFits reverse = StageHas (Has (ReadFits e r)) (RecordIn reverse e)
 
-  stage-by : (p : ℕ) (reverse : Bool) (f : Sought) → SoughtIn reverse p e f → StageHas reverse (stageBy (standing p e) (r .count) reverse f)
+  stage-by : (p : ℕ) (reverse : Bool) (f : Sought) → SoughtIn reverse p e f → StageFits reverse (stageBy (standing p e) (r .count) reverse f)
   unfolding stageBy
   stage-by p reverse (sought-as.Record n q) i = i .0
   stage-by p reverse (sought-as.Mark q) i = stop-has (markEnd (r .count) reverse) q (mark-end-fits (r .count) reverse) (i .below)
@@ -52,35 +51,30 @@ module _ (e : ℕ) (r : Buffer) where
   stage-by p reverse (sought-as.Bad k) i = tt
 
   module _ (s : List ℕ) where
-    stage-has : (p : ℕ) (reverse : Bool) → p ≤ e → StageHas reverse (stageOf s (standing p e) (r .count) reverse)
+    stage-has : (p : ℕ) (reverse : Bool) → p ≤ e → StageFits reverse (stageOf s (standing p e) (r .count) reverse)
     unfolding stageOf
     stage-has p reverse h = stage-by p reverse _ (sought-in s reverse p e h)
 
-    one-by : (p : ℕ) (reverse : Bool) (f : Stage) → StageHas reverse f → Has (ReadFits e r) (readOneBy (standing p e) r reverse f)
-    unfolding readOneBy
-    one-by p reverse (stage.Record n q) i = record-has reverse reverse n q q i (i .below)
-    one-by p reverse (stage.Over m) i = i
-
     pub one-has : (p : ℕ) (reverse : Bool) → p ≤ e → Has (ReadFits e r) (readOne s (standing p e) r reverse)
     unfolding readOne
-    one-has p reverse h = one-by p reverse _ (stage-has p reverse h)
+    one-has p reverse h =
+        on-record (Has (ReadFits e r)) (RecordIn reverse e) _ _ (stage-has p reverse h) (λ n q i. record-has reverse reverse n q q i (i .below))
 
-    then-read-by : (p : ℕ) (reverse : Bool) (f : Stage) → StageHas reverse f → Has (ReadFits e r) (spaceThenReadBy s (standing p e) r reverse f)
-    unfolding spaceThenReadBy
-    then-read-by p reverse (stage.Record n q) i = one-has q (not reverse) (i .below)
-    then-read-by p reverse (stage.Over m) i = i
+    then-read-has : (p : ℕ) (reverse : Bool) → p ≤ e → Has (ReadFits e r) (spaceThenRead s (standing p e) r reverse)
+    unfolding spaceThenRead
+    then-read-has p reverse h =
+        on-record (Has (ReadFits e r)) (RecordIn reverse e) _ _ (stage-has p reverse h) (λ n q i. one-has q (not reverse) (i .below))
 
-    back-by : (reverse : Bool) (n q : ℕ) (f : Stage) → RecordIn reverse e n q → StageHas (not reverse) f → Has (ReadFits e r) (spaceBackBy e r reverse n q f)
-    unfolding spaceBackBy
-    back-by reverse n q (stage.Record m b) i j = record-has reverse (not reverse) n q b i (j .below)
-    back-by reverse n q (stage.Over m) i j = j
+    back-has : (reverse : Bool) (n q : ℕ) → RecordIn reverse e n q → Has (ReadFits e r) (spaceBack s e r reverse n q)
+    unfolding spaceBack
+    back-has reverse n q i =
+        on-record (Has (ReadFits e r)) (RecordIn (not reverse) e) _ _ (stage-has q (not reverse) (i .below)) (λ m b j. record-has reverse (not reverse) n q b i (j .below))
 
-    then-space-by : (p : ℕ) (reverse : Bool) (f : Stage) → StageHas reverse f → Has (ReadFits e r) (readThenSpaceBy s (standing p e) r reverse f)
-    unfolding readThenSpaceBy spaceBack
-    then-space-by p reverse (stage.Record n q) i = back-by reverse n q _ i (stage-has q (not reverse) (i .below))
-    then-space-by p reverse (stage.Over m) i = i
+    then-space-has : (p : ℕ) (reverse : Bool) → p ≤ e → Has (ReadFits e r) (readThenSpace s (standing p e) r reverse)
+    unfolding readThenSpace
+    then-space-has p reverse h =
+        on-record (Has (ReadFits e r)) (RecordIn reverse e) _ _ (stage-has p reverse h) (λ n q i. back-has reverse n q i)
 
     pub reread-has : (p : ℕ) (reverse opp : Bool) → p ≤ e → Has (ReadFits e r) (reread s (standing p e) r reverse opp)
-    unfolding reread readThenSpace spaceThenRead
-    reread-has p reverse opp h =
-        either (Has (ReadFits e r)) opp _ _ (then-space-by p reverse _ (stage-has p reverse h)) (then-read-by p reverse _ (stage-has p reverse h))
+    unfolding reread
+    reread-has p reverse opp h = either (Has (ReadFits e r)) opp _ _ (then-space-has p reverse h) (then-read-has p reverse h)

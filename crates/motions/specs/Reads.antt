@@ -1,5 +1,5 @@
 -- "Read 1 / 0 next, 1 previous, 2 reread previous, 3 reread next." (01, Commands)
-use mathlib.Core.Bool.{Bool, true, false, not}
+use mathlib.Core.Bool.{Bool, not}
 use mathlib.Core.List.{List}
 use Prim.Native.Nat.{ℕ, _+_, _-_, min}
 use lib.Dec.{eqb, ltb}
@@ -73,35 +73,29 @@ readMotion r reverse n q t rev =
       laid = noLay;
     })
 
-unfoldable pub readOneBy : Tape → Buffer → Bool → Stage → Motion
-readOneBy t r reverse (stage.Record n q) = readMotion r reverse n q (standing q (t .end)) reverse
-readOneBy t r reverse (stage.Over m) = m
+-- a stage that found a record of n bytes, with the position q beyond it, goes on as f says; any other end is the command's
+unfoldable pub onRecord : Stage → (ℕ → ℕ → Motion) → Motion
+onRecord (stage.Record n q) f = f n q
+onRecord (stage.Over m) f = m
 
+-- "Read 1 / 0 next, 1 previous"
 unfoldable pub readOne : List ℕ → Tape → Buffer → Bool → Motion
-readOne s t r reverse = readOneBy t r reverse (stageOf s t (r .count) reverse)
-
-unfoldable pub spaceThenReadBy : List ℕ → Tape → Buffer → Bool → Stage → Motion
-spaceThenReadBy s t r reverse (stage.Record n q) = readOne s (standing q (t .end)) r (not reverse)
-spaceThenReadBy s t r reverse (stage.Over m) = m
+readOne s t r reverse =
+    onRecord (stageOf s t (r .count) reverse) (λ n q. readMotion r reverse n q (standing q (t .end)) reverse)
 
 -- "Mode 2 reread: space reverse, read forward. Mode 3: space forward, read reverse."
 unfoldable pub spaceThenRead : List ℕ → Tape → Buffer → Bool → Motion
-spaceThenRead s t r reverse = spaceThenReadBy s t r reverse (stageOf s t (r .count) reverse)
+spaceThenRead s t r reverse =
+    onRecord (stageOf s t (r .count) reverse) (λ n q. readOne s (standing q (t .end)) r (not reverse))
 
-unfoldable pub spaceBackBy : ℕ → Buffer → Bool → ℕ → ℕ → Stage → Motion
-spaceBackBy e r reverse n q (stage.Record n′ b) = readMotion r reverse n q (standing b e) (not reverse)
-spaceBackBy e r reverse n q (stage.Over m) = m
-
+-- the space back over the record of n bytes that was read up to q
 unfoldable pub spaceBack : List ℕ → ℕ → Buffer → Bool → ℕ → ℕ → Motion
-spaceBack s e r reverse n q = spaceBackBy e r reverse n q (stageOf s (standing q e) (r .count) (not reverse))
-
-unfoldable pub readThenSpaceBy : List ℕ → Tape → Buffer → Bool → Stage → Motion
-readThenSpaceBy s t r reverse (stage.Record n q) = spaceBack s (t .end) r reverse n q
-readThenSpaceBy s t r reverse (stage.Over m) = m
+spaceBack s e r reverse n q =
+    onRecord (stageOf s (standing q e) (r .count) (not reverse)) (λ n′ b. readMotion r reverse n q (standing b e) (not reverse))
 
 -- "OPP puts the read first, same direction as the space had, then the space back."
 unfoldable pub readThenSpace : List ℕ → Tape → Buffer → Bool → Motion
-readThenSpace s t r reverse = readThenSpaceBy s t r reverse (stageOf s t (r .count) reverse)
+readThenSpace s t r reverse = onRecord (stageOf s t (r .count) reverse) (λ n q. spaceBack s (t .end) r reverse n q)
 
 unfoldable pub reread : List ℕ → Tape → Buffer → Bool → Bool → Motion
 reread s t r reverse opp = pick opp (readThenSpace s t r reverse) (spaceThenRead s t r reverse)

@@ -2,7 +2,8 @@
 use signals::End;
 use state::Tape;
 ghost use mathlib.Core.Path.{_≡_};
-ghost use Prim.Native.Nat.{_≤_};
+ghost use Prim.Native.Nat.{_+_, _≤_};
+ghost use Rattle.tape.specs.Numbers.{capacityLimit};
 ghost use Rattle.motions.specs.Parts.{laidBlocks, movedLength, noLay, noMove, objectBlocks};
 
 // The bytes that a Read moves: of the record of `length` bytes at block `first`, to a buffer of `count` bytes at `pointer`.
@@ -75,7 +76,7 @@ pub fn no_lay() -> Laid
 
 fn object_blocks(o: ObjectKind, length: u16) -> usize
     ensures is { λ r. ⌜ r ≡ objectBlocks o length ⌝ }
-    ensures low { λ r. ⌜ r ≤ 65536 ⌝ }
+    ensures low { λ r. ⌜ r ≤ capacityLimit ⌝ }
 {
     match o {
         ObjectKind::Nothing => 0,
@@ -88,7 +89,7 @@ fn object_blocks(o: ObjectKind, length: u16) -> usize
 // How many blocks are laid.
 pub fn laid_blocks(l: Laid) -> usize
     ensures is { λ r. ⌜ r ≡ laidBlocks l ⌝ }
-    ensures low { λ r. ⌜ r ≤ 65537 ⌝ }
+    ensures low { λ r. ⌜ r ≤ capacityLimit + 1 ⌝ }
 {
     let o = l.object;
     let n = object_blocks(o, l.length);

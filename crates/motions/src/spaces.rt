@@ -16,6 +16,7 @@ use signals::flag;
 use state::Tape;
 ghost use mathlib.Core.Path.{_≡_};
 ghost use Prim.Native.Nat.{_≤_};
+ghost use Rattle.tape.specs.Numbers.{capacityLimit};
 ghost use Rattle.motions.specs.Spaces.{positioned, residualOf, spaceEnd, spaceMotion};
 
 fn residual_of(marks: bool, left: u16) -> Residual
@@ -103,7 +104,7 @@ fn space_motion(r: Rule, x: Spaced, e: usize) -> Motion
 
 // A count of 0 moves nothing and no stage runs. With ENB a mark met first from block 0 counts as the second in a row.
 pub fn position(reel: &[u8], t: Tape, r: Rule, count: u16, enb: bool) -> Motion
-    requires { ⌜ t .end ≤ 65536 ⌝ }
+    requires { ⌜ t .end ≤ capacityLimit ⌝ }
     ensures { λ x. ⌜ x ≡ positioned (now (reel .entry)) t r count enb ⌝ }
 {
     if count == 0 {

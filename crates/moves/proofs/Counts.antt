@@ -10,7 +10,7 @@ use Rattle.tape.specs.Objects.{AllAllowed, Holds, Object, gap, mark, record-of}
 use Rattle.tape.specs.Pass.{ahead}
 use Rattle.tape.proofs.Accepted.{clash}
 use Rattle.tape.proofs.Within.{Onward, fewer-ahead}
-use Rattle.moves.specs.Between.{Between, Bound, Gaps, countIn, no-gap, one-gap}
+use Rattle.moves.specs.Between.{Between, Bound, Gaps, countIn, no-gap, one-gap, withGaps}
 use Rattle.moves.specs.Spacing.{markTurn, recordTurn, span, spaced, stopped, turnOf}
 use Rattle.moves.specs.declared.seeking.Sought.{Sought}
 use Rattle.moves.specs.declared.seeking.Sought.the-variants as sought-as
@@ -21,7 +21,8 @@ use Rattle.moves.specs.declared.spacing.Stop.the-variants as stop-as
 use Rattle.moves.specs.declared.spacing.Turn.{Turn}
 use Rattle.moves.specs.declared.spacing.Turn.the-variants as turn-as
 use Rattle.moves.proofs.Bounds.{bound-to, joins, stays}
-use Rattle.moves.proofs.Finds.{Finds, ahead-most, finds, finds-mark, finds-nothing, finds-record, withGaps}
+use Rattle.moves.specs.Finding.{Finds, finds-mark, finds-nothing, finds-record}
+use Rattle.moves.proofs.Finds.{ahead-most, finds}
 use Rattle.moves.proofs.Rounds.{TurnHas, either, rounds, turn-more, turnAt}
 use Rattle.moves.proofs.Within.{SoughtIn, sought-in}
 

@@ -4,28 +4,18 @@ use mathlib.Core.List.{List, [], _∷_, _++_}
 use mathlib.Core.Path.{_≡_, refl, _∙_}
 use Prim.Native.Nat.{ℕ, zero, suc, _≤_}
 use native.Mathlib.Omega.{arith}
-use lib.ListN.{length}
 use Rattle.lists.specs.Pick.{pick}
 use Rattle.tape.specs.Meeting.{metAs}
-use Rattle.tape.specs.Objects.{AllAllowed, Holds, Object, blocksOf, gap, mark, record-of}
+use Rattle.tape.specs.Objects.{AllAllowed, Holds, Object, gap, mark, record-of}
 use Rattle.tape.specs.Pass.{ahead, passed}
 use Rattle.tape.specs.declared.Met.{Met}
 use Rattle.tape.proofs.Within.{fewer-ahead, gap-within}
-use Rattle.moves.specs.Between.{Between, Bound, Gaps, no-gap, one-gap}
+use Rattle.moves.specs.Between.{Between, Bound, Gaps, no-gap, one-gap, withGaps}
 use Rattle.moves.specs.Seeking.{sought, soughtFrom, soughtOn}
 use Rattle.moves.specs.declared.seeking.Sought.{Sought}
-use Rattle.moves.specs.declared.seeking.Sought.the-variants as sought-as
+pub use Rattle.moves.specs.Finding.{Finds, finds-mark, finds-nothing, finds-record}
 use Rattle.moves.proofs.Bounds.{bound-below, bound-to, joins, stays}
 use Rattle.moves.proofs.Steps.{Stepped, at-last, past, steps}
-
--- the gaps and the object behind them, in the order in which they lie
-abbrev pub withGaps : Bool → List Object → Object → List Object
-withGaps reverse gaps o = pick reverse (o ∷ gaps) (gaps ++ (o ∷ []))
-
-pub data Finds (os : List Object) (reverse : Bool) (p : ℕ) : Sought → Type 0 where
-  finds-record : (d : List ℕ) {gaps : List Object} {q : ℕ} → Gaps gaps → Between os reverse p q (withGaps reverse gaps (record-of d)) → Finds os reverse p (sought-as.Record (length d) q)
-  finds-mark : {gaps : List Object} {q : ℕ} → Gaps gaps → Between os reverse p q (withGaps reverse gaps mark) → Finds os reverse p (sought-as.Mark q)
-  finds-nothing : {gaps : List Object} {q : ℕ} → Gaps gaps → Between os reverse p q gaps → q ≡ pick reverse 0 (blocksOf os) → Finds os reverse p (sought-as.Nothing q)
 
 -- no block is ahead only at the end of the way
 nothing-ahead : (reverse : Bool) (p e : ℕ) → p ≤ e → ahead reverse p e ≤ 0 → p ≡ pick reverse 0 e

@@ -13,8 +13,7 @@ use Rattle.tape.proofs.Images.{blocks-append}
 use Rattle.tape.proofs.Passes.{allowed-at}
 use Rattle.tape.proofs.Recorded.{record-stands}
 use Rattle.tape.proofs.Standing.{stands-in}
-use Rattle.moves.specs.Between.{Between}
-use Rattle.moves.proofs.Finds.{withGaps}
+use Rattle.moves.specs.Between.{Between, withGaps}
 
 -- an object with others on both sides: its first block is in reverse where the search stopped, else that many blocks before
 pub found-stands : {s : List ℕ} {e : ℕ} {os : List Object} {p q : ℕ} (reverse : Bool) (gaps : List Object) (o : Object) → Holds s e os → Between os reverse p q (withGaps reverse gaps o) → Allowed o × StandsAt s (pick reverse q (q - blocksIn o)) o

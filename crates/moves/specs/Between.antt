@@ -1,8 +1,8 @@
 -- Positions and the objects between them: what "done" means for a space or a skip.
-use mathlib.Core.Bool.{Bool, true, false}
+use mathlib.Core.Bool.{Bool}
 use mathlib.Core.Path.{_≡_}
 use mathlib.Core.List.{List, [], _∷_, _++_}
-use Prim.Native.Nat.{ℕ, suc, _+_}
+use Prim.Native.Nat.{ℕ, _+_}
 use Rattle.lists.specs.Pick.{pick}
 use Rattle.tape.specs.Objects.{Object, record-of, mark, gap, blocksOf}
 
@@ -32,3 +32,7 @@ countIn marks (gap ∷ os) = countIn marks os
 pub data Gaps : List Object → Type 0 where
   no-gap : Gaps []
   one-gap : {os : List Object} → Gaps os → Gaps (gap ∷ os)
+
+-- the gaps passed on the way to the object o, and o behind them, in the order in which they lie
+abbrev pub withGaps : Bool → List Object → Object → List Object
+withGaps reverse gaps o = pick reverse (o ∷ gaps) (gaps ++ (o ∷ []))

@@ -2,3 +2,4 @@
 pub mod Seeking
 pub mod Spacing
 pub mod Between
+pub mod Finding

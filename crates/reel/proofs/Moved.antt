@@ -9,7 +9,7 @@ use lib.ListN.{length, take, drop, length-drop}
 use lib.Seq.{drop-drop, length-take-le, take-add, take-all}
 use Rattle.lists.specs.Places.{placed}
 use Rattle.lists.proofs.Placed.{placed-at}
-use Rattle.tape.specs.Numbers.{piecesOf}
+use Rattle.tape.specs.Numbers.{blockBytes, dataBytes, headBytes, piecesOf}
 use Rattle.tape.specs.Bytes.{movedBytes, movedTo, readInto, recordBytes}
 use Rattle.tape.proofs.Recorded.{record-length, record-part}
 
@@ -22,10 +22,10 @@ run-more w m d a from done c h =
 
 -- where byte i of the record at block p lies
 abbrev pub spot : ℕ → ℕ → ℕ
-spot p i = 512 * (p + i / 504) + 6 + i % 504
+spot p i = blockBytes * (p + i / dataBytes) + headBytes + i % dataBytes
 
 -- one turn of the loop of `copy_out`: from memory m′ to m″
-pub copy-more : (w : Bool) (m m′ m″ s : List ℕ) (a p n from done c : ℕ) → (from + done) % 504 + c ≤ 504 → from + done + c ≤ n → 512 * (p + piecesOf n) ≤ length s → m′ ≡ placed w m a (take done (drop from (recordBytes s p n))) → m″ ≡ placed w m′ (a + done) (take (spot p (from + done) + c - spot p (from + done)) (drop (spot p (from + done)) s)) → m″ ≡ placed w m a (take (done + c) (drop from (recordBytes s p n)))
+pub copy-more : (w : Bool) (m m′ m″ s : List ℕ) (a p n from done c : ℕ) → (from + done) % dataBytes + c ≤ dataBytes → from + done + c ≤ n → blockBytes * (p + piecesOf n) ≤ length s → m′ ≡ placed w m a (take done (drop from (recordBytes s p n))) → m″ ≡ placed w m′ (a + done) (take (spot p (from + done) + c - spot p (from + done)) (drop (spot p (from + done)) s)) → m″ ≡ placed w m a (take (done + c) (drop from (recordBytes s p n)))
 copy-more w m m′ m″ s a p n from done c h k l e f =
     rw (f, e, add-sub-cancel-left (spot p (from + done)) c, ← record-part s p n l (from + done) c h k)
     (run-more w m (recordBytes s p n) a from done c (omega (arith, record-length s p n l)))
@@ -37,7 +37,7 @@ take-least (suc c) n [] e = rw (← e, zero-min)
 take-least (suc c) n (x ∷ d) e = rw (← e, suc-min-suc) (ap (λ (l : List ℕ). x ∷ l) (take-least c (length d) d refl))
 
 -- what a Read moves of the record of n bytes at block p, and where to: memory m′ after it
-module _ (r w : Bool) (m m′ s : List ℕ) (p n pointer count moved : ℕ) (room : 512 * (p + piecesOf n) ≤ length s) (few : moved ≡ min n count) where
+module _ (r w : Bool) (m m′ s : List ℕ) (p n pointer count moved : ℕ) (room : blockBytes * (p + piecesOf n) ≤ length s) (few : moved ≡ min n count) where
   pub read-forward : r ≡ false → m′ ≡ placed w m pointer (take moved (recordBytes s p n)) → m′ ≡ readInto r w m pointer count (recordBytes s p n)
   unfolding readInto movedTo movedBytes
   read-forward e q = rw (q, e, few, take-least count n (recordBytes s p n) (record-length s p n room))

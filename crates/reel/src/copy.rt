@@ -6,7 +6,7 @@ ghost use mathlib.Core.Path.{_≡_};
 ghost use Prim.Native.Nat.{_+_, _*_, _≤_, _%_};
 ghost use lib.ListN.{length, take, drop};
 ghost use Rattle.lists.specs.Places.{placed};
-ghost use Rattle.tape.specs.Numbers.{piecesOf};
+ghost use Rattle.tape.specs.Numbers.{blockBytes, piecesOf};
 ghost use Rattle.tape.specs.Bytes.{readInto, recordBytes};
 
 // Bytes `from` to `from + count` of the record of n bytes at block p go to the places from address a on, a piece at a time.
@@ -20,7 +20,7 @@ fn copy_out(
     a: usize,
     swb: bool,
 )
-    requires { ⌜ (512 * (p + piecesOf n) ≤ length (now reel)) × (from + count ≤ n) × (a + count ≤ length (now mem)) × (length (now mem) % 2 ≡ 0) ⌝ }
+    requires { ⌜ (blockBytes * (p + piecesOf n) ≤ length (now reel)) × (from + count ≤ n) × (a + count ≤ length (now mem)) × (length (now mem) % 2 ≡ 0) ⌝ }
     ensures { λ _. ⌜ now (mem .exit) ≡ placed swb (now (mem .entry)) a (take count (drop from (recordBytes (now (reel .entry)) p n))) ⌝ }
 {
     let mut done: usize = 0;
@@ -28,7 +28,7 @@ fn copy_out(
         let i = from + done;
         let off = i % Geometry::DATA;
         let more = least(Geometry::DATA - off, count - done);
-        let start = Geometry::BLOCK * (p + i / Geometry::DATA) + 6 + off;
+        let start = Geometry::BLOCK * (p + i / Geometry::DATA) + Geometry::HEAD + off;
         let end = start + more;
         scatter(&reel[start..end], mem, a + done, swb);
         done += more;
@@ -46,7 +46,7 @@ pub fn read_record(
     count: usize,
     swb: bool,
 )
-    requires { ⌜ (512 * (p + piecesOf n) ≤ length (now reel)) × (pointer + count ≤ length (now mem)) × (length (now mem) % 2 ≡ 0) ⌝ }
+    requires { ⌜ (blockBytes * (p + piecesOf n) ≤ length (now reel)) × (pointer + count ≤ length (now mem)) × (length (now mem) % 2 ≡ 0) ⌝ }
     ensures { λ _. ⌜ now (mem .exit) ≡ readInto reverse swb (now (mem .entry)) pointer count (recordBytes (now (reel .entry)) p n) ⌝ }
 {
     let moved = least(n, count);

@@ -8,7 +8,7 @@ ghost use Rattle.tape.specs.Listing.{examined};
 pub fn examine(image: &[u8]) -> Image
     ensures { λ r. ⌜ r ≡ examined (now (image .entry)) ⌝ }
 {
-    if 65536 < image.len() {
+    if Geometry::IMAGE_LIMIT < image.len() {
         return Image::TooLong;
     }
     if image.len() % Geometry::BLOCK != 0 {

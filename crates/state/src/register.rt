@@ -5,6 +5,30 @@ ghost use Prim.Native.Nat.{_≤_};
 ghost use Rattle.signals.specs.Message.{flagOf};
 ghost use Rattle.state.specs.Readings.{scOf, tsbaOf, tssrOf};
 
+// TSSR's bits, by their numbers in the paper; the class takes bits 3:1.
+const SC: u16 = 0x8000; // 15
+
+const RMR: u16 = 0x1000; // 12
+
+const NXM: u16 = 0x0800; // 11
+
+const NBA: u16 = 0x0400; // 10
+
+const A17: u16 = 0x0200; // 9
+
+const A16: u16 = 0x0100; // 8
+
+const SSR: u16 = 0x0080; // 7
+
+const OFL: u16 = 0x0040; // 6
+
+const CLASS: u16 = 0x0002; // 1
+
+// The pointer's two bits above the 16 that TSBA shows.
+const BIT_17: usize = 0x20000;
+
+const BIT_16: usize = 0x10000;
+
 fn flag_word(b: bool, w: u16) -> u16
     ensures is { λ r. ⌜ r ≡ flagOf b w ⌝ }
     ensures low { λ r. ⌜ r ≤ w ⌝ }
@@ -17,7 +41,7 @@ impl Unit {
     pub fn tsba(self) -> u16
         ensures { λ r. ⌜ r ≡ tsbaOf self ⌝ }
     {
-        (self.registers.pointer % 65536) as u16
+        (self.registers.pointer % BIT_16) as u16
     }
 
     // SC is set if the class isn't 0 or RMR or NXM is set.
@@ -31,17 +55,17 @@ impl Unit {
         ensures { λ r. ⌜ r ≡ tssrOf self ⌝ }
     {
         let g = self.registers;
-        let a17 = g.pointer / 131072 % 2 == 1;
-        let a16 = g.pointer / 65536 % 2 == 1;
+        let a17 = g.pointer / BIT_17 % 2 == 1;
+        let a16 = g.pointer / BIT_16 % 2 == 1;
         let class = (g.class % 8) as u16;
-        flag_word(self.sc(), 32768)
-            + flag_word(g.rmr, 4096)
-            + flag_word(g.nxm, 2048)
-            + flag_word(g.nba, 1024)
-            + flag_word(a17, 512)
-            + flag_word(a16, 256)
-            + flag_word(g.ssr, 128)
-            + flag_word(!self.panel.online, 64)
-            + 2 * class
+        flag_word(self.sc(), SC)
+            + flag_word(g.rmr, RMR)
+            + flag_word(g.nxm, NXM)
+            + flag_word(g.nba, NBA)
+            + flag_word(a17, A17)
+            + flag_word(a16, A16)
+            + flag_word(g.ssr, SSR)
+            + flag_word(!self.panel.online, OFL)
+            + CLASS * class
     }
 }

@@ -18,7 +18,7 @@ use Rattle.state.specs.Readings.{tssrOf}
 use Rattle.state.specs.declared.Unit.{Unit}
 use Rattle.moves.proofs.Within.{sought-in, sought-record}
 use Rattle.motions.specs.Parts.{standing}
-use Rattle.motions.specs.Reads.{firstBlock, readEnd, readMotion, readOne, readOneBy, stageBy, stageOf}
+use Rattle.motions.specs.Reads.{firstBlock, onRecord, readEnd, readMotion, readOne, stageBy, stageOf}
 use Rattle.commands.specs.Commands.{asked, readBy}
 use Rattle.commands.specs.Effects.{endedUnit, finished, finishedBy, motionEffect, planned, statusOf, told, toldUnit}
 use Rattle.storing.specs.Stored.{movedOn}
@@ -27,7 +27,7 @@ use Rattle.table.specs.Table.{Clear, Plain, ShortRead, readPlan}
 module _ (u : Unit) (s : List ℕ) (h : Header) (p : Packet) (reverse : Bool) (q : ℕ) (w : ShortRead u s p reverse q) where
   -- the record is found, and the Read ends with it
   found : readPlan u s h p reverse ≡ planned u (motionEffect u (readMotion (asked h p) reverse 7 q (standing q (u .tape .end)) reverse) (h .ie))
-  unfolding readBy readOne stageOf stageBy readOneBy
+  unfolding readBy readOne stageOf stageBy onRecord
   found = rw (w .met)
 
   pub short-residual : getD (readPlan u s h p reverse .message) 2 0 ≡ 3

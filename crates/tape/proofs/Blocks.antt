@@ -7,7 +7,7 @@ use lib.ListN.{length, take, drop, replicate, length-append, length-replicate}
 use lib.Seq.{take-append-seam, take-at}
 use Rattle.lists.proofs.Bytes.{bytes-append}
 use Rattle.lists.proofs.Sums.{word-back}
-use Rattle.lists.specs.Words.{wordAt, wordBytes, Bytes}
+use Rattle.lists.specs.Words.{wordAt, wordBytes, wordLimit, Bytes}
 use Rattle.tape.specs.Layout.{blockOf, bodyOf, checkOf}
 use Rattle.tape.specs.Numbers.{blockBytes, checkModulus, dataBytes, headBytes, summedBytes}
 
@@ -17,7 +17,7 @@ bytes-zeros zero i = omega arith
 bytes-zeros (suc m) zero = omega arith
 bytes-zeros (suc m) (suc i) = bytes-zeros m i
 
-bytes-word : (w : ℕ) → w < 65536 → Bytes (wordBytes w)
+bytes-word : (w : ℕ) → w < wordLimit → Bytes (wordBytes w)
 bytes-word w h zero = omega arith
 bytes-word w h (suc zero) = omega arith
 bytes-word w h (suc (suc i)) = omega arith
@@ -54,13 +54,13 @@ module _ (k n i : ℕ) (d : List ℕ) where
   unfolding blockOf bodyOf
   block-data _ = front d (replicate (dataBytes - length d) 0) (wordBytes (checkOf (bodyOf k n i d)))
 
-  -- all 504 data bytes, the unused ones too
+  -- all the data bytes, the unused ones too
   pub block-field : length d ≤ dataBytes → take dataBytes (drop headBytes (blockOf k n i d)) ≡ d ++ replicate (dataBytes - length d) 0
   unfolding blockOf bodyOf
   block-field h =
       take-at (d ++ replicate (dataBytes - length d) 0) (wordBytes (checkOf (bodyOf k n i d))) dataBytes (rw (length-append, length-replicate) (omega arith))
 
-  bytes-body : Bytes d → k < 65536 → n < 65536 → i < 65536 → Bytes (bodyOf k n i d)
+  bytes-body : Bytes d → k < wordLimit → n < wordLimit → i < wordLimit → Bytes (bodyOf k n i d)
   unfolding bodyOf
   bytes-body b hk hn hi =
       bytes-append (wordBytes k ++ wordBytes n ++ wordBytes i ++ d) (replicate (dataBytes - length d) 0)
@@ -71,7 +71,7 @@ module _ (k n i : ℕ) (d : List ℕ) where
       b)
       (bytes-zeros (dataBytes - length d))
 
-  pub bytes-block : Bytes d → k < 65536 → n < 65536 → i < 65536 → length d ≤ dataBytes → Bytes (blockOf k n i d)
+  pub bytes-block : Bytes d → k < wordLimit → n < wordLimit → i < wordLimit → length d ≤ dataBytes → Bytes (blockOf k n i d)
   unfolding blockOf
   bytes-block b hk hn hi _ =
       let c = checkOf (bodyOf k n i d) in

@@ -11,11 +11,14 @@ headBytes = 6
 abbrev pub dataBytes : ℕ
 dataBytes = 504
 
--- the bytes before the check word
+-- the bytes before the check word: where it stands
 abbrev pub summedBytes : ℕ
 summedBytes = 510
 
 -- "the sum of the 255 words before it, modulo 65,535"
+abbrev pub summedWords : ℕ
+summedWords = 255
+
 abbrev pub checkModulus : ℕ
 checkModulus = 65535
 
@@ -36,4 +39,4 @@ eotMarker capacity = capacity - margin
 
 -- "A record of n bytes takes n/504 blocks rounded up"
 abbrev pub piecesOf : ℕ → ℕ
-piecesOf n = (n + 503) / dataBytes
+piecesOf n = (n + (dataBytes - 1)) / dataBytes

@@ -63,11 +63,3 @@ metBy s reverse p e block.Damaged = met.Bad (firstMet reverse p)
 -- what passing one object from position p meets, on the reel s recorded up to e
 unfoldable pub passed : List ℕ → Bool → ℕ → ℕ → Met
 passed s reverse p e = pick (eqb (ahead reverse p e) 0) met.Nothing (metBy s reverse p e (classAt s (firstMet reverse p)))
-
--- the paper's numbers: refusal 7, and the block that it names
-unfoldable pub refusalOf : Met → ℕ
-refusalOf (met.Record n q) = 0
-refusalOf (met.Mark q) = 0
-refusalOf (met.Gap q) = 0
-refusalOf met.Nothing = 0
-refusalOf (met.Bad k) = 7

@@ -2,6 +2,13 @@
 ghost use mathlib.Core.Path.{_≡_};
 ghost use Rattle.tape.specs.Numbers.{eotMarker, piecesOf};
 
+// The kinds of a block, as its word 0 has them.
+pub const PIECE_KIND: usize = 1;
+
+pub const MARK_KIND: usize = 2;
+
+pub const GAP_KIND: usize = 3;
+
 // A reel of so many blocks, with the numbers that all reels share.
 pub struct Geometry {
     pub capacity: usize,
@@ -10,13 +17,26 @@ pub struct Geometry {
 impl Geometry {
     pub const BLOCK: usize = 512;
 
+    // The three words before the data bytes.
+    pub const HEAD: usize = 6;
+
     pub const DATA: usize = 504;
+
+    // The bytes before the check word, and so its place; the same in words.
+    pub const SUMMED: usize = 510;
+
+    pub const SUMMED_WORDS: usize = 255;
+
+    pub const CHECK_MODULUS: usize = 65535;
 
     pub const MARGIN: usize = 64;
 
     pub const RECORD_LIMIT: usize = 16384;
 
     pub const CAPACITY_LIMIT: usize = 65536;
+
+    // The longest image that the listing takes, in bytes.
+    pub const IMAGE_LIMIT: usize = 65536;
 
     // The block that the EOT marker stands at.
     pub fn marker(self) -> usize

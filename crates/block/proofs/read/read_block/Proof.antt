@@ -5,6 +5,7 @@ use Prim.Native.Nat.{_*_}
 use Rattle.block.proofs.Classes.{class-inside, class-outside}
 use Rattle.block.proofs.read.read_block.Statement.{statement}
 use Rattle.block.proofs.read.read_block.Tie as tie
+use Rattle.tape.specs.Numbers.{blockBytes}
 
 returns : tie.Need-returns
 returns c = class-outside _ _ (c .if1 .taken)
@@ -28,7 +29,7 @@ class-of-requires : tie.Need-class-of-requires
 class-of-requires c κs = search needs
 
 returns-2 : tie.Need-returns-2
-returns-2 c = class-inside _ _ (c .before .before .if1 .left) (rw (add-sub-cancel-left (512 * c .before .before .before .before .args .k) 512) at (c .class-of .ensures))
+returns-2 c = class-inside _ _ (c .before .before .if1 .left) (rw (add-sub-cancel-left (blockBytes * c .before .before .before .before .args .k) blockBytes) at (c .class-of .ensures))
 
 pub read-block-spec : {M : Type 1} → statement M
 read-block-spec =

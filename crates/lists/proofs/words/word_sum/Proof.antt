@@ -4,13 +4,13 @@ use native.Mathlib.Omega.{arith}
 use mathlib.Core.Path.{_≡_}
 use Prim.Native.Nat.{_≤_, _-_, _*_}
 use lib.ListN.{take}
-use Rattle.lists.specs.Words.{wordSum}
+use Rattle.lists.specs.Words.{wordLimit, wordSum}
 use Rattle.lists.proofs.Sums.{sum-more}
 use Rattle.lists.proofs.words.word_sum.Statement.{statement}
 use Rattle.lists.proofs.words.word_sum.Tie as tie
 
 abbrev Inv-loop : tie.InvT-loop
-Inv-loop b n sum₀ j₀ sum j = (j ≤ n) × (sum ≡ wordSum (take (2 * j) b)) × (sum ≤ 65535 * j)
+Inv-loop b n sum₀ j₀ sum j = (j ≤ n) × (sum ≡ wordSum (take (2 * j) b)) × (sum ≤ (wordLimit - 1) * j)
 
 abbrev μ-loop : tie.MeasureT-loop
 μ-loop b n sum₀ j₀ sum j = n - j

@@ -1,6 +1,6 @@
 -- `read_one` meets its contract: a record goes on, and anything else is the end.
 use borrow.Author.Needs.{needs}
-use Rattle.motions.specs.Reads.{readOne, readOneBy}
+use Rattle.motions.specs.Reads.{onRecord, readOne}
 use Rattle.motions.proofs.reads.read_one.Statement.{statement}
 use Rattle.motions.proofs.reads.read_one.Tie as tie
 
@@ -17,11 +17,11 @@ enum-known-m : tie.Need-enum-known-m
 enum-known-m c = search needs
 
 returns : tie.Need-returns
-unfolding readOne readOneBy
+unfolding readOne onRecord
 returns c = rw (← c .before .before .before .before .run-stage .ensures, c .before .before .n .given .1) (c .read-motion .ensures)
 
 returns-2 : tie.Need-returns-2
-unfolding readOne readOneBy
+unfolding readOne onRecord
 returns-2 c = rw (← c .before .before .before .run-stage .ensures, c .before .m .given .1)
 
 pub read-one-spec : {M : Type 1} → statement M

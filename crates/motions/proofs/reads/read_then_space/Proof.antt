@@ -1,6 +1,6 @@
 -- `read_then_space` meets its contract: a record goes on, and anything else is the end.
 use borrow.Author.Needs.{needs}
-use Rattle.motions.specs.Reads.{readThenSpace, readThenSpaceBy}
+use Rattle.motions.specs.Reads.{onRecord, readThenSpace}
 use Rattle.motions.proofs.reads.read_then_space.Statement.{statement}
 use Rattle.motions.proofs.reads.read_then_space.Tie as tie
 
@@ -17,11 +17,11 @@ enum-known-m : tie.Need-enum-known-m
 enum-known-m c = search needs
 
 returns : tie.Need-returns
-unfolding readThenSpace readThenSpaceBy
+unfolding readThenSpace onRecord
 returns c = rw (← c .before .before .before .before .run-stage .ensures, c .before .before .n .given .1) (c .space-back .ensures)
 
 returns-2 : tie.Need-returns-2
-unfolding readThenSpace readThenSpaceBy
+unfolding readThenSpace onRecord
 returns-2 c = rw (← c .before .before .before .run-stage .ensures, c .before .m .given .1)
 
 pub read-then-space-spec : {M : Type 1} → statement M

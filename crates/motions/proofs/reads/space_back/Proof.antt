@@ -1,6 +1,6 @@
 -- `space_back` meets its contract: a record goes on, and anything else is the end.
 use borrow.Author.Needs.{needs}
-use Rattle.motions.specs.Reads.{spaceBack, spaceBackBy}
+use Rattle.motions.specs.Reads.{onRecord, spaceBack}
 use Rattle.motions.proofs.reads.space_back.Statement.{statement}
 use Rattle.motions.proofs.reads.space_back.Tie as tie
 
@@ -17,11 +17,11 @@ enum-known-m : tie.Need-enum-known-m
 enum-known-m c = search needs
 
 returns : tie.Need-returns
-unfolding spaceBack spaceBackBy
+unfolding spaceBack onRecord
 returns c = rw (← c .before .before .before .before .run-stage .ensures, c .before .before .b .given .1) (c .read-motion .ensures)
 
 returns-2 : tie.Need-returns-2
-unfolding spaceBack spaceBackBy
+unfolding spaceBack onRecord
 returns-2 c = rw (← c .before .before .before .run-stage .ensures, c .before .m .given .1)
 
 pub space-back-spec : {M : Type 1} → statement M

@@ -1,6 +1,6 @@
 -- `space_then_read` meets its contract: a record goes on, and anything else is the end.
 use borrow.Author.Needs.{needs}
-use Rattle.motions.specs.Reads.{spaceThenRead, spaceThenReadBy}
+use Rattle.motions.specs.Reads.{onRecord, spaceThenRead}
 use Rattle.motions.proofs.reads.space_then_read.Statement.{statement}
 use Rattle.motions.proofs.reads.space_then_read.Tie as tie
 
@@ -17,11 +17,11 @@ enum-known-m : tie.Need-enum-known-m
 enum-known-m c = search needs
 
 returns : tie.Need-returns
-unfolding spaceThenRead spaceThenReadBy
+unfolding spaceThenRead onRecord
 returns c = rw (← c .before .before .before .before .run-stage .ensures, c .before .before .q .given .1) (c .read-one .ensures)
 
 returns-2 : tie.Need-returns-2
-unfolding spaceThenRead spaceThenReadBy
+unfolding spaceThenRead onRecord
 returns-2 c = rw (← c .before .before .before .run-stage .ensures, c .before .m .given .1)
 
 pub space-then-read-spec : {M : Type 1} → statement M

@@ -6,6 +6,7 @@ use Prim.Native.Nat.{_*_, _≤_, _-_}
 use lib.ListN.{length}
 use lib.Seq.{sets}
 use Rattle.lists.specs.Places.{gathered}
+use Rattle.tape.specs.Numbers.{blockBytes}
 use Rattle.tape.specs.Objects.{piecesTo}
 use Rattle.reel.proofs.Laid.{pieces-more, pieces-whole}
 use Rattle.reel.proofs.lay.lay_record.Statement.{statement}
@@ -13,7 +14,7 @@ use Rattle.reel.proofs.lay.lay_record.Tie as tie
 
 abbrev Inv-loop : tie.InvT-loop
 Inv-loop reel₀ p mem a n swb m i₀ reel i =
-    (i ≤ m) × (reel ≡ sets reel₀ (512 * p) (piecesTo (gathered swb mem a n) i)) × (length reel ≡ length reel₀)
+    (i ≤ m) × (reel ≡ sets reel₀ (blockBytes * p) (piecesTo (gathered swb mem a n) i)) × (length reel ≡ length reel₀)
 
 abbrev μ-loop : tie.MeasureT-loop
 μ-loop reel₀ p mem a n swb m i₀ reel i = m - i
