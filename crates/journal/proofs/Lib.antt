@@ -1,10 +1,6 @@
--- Laws of the calls and their journal.
-pub mod Passed
-pub mod Fits
-pub mod EntryBytes
-pub mod Saved
-pub mod Newest
+-- Laws of the calls' code: what each way out of a function leaves is what the definitions say.
 pub mod Outs
+pub mod Entered
+pub mod Called
 pub mod Backs
 pub mod Readies
-pub mod Hosts

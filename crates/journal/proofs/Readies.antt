@@ -1,45 +1,59 @@
--- Where the checks let pass, a change of the state alone is ready, since it stores nothing, and so is what an advance planned.
+-- Where the checks let pass, what a step touches lies inside memory and reel, and what an advance planned can be carried out.
 use mathlib.Core.Path.{_≡_, sym, subst, _∙_}
-use mathlib.Core.Bool.{true≢false}
+use mathlib.Core.Bool.{Bool, false}
 use mathlib.Core.List.{List}
-use Prim.Native.Nat.{ℕ, _%_}
+use Prim.Native.Nat.{ℕ, _+_, _≤_}
 use native.Mathlib.Omega.{arith}
+use borrow.Author.Tests.{ltb-false}
+use lib.Dec.{ltb}
 use lib.ListN.{length}
-use Rattle.state.specs.declared.Unit.{Unit}
-use Rattle.motions.specs.Parts.{laidBlocks, objectBlocks}
-use Rattle.commands.specs.Effects.{still}
-use Rattle.commands.specs.declared.plans.Answer.{Answer}
+use Rattle.state.proofs.Tests.{neither}
 use Rattle.commands.specs.declared.plans.Plan.{Plan}
 use Rattle.storing.specs.Stored.{Storable}
 use Rattle.advance.specs.Steps.{advanced}
-use Rattle.unit.proofs.Storing.{advanced-storable}
-use Rattle.journal.specs.Refusals.{checked}
-use Rattle.journal.specs.Calls.{Ready, Sound, changed}
-use Rattle.journal.specs.declared.Session.{Session}
-use Rattle.journal.proofs.Passed.{passed, sizes}
+use Rattle.touched.specs.Touches.{Sizes, TouchedIn, none}
+use Rattle.touched.specs.declared.Touched.{Touched}
+use Rattle.unit.specs.Steps.{hostLimit, storeWrong}
+use Rattle.unit.specs.Touching.{hostTouched, touchedBy}
+use Rattle.unit.proofs.Stepping.{advanced-fits}
+use Rattle.unit.proofs.Touches.{host-in, plan-in}
+use Rattle.worlds.specs.Refusals.{checked}
+use Rattle.worlds.specs.Worlds.{worldOf}
+use Rattle.worlds.specs.declared.Session.{Session}
+use Rattle.worlds.proofs.Passing.{core-accepted, passed, sizes}
+use Rattle.journal.specs.Readiness.{HostReady, Ready, Sound}
 
-still-storable : (u : Unit) (a : Answer) (memory reel : ℕ) → memory % 2 ≡ 0 → Storable (still u a) memory reel
-unfolding still laidBlocks objectBlocks
-still-storable u a memory reel h =
-    record {
-      laid = record { room = omega arith; source = omega arith; even = h };
-      moved = record { room = omega arith; target = omega arith; even = h };
-      message = λ t. absurd (true≢false (sym t));
-    }
+module _ (s : Session) (m r : List ℕ) (journal : ℕ) (k : Sound s (length m) (length r) journal) where
+  pub sound-sizes : Sizes (length m) (length r)
+  sound-sizes = sizes (worldOf s m r m) journal (passed s (length m) (length r) journal (k .right))
 
-pub still-ready : (s : Session) (p : Plan) (u : Unit) (memory reel journal : ℕ) → Sound s memory reel journal → p ≡ changed u → Ready s p memory reel journal
-still-ready s p u memory reel journal k q =
-    let even = sizes s memory reel journal (passed s memory reel journal (k .right)) .even in
-    record {
-      sound = k;
-      storable = subst (λ (x : Plan). Storable x memory reel) (sym q) (still-storable u _ memory reel even);
-    }
+  pub step-in : (p : Plan) (t : Touched) → t ≡ touchedBy p → Storable p (length m) (length r) → TouchedIn t (length m) (length r)
+  step-in p t h f = subst (λ (x : Touched). TouchedIn x (length m) (length r)) (sym h) (plan-in p m r f sound-sizes)
+
+  pub change-in : (t : Touched) → t ≡ none → TouchedIn t (length m) (length r)
+  change-in t h =
+      subst (λ (x : Touched). TouchedIn x (length m) (length r)) (sym h)
+      (record { in-memory = omega arith; message-in-memory = omega arith; in-reel = omega arith; sizes = sound-sizes })
+
+  pub store-in : (place : ℕ) (bytes : List ℕ) (t : Touched) → t ≡ hostTouched place (length bytes) → place + length bytes ≤ length m → TouchedIn t (length m) (length r)
+  store-in place bytes t h i =
+      subst (λ (x : Touched). TouchedIn x (length m) (length r)) (sym h) (host-in m r place bytes sound-sizes i)
 
 pub advance-ready : (s : Session) (p : Plan) (m r : List ℕ) (journal n : ℕ) → n ≡ checked s (length m) (length r) journal → n ≡ 0 → p ≡ advanced (s .unit) m r → Ready s p (length m) (length r) journal
 advance-ready s p m r journal n e f q =
     let right = sym e ∙ f in
-    let k = passed s (length m) (length r) journal right in
+    let a = core-accepted (worldOf s m r m) journal (passed s (length m) (length r) journal right) in
     record {
       sound = record { right = right };
-      storable = subst (λ (x : Plan). Storable x (length m) (length r)) (sym q) (advanced-storable (s .unit) m r (k .legal) (k .memory-is) (k .reel-is));
+      storable = subst (λ (x : Plan). Storable x (length m) (length r)) (sym q) (advanced-fits (worldOf s m r m .core) a);
+    }
+
+pub host-ready : (s : Session) (memory reel journal place n k : ℕ) (t : Bool) → k ≡ checked s memory reel journal → k ≡ 0 → t ≡ storeWrong memory place n → t ≡ false → HostReady s memory reel journal place n
+unfolding storeWrong
+host-ready s memory reel journal place n k t e f dt h =
+    let q = neither (ltb hostLimit n) (ltb memory (place + n)) (sym dt ∙ h) in
+    record {
+      sound = record { right = sym e ∙ f };
+      short = ltb-false hostLimit n (q .0);
+      inside = ltb-false memory (place + n) (q .1);
     }

@@ -36,7 +36,7 @@ pub fn refused(s: Session, n: usize) -> Outcome
 
 // A step with plan p: refused with 9 where its entry doesn't fit, else entered and then carried out.
 pub fn step(s: Session, p: Plan, mem: &mut [u8], reel: &mut [u8], jrnl: &mut [u8]) -> Outcome
-    requires { ⌜ Ready s p (now mem) (now reel) (length (now jrnl)) ⌝ }
+    requires { ⌜ Ready s p (length (now mem)) (length (now reel)) (length (now jrnl)) ⌝ }
     ensures { λ r. ⌜ Leaves (takenAs (worldOf s (now (mem .entry)) (now (reel .entry)) (now (jrnl .entry))) (carried (record { unit = s .unit; memory = now (mem .entry); reel = now (reel .entry) }) p) (p .answer)) r (now (mem .exit)) (now (reel .exit)) (now (jrnl .exit)) ⌝ }
 {
     let unit = s.unit;

@@ -1,6 +1,6 @@
 -- `mount` is its definition.
 use Rattle.journal.proofs.Outs.{same-outcome}
-use Rattle.journal.specs.Calls.{mountOn, mountSweptOn}
+use Rattle.worlds.specs.Calls.{mountOn, mountedBy}
 use borrow.Author.Tests.{eq-eqb, le-ltb, lt-ltb, ne-eqb}
 use borrow.Author.Needs.{needs}
 use Rattle.journal.proofs.calls.mount.Statement.{statement}
@@ -23,25 +23,36 @@ returns-2 : tie.Need-returns-2
 unfolding mountOn
 returns-2 c = rw (← c .before .before .before .mount-refusal .ensures, eq-eqb _ _ (c .before .before .if1 .left), lt-ltb _ _ (c .before .if2 .taken)) (same-outcome _ _ _ (c .refused2 .ensures .0) (c .refused2 .ensures .1))
 
-sweep-requires : tie.Need-sweep-requires
-sweep-requires c κs = search needs
-
-enum-known-k : tie.Need-enum-known-k
-enum-known-k c = search needs
+mount-requires : tie.Need-mount-requires
+mount-requires c κs = search needs
 
 enum-told : tie.Need-enum-told
 enum-told c = search needs
 
-mounted-requires : tie.Need-mounted-requires
-mounted-requires c κs = search needs
+enum-told-2 : tie.Need-enum-told-2
+enum-told-2 c = search needs
+
+enum-told-3 : tie.Need-enum-told-3
+enum-told-3 c = search needs
+
+enum-told-4 : tie.Need-enum-told-4
+enum-told-4 c = search needs
 
 returns-3 : tie.Need-returns-3
-unfolding mountOn mountSweptOn
-returns-3 c = rw (← c .before .before .before .before .before .before .mount-refusal .ensures, eq-eqb _ _ (c .before .before .before .before .before .if1 .left), le-ltb _ _ (c .before .before .before .before .if2 .left), ← c .before .before .before .sweep .ensures, c .before .k .given .1)
+unfolding mountOn mountedBy
+returns-3 c = rw (← c .before .before .before .before .before .before .before .mount-refusal .ensures, eq-eqb _ _ (c .before .before .before .before .before .before .if1 .left), le-ltb _ _ (c .before .before .before .before .before .if2 .left), ← c .before .before .before .mount .ensures, c .enum-told .given .1)
 
 returns-4 : tie.Need-returns-4
-unfolding mountOn mountSweptOn
-returns-4 c = rw (← c .before .before .before .before .before .before .mount-refusal .ensures, eq-eqb _ _ (c .before .before .before .before .before .if1 .left), le-ltb _ _ (c .before .before .before .before .if2 .left), ← c .before .before .before .sweep .ensures, c .before .enum-told .given .1, ← c .mounted .ensures)
+unfolding mountOn mountedBy
+returns-4 c = rw (← c .before .before .before .before .before .before .before .mount-refusal .ensures, eq-eqb _ _ (c .before .before .before .before .before .before .if1 .left), le-ltb _ _ (c .before .before .before .before .before .if2 .left), ← c .before .before .before .mount .ensures, c .enum-told2 .given .1)
+
+returns-5 : tie.Need-returns-5
+unfolding mountOn mountedBy
+returns-5 c = rw (← c .before .before .before .before .before .before .before .mount-refusal .ensures, eq-eqb _ _ (c .before .before .before .before .before .before .if1 .left), le-ltb _ _ (c .before .before .before .before .before .if2 .left), ← c .before .before .before .mount .ensures, c .enum-told3 .given .1)
+
+returns-6 : tie.Need-returns-6
+unfolding mountOn mountedBy
+returns-6 c = rw (← c .before .before .before .before .before .before .before .mount-refusal .ensures, eq-eqb _ _ (c .before .before .before .before .before .before .if1 .left), le-ltb _ _ (c .before .before .before .before .before .if2 .left), ← c .before .before .before .mount .ensures, c .enum-told4 .given .1)
 
 pub mount-spec : {M : Type 1} → statement M
 mount-spec =
@@ -52,9 +63,12 @@ mount-spec =
     returns
     refused-requires-2
     returns-2
-    sweep-requires
-    enum-known-k
+    mount-requires
     enum-told
-    mounted-requires
+    enum-told-2
+    enum-told-3
+    enum-told-4
     returns-3
-    returns-4)
+    returns-4
+    returns-5
+    returns-6)

@@ -1,7 +1,7 @@
 -- `step_back` meets its contract: refusals 1 to 4, 6 and 8, else the undoing.
 use Rattle.journal.proofs.Backs.{back-goes, back-none, back-short}
 use Rattle.journal.proofs.Outs.{guarded-stops}
-use Rattle.journal.specs.Calls.{backOn}
+use Rattle.worlds.specs.Calls.{backOn}
 use borrow.Author.Needs.{needs}
 use Rattle.journal.proofs.calls.step_back.Statement.{statement}
 use Rattle.journal.proofs.calls.step_back.Tie as tie

@@ -1,6 +1,8 @@
 -- `write_tsdb` meets its contract: refusals 1 to 4, else the change.
-use Rattle.journal.proofs.Outs.{changed-goes, guarded-stops}
-use Rattle.journal.specs.Calls.{tsdbOn}
+use Rattle.journal.proofs.Outs.{guarded-goes, guarded-stops}
+use Rattle.journal.proofs.Called.{change-takes}
+use Rattle.unit.specs.Steps.{stepOf}
+use Rattle.worlds.specs.Calls.{stepOn}
 use borrow.Author.Needs.{needs}
 use Rattle.journal.proofs.calls.write_tsdb.Statement.{statement}
 use Rattle.journal.proofs.calls.write_tsdb.Tie as tie
@@ -12,7 +14,7 @@ refused-requires : tie.Need-refused-requires
 refused-requires c κs = search needs
 
 returns : tie.Need-returns
-unfolding tsdbOn
+unfolding stepOn
 returns c = guarded-stops _ _ _ _ _ _ _ (c .before .before .check .ensures) (c .before .if1 .taken) (c .refused .ensures .0) (c .refused .ensures .1)
 
 write-tsdb-requires : tie.Need-write-tsdb-requires
@@ -31,8 +33,8 @@ same-length-3 : tie.Need-same-length-3
 same-length-3 c = search needs
 
 returns-2 : tie.Need-returns-2
-unfolding tsdbOn
-returns-2 c = changed-goes _ _ _ _ _ _ _ _ _ _ _ (c .before .before .before .before .before .before .before .before .before .before .before .before .before .check .ensures) (c .before .before .before .before .before .before .before .before .before .before .before .before .if1 .left) (c .before .before .before .before .before .before .before .before .before .before .write-tsdb .ensures) (c .before .before .before .before .before .before .change .ensures)
+unfolding stepOn stepOf
+returns-2 c = guarded-goes _ _ _ _ _ _ _ _ _ _ (c .before .before .before .before .before .before .before .before .before .before .before .before .before .check .ensures) (c .before .before .before .before .before .before .before .before .before .before .before .before .if1 .left) (change-takes _ _ _ _ _ _ _ _ _ _ (c .before .before .before .before .before .before .before .before .before .before .write-tsdb .ensures) (c .before .before .before .before .before .before .change .ensures))
 
 pub write-tsdb-spec : {M : Type 1} → statement M
 write-tsdb-spec =
