@@ -2,9 +2,9 @@
 use crate::builds::bytes_in;
 use crate::builds::bytes_made;
 use commands::Answer;
-use journal::Outcome;
-use journal::Reading;
-use journal::Session;
+use worlds::Outcome;
+use worlds::RegisterRead;
+use worlds::Session;
 use script::Fault;
 use script::Three;
 use script::Value;

@@ -1,5 +1,5 @@
 // All that the lines of a script change, besides the bytes of the buffers.
-use journal::Session;
+use worlds::Session;
 use state::Attention;
 use state::Characteristics;
 use state::Lengths;

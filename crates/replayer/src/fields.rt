@@ -1,5 +1,5 @@
 // The state's fields in the order in which they are printed, and three more that can be set.
-use journal::Session;
+use worlds::Session;
 use script::flag;
 use script::put_labelled;
 use state::Attention;
