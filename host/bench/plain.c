@@ -363,8 +363,8 @@ static void close_session(const struct session *s, ts11_state *state)
 /* ---- the journal ------------------------------------------------------------------------------------------------- */
 
 /*
- * An entry is the old data bytes, the old message bytes and the old blocks of a step, and then this head: the state
- * before the step, and where those bytes came from. Of what a step does not store, place and length are 0, and SWB is;
+ * An entry is its length in four bytes, the old data bytes, the old message bytes and the old blocks of a step, and then
+ * this head: the state before the step, and where those bytes came from. Of what a step does not store, place and length are 0, and SWB is;
  * but a Read that passes its record names its place and SWB even where its count is 0.
  */
 struct entry {
@@ -372,14 +372,22 @@ struct entry {
 	uint32_t data_at, data_length, swb;
 	uint32_t message_at, message_length;
 	uint32_t reel_at, reel_blocks;
-	uint32_t unused[4];
+	uint32_t unused[3];
 };
 
-_Static_assert(sizeof(struct entry) == TS11_ENTRY_HEAD, "head of an entry");
+_Static_assert(sizeof(uint32_t) + sizeof(struct entry) == TS11_ENTRY_HEAD, "an entry's length and its head");
 
 static size_t entry_length(const struct entry *e)
 {
 	return TS11_ENTRY_HEAD + (size_t)e->data_length + e->message_length + reel_bytes(e->reel_blocks);
+}
+
+/* The front of an entry; gives where its old bytes begin. */
+static uint8_t *put_length(uint8_t *at, size_t length)
+{
+	uint32_t front = (uint32_t)length;
+	memcpy(at, &front, sizeof front);
+	return at + sizeof front;
 }
 
 /* Adds an entry with the bytes that stand at its places, or answers 9. */
@@ -389,7 +397,7 @@ static ts11_answer add_entry(struct session *s, uint8_t *journal, const struct e
 	size_t length = entry_length(e);
 	if (s->journal - s->used < length)
 		return TS11_JOURNAL_FULL;
-	uint8_t *at = journal + s->used;
+	uint8_t *at = put_length(journal + s->used, length);
 	fetch_data(at, memory, e->data_at, e->data_length, e->swb);
 	at += e->data_length;
 	memcpy(at, memory + e->message_at, e->message_length);
@@ -401,14 +409,14 @@ static ts11_answer add_entry(struct session *s, uint8_t *journal, const struct e
 	return TS11_DONE;
 }
 
-/* An entry that stores nothing over: the head alone. */
+/* An entry that stores nothing over: its length and the head. */
 static ts11_answer add_head(struct session *s, uint8_t *journal)
 {
 	struct entry e = {.unit = s->unit};
-	if (s->journal - s->used < sizeof e)
+	if (s->journal - s->used < TS11_ENTRY_HEAD)
 		return TS11_JOURNAL_FULL;
-	memcpy(journal + s->used, &e, sizeof e);
-	s->used += sizeof e;
+	memcpy(put_length(journal + s->used, TS11_ENTRY_HEAD), &e, sizeof e);
+	s->used += TS11_ENTRY_HEAD;
 	return TS11_DONE;
 }
 
@@ -424,6 +432,7 @@ static bool entry_wrong(const struct entry *e, const struct session *s)
 	return !run_fits(e->data_at, e->data_length, s->unit.memory) ||
 	       !run_fits(e->message_at, e->message_length, s->unit.memory) ||
 	       !run_fits(e->reel_at, e->reel_blocks, s->unit.blocks) ||
+	       e->unit.memory != s->unit.memory || e->unit.blocks != s->unit.blocks ||
 	       entry_length(e) > s->used || unit_wrong(&e->unit);
 }
 
@@ -1115,12 +1124,12 @@ ts11_answer plain_step_back(ts11_state *state, uint8_t *memory, size_t memory_le
 	if (s.used < TS11_ENTRY_HEAD)
 		return TS11_BAD_ENTRY;
 	struct entry e;
-	memcpy(&e, journal + s.used - TS11_ENTRY_HEAD, sizeof e);
+	memcpy(&e, journal + s.used - sizeof e, sizeof e);
 	if (entry_wrong(&e, &s))
 		return TS11_BAD_ENTRY;
 	settle_flags(&e.unit);
 	s.used -= (uint32_t)entry_length(&e);
-	bring_back(journal + s.used, &e, memory, reel);
+	bring_back(journal + s.used + sizeof(uint32_t), &e, memory, reel);
 	s.unit = e.unit;
 	close_session(&s, state);
 	return TS11_DONE;

@@ -184,6 +184,9 @@ static bool inside(size_t at, size_t n, size_t limit)
 	return at <= limit && n <= limit - at;
 }
 
+/* An entry has its length at its front and its head at its end, 31 numbers; the places stand from number 21 on. */
+enum { HEAD_NUMBERS = 31, HEAD = 4 * HEAD_NUMBERS };
+
 /* The entry that was added or removed, if any, and the places that it names; a byte more for the flipped address. */
 static void alike_touched(const char *call, uint32_t before)
 {
@@ -193,7 +196,7 @@ static void alike_touched(const char *call, uint32_t before)
 	if (high > held.journal || high - low < TS11_ENTRY_HEAD)
 		return;
 	alike_journal(call, low, high - low);
-	const uint8_t *head = worlds[0].journal + high - TS11_ENTRY_HEAD;
+	const uint8_t *head = worlds[0].journal + high - HEAD;
 	size_t data = number_at(head + 84), data_length = number_at(head + 88);
 	size_t message = number_at(head + 96), message_length = number_at(head + 100);
 	size_t block = number_at(head + 104), blocks = number_at(head + 108);
@@ -317,7 +320,7 @@ static void count_advance(const ts11_state *before, uint32_t header)
 	if (ts11_state_number(before, TS11_AT_SSR) == 0 && (class == TS11_CLASS_NORMAL || class == TS11_CLASS_STATUS))
 		for (size_t i = 0; i < COMMANDS; i++)
 			carried_out[i] += (header & 0x0F7F) == commands[i] && (header & TS11_ACK) != 0;
-	const uint8_t *head = worlds[0].journal + state_at(TS11_AT_USED) - TS11_ENTRY_HEAD;
+	const uint8_t *head = worlds[0].journal + state_at(TS11_AT_USED) - HEAD;
 	if (number_at(head + 100) != 0) {
 		const uint8_t *message = worlds[0].memory + number_at(head + 96);
 		xst0_seen |= word_at(message + TS11_MESSAGE_XST0);
@@ -705,7 +708,7 @@ static void put_journal(size_t at, uint32_t value)
 /* A step back with a number of the newest entry's head made up, which is put right again where the entry stays. */
 static void back_spoiled(size_t head)
 {
-	size_t at = head + 4 * below(32);
+	size_t at = head + 4 * below(HEAD_NUMBERS);
 	uint32_t kept = number_at(worlds[0].journal + at);
 	put_journal(at, one_in(2) ? odd_number() : kept + (uint32_t)below(9) - 4);
 	if (try_back().answer != TS11_DONE)
@@ -716,7 +719,7 @@ static void step_back(void)
 {
 	uint32_t used = state_at(TS11_AT_USED);
 	if (used >= TS11_ENTRY_HEAD && used <= held.journal && one_in(4))
-		back_spoiled(used - TS11_ENTRY_HEAD);
+		back_spoiled(used - HEAD);
 	for (size_t n = below(7); n != 0; n--)
 		if (try_back().answer != TS11_DONE)
 			return;
