@@ -4,7 +4,8 @@ use mathlib.Core.Bool.{false}
 use Prim.Native.Nat.{ℕ, _+_, _%_, _<_, _≤_}
 use Rattle.tape.specs.Numbers.{capacityLimit}
 use Rattle.signals.specs.Message.{messageBytes}
-use Rattle.state.specs.Checks.{lastClass, memoryLimit, pointerLimit}
+use Rattle.signals.specs.Numbers.{pointerLimit}
+use Rattle.state.specs.Checks.{lastClass, memoryLimit}
 use Rattle.state.specs.declared.Unit.{Unit}
 use Rattle.state.specs.declared.Characteristics.{Characteristics}
 
@@ -23,3 +24,12 @@ pub record Legal (u : Unit) : Type 0 where
   pub memory-most : u .lengths .memory ≤ memoryLimit
   pub blocks-least : 1 ≤ u .lengths .blocks
   pub blocks-most : u .lengths .blocks ≤ capacityLimit
+
+-- a number of 32 bits, as the state's type has them
+abbrev pub numberLimit : ℕ
+numberLimit = 4294967296
+
+-- what the type of the state gives of a buffer's numbers, which refusal 1 doesn't look at while NBA is set
+pub record Held (u : Unit) : Type 0 where
+  pub address : u .characteristics .address < numberLimit
+  pub extent : u .characteristics .length < numberLimit
