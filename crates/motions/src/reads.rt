@@ -1,7 +1,7 @@
 // Read: one stage, or two for a reread.
-use crate::parts::Ending;
 use crate::parts::Motion;
 use crate::parts::Moved;
+use crate::parts::Ending;
 use crate::parts::no_lay;
 use crate::parts::no_move;
 use moves::Sought;

@@ -1,6 +1,6 @@
 // Position: records and marks, forward and in reverse.
-use crate::parts::Ending;
 use crate::parts::Motion;
+use crate::parts::Ending;
 use crate::parts::no_lay;
 use crate::parts::no_move;
 use moves::Rule;

@@ -1,7 +1,7 @@
 // Write and Format: the object goes where the tape stands, or for a retry, behind a gap, where the last object stood.
-use crate::parts::Ending;
 use crate::parts::Laid;
 use crate::parts::Motion;
+use crate::parts::Ending;
 use crate::parts::laid_blocks;
 use crate::parts::no_lay;
 use crate::parts::no_move;
