@@ -4,10 +4,10 @@ mod reads;
 mod spaces;
 mod writes;
 
+pub use parts::Ending;
 pub use parts::Laid;
 pub use parts::Motion;
 pub use parts::Moved;
-pub use parts::Ending;
 pub use parts::ObjectKind;
 pub use parts::laid_blocks;
 pub use parts::moved_bytes;

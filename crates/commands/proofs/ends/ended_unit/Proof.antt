@@ -1,11 +1,11 @@
 -- `ended_unit` meets its contract: three stores to the registers.
 use borrow.Author.Needs.{needs}
-use Rattle.commands.specs.Effects.{endedUnit}
-use Rattle.commands.proofs.effects.ended_unit.Statement.{statement}
-use Rattle.commands.proofs.effects.ended_unit.Tie as tie
+use Rattle.commands.specs.Ends.{ended}
+use Rattle.commands.proofs.ends.ended_unit.Statement.{statement}
+use Rattle.commands.proofs.ends.ended_unit.Tie as tie
 
 returns : tie.Need-returns
-unfolding endedUnit
+unfolding ended
 returns c = search needs
 
 pub ended-unit-spec : {M : Type 1} → statement M

@@ -1,8 +1,8 @@
 -- `still_plan` meets its contract: the parts are what their functions ensure.
 use borrow.Author.Needs.{needs}
-use Rattle.commands.specs.Effects.{still}
-use Rattle.commands.proofs.effects.still_plan.Statement.{statement}
-use Rattle.commands.proofs.effects.still_plan.Tie as tie
+use Rattle.commands.specs.Ends.{still}
+use Rattle.commands.proofs.ends.still_plan.Statement.{statement}
+use Rattle.commands.proofs.ends.still_plan.Tie as tie
 
 no-move-requires : tie.Need-no-move-requires
 no-move-requires c κs = search needs

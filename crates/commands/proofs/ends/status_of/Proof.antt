@@ -1,8 +1,8 @@
 -- `status_of` meets its contract: the tests are those of the definition.
 use borrow.Author.Needs.{needs}
-use Rattle.commands.specs.Effects.{statusOf}
-use Rattle.commands.proofs.effects.status_of.Statement.{statement}
-use Rattle.commands.proofs.effects.status_of.Tie as tie
+use Rattle.commands.specs.Ends.{statusOf}
+use Rattle.commands.proofs.ends.status_of.Statement.{statement}
+use Rattle.commands.proofs.ends.status_of.Tie as tie
 
 marker-requires : tie.Need-marker-requires
 marker-requires c κs = search needs

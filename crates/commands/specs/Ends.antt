@@ -8,7 +8,6 @@ use lib.ListN.{replicate}
 use Rattle.lists.specs.Pick.{pick}
 use Rattle.tape.specs.Numbers.{eotMarker}
 use Rattle.signals.specs.Message.{messageOf}
-use Rattle.signals.specs.declared.message.End.{End}
 use Rattle.signals.specs.declared.message.Status.{Status}
 use Rattle.state.specs.declared.Unit.{Unit}
 use Rattle.state.specs.declared.Tape.{Tape}
@@ -20,13 +19,9 @@ use Rattle.motions.specs.Parts.{laidBlocks, noLay, noMove}
 use Rattle.commands.specs.declared.plans.Answer.{Answer}
 use Rattle.commands.specs.declared.plans.Answer.the-variants as answer
 use Rattle.commands.specs.declared.plans.Plan.{Plan}
+use Rattle.motions.specs.declared.parts.Ending.{Ending}
 use Rattle.motions.specs.declared.parts.Motion.{Motion}
 use Rattle.motions.specs.declared.parts.Motion.the-variants as motion
-use Rattle.commands.specs.declared.effects.Notice.{Notice}
-use Rattle.commands.specs.declared.effects.Notice.the-variants as notice
-use Rattle.commands.specs.declared.effects.Effect.{Effect}
-use Rattle.commands.specs.declared.effects.Ran.{Ran}
-use Rattle.commands.specs.declared.effects.Ran.the-variants as ran
 
 -- the state with one part anew
 abbrev pub withTape : Unit → Tape → Unit
@@ -66,23 +61,6 @@ abbrev pub withOwner : Unit → Bool → Unit
 withOwner u owns =
     withAttention u (record { «unit_owns» = owns; pending = u .attention .pending; «release_ie» = u .attention .«release_ie» })
 
--- an end with nothing moved or laid
-unfoldable pub effectOf : Unit → End → Notice → Bool → Effect
-effectOf u x told ie = record { unit = u; end = x; moved = noMove; laid = noLay; notice = told; ie = ie }
-
-unfoldable pub motionEffect : Unit → Motion → Bool → Ran
-motionEffect u (motion.Ended x) ie =
-    ran.Ended
-    (record {
-      unit = withTape u (x .tape);
-      end = x .end;
-      moved = x .moved;
-      laid = x .laid;
-      notice = notice.Message;
-      ie = ie;
-    })
-motionEffect u (motion.Fault k) ie = ran.Fault k
-
 -- no message
 abbrev pub quiet : List ℕ
 quiet = 0 ∷ 0 ∷ 0 ∷ 0 ∷ 0 ∷ 0 ∷ 0 ∷ []
@@ -92,8 +70,8 @@ unfoldable pub still : Unit → Answer → Plan
 still u a = record { answer = a; unit = u; moved = noMove; laid = noLay; sends = false; message = quiet }
 
 -- "Every end sets SSR and keeps RMR and NXM"; class 5 is NXM's
-unfoldable pub endedUnit : Unit → ℕ → Unit
-endedUnit u class =
+unfoldable pub ended : Unit → ℕ → Unit
+ended u class =
     withRegisters u
     (record {
       pointer = u .registers .pointer;
@@ -118,36 +96,31 @@ statusOf u ie mot =
     }
 
 -- "MOT (house): the end position differs from the start, or blocks were written."
-abbrev pub motionSeen : Effect → ℕ → Bool
-motionSeen x start = not (eqb start (x .unit .tape .position)) || not (eqb (laidBlocks (x .laid)) 0)
+abbrev pub motionSeen : ℕ → Ending → Bool
+motionSeen start x = not (eqb start (x .tape .position)) || not (eqb (laidBlocks (x .laid)) 0)
 
--- the state after an end that is told: the CPU owns the message buffer
-unfoldable pub toldUnit : Effect → Unit
-toldUnit x = withOwner (endedUnit (x .unit) (x .end .class)) false
+-- the state after an end that is told: the tape where it left it, and the CPU owns the message buffer
+unfoldable pub toldUnit : Unit → Ending → Unit
+toldUnit u x = withOwner (ended (withTape u (x .tape)) (x .end .class)) false
 
-unfoldable pub told : Effect → ℕ → Plan
-told x start =
+-- an end that is told, of a command that began in the state u: message if NBA is clear, interrupt if IE
+unfoldable pub told : Unit → Bool → Ending → Plan
+told u ie x =
     record {
-      answer = answer.Done (x .ie);
-      unit = toldUnit x;
+      answer = answer.Done ie;
+      unit = toldUnit u x;
       moved = x .moved;
       laid = x .laid;
-      sends = not (toldUnit x .registers .nba);
-      message = messageOf (x .end) (statusOf (toldUnit x) (x .ie) (motionSeen x start));
+      sends = not (toldUnit u x .registers .nba);
+      message = messageOf (x .end) (statusOf (toldUnit u x) ie (motionSeen (u .tape .position) x));
     }
 
-unfoldable pub silenced : Effect → Bool → Plan
-silenced x interrupts = still (endedUnit (x .unit) (x .end .class)) (answer.Done interrupts)
+-- an end that is not told: step 1 and "a release carried out, which sends none and keeps the owner", with no interrupt, and step 2,
+-- which interrupts if IE
+unfoldable pub untold : Unit → ℕ → Bool → Plan
+untold u class interrupts = still (ended u class) (answer.Done interrupts)
 
-unfoldable pub finishedBy : Effect → ℕ → Notice → Plan
-finishedBy x start notice.Message = told x start
-finishedBy x start notice.Interrupt = silenced x (x .ie)
-finishedBy x start notice.Nothing = silenced x false
-
-unfoldable pub finished : Effect → ℕ → Plan
-finished x start = finishedBy x start (x .notice)
-
--- "Each [refusal] returns its number and changes nothing; after 7 in advance the command still waits."
-unfoldable pub planned : Unit → Ran → Plan
-planned u (ran.Ended x) = finished x (u .tape .position)
-planned u (ran.Fault k) = still u (answer.BadBlock k)
+-- what a motion of the tape comes to; a block at fault refuses with 7, and a plan that is refused is not carried out
+unfoldable pub motionPlan : Unit → Bool → Motion → Plan
+motionPlan u ie (motion.Ended x) = told u ie x
+motionPlan u ie (motion.Fault k) = still u (answer.BadBlock k)
