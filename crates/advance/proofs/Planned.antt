@@ -1,6 +1,6 @@
 -- An advance from a legal state leaves one, and moves, lays and sends inside memory and reel.
-use mathlib.Core.Bool.{Bool}
 use mathlib.Core.List.{List}
+use mathlib.Core.Logic.{inl}
 use mathlib.Core.Path.{_≡_, refl}
 use Prim.Native.Nat.{ℕ, _*_}
 use lib.ListN.{length}
@@ -9,11 +9,9 @@ use Rattle.signals.specs.Codes.{commandOf}
 use Rattle.signals.specs.Message.{messageOf}
 use Rattle.state.specs.Legal.{Legal}
 use Rattle.state.specs.declared.Unit.{Unit}
-use Rattle.motions.specs.declared.parts.Ending.{Ending}
-use Rattle.commands.specs.Ends.{still, told, untold}
-use Rattle.commands.specs.declared.plans.Answer.{Answer}
+use Rattle.commands.specs.Ends.{ended, still, told, untold}
 use Rattle.commands.specs.declared.plans.Plan.{Plan}
-use Rattle.commands.proofs.Every.{every-carried}
+use Rattle.commands.proofs.Every.{Stands, Tells, every-carried}
 use Rattle.advance.specs.Steps.{advanced}
 use Rattle.advance.proofs.Carrying.{carried-sound}
 use Rattle.advance.proofs.Sound.{resting-fits, same-lengths, still-sound, told-sound, untold-sound}
@@ -22,17 +20,17 @@ pub use Rattle.advance.proofs.Sound.{SoundPlan}
 
 module _ (u : Unit) (m s : List ℕ) where
   -- what holds of every end that is told and of every plan that stores nothing holds of an advance
-  pub every-advanced : (P : Plan → Type 0) → ((v : Unit) (ie : Bool) (x : Ending) → P (told v ie x)) → ((v : Unit) (a : Answer) → P (still v a)) → P (advanced u m s)
-  unfolding untold
+  pub every-advanced : (P : Plan → Type 0) → Tells (u .characteristics) (length m) P → Stands (u .characteristics) (length m) P → P (advanced u m s)
+  unfolding untold ended
   every-advanced P tells stands =
-      advanced-all u m s P (λ v a ie x h. tells v ie _) (λ v a class i h. stands _ _)
-      (λ v a h p f d. every-carried P tells stands v m s h p (commandOf (h .code) (h .mode)))
-      (stands u _)
+      advanced-all u m s P (λ v a ie x h. tells v (inl (a .characteristics)) ie _) (λ v a class i h. stands _ (inl (a .characteristics)) _)
+      (λ v a h p f d. every-carried v m P (λ w b ie x. tells w (rw (a .characteristics) at b) ie x) (λ w b x. stands w (rw (a .characteristics) at b) x) s h p (commandOf (h .code) (h .mode)))
+      (stands u (inl refl) _)
 
   -- a message has seven words, whether it goes out or not
   pub advanced-seven : length (advanced u m s .message) ≡ 7
   unfolding told still messageOf
-  advanced-seven = every-advanced (λ p. length (p .message) ≡ 7) (λ v ie x. refl) (λ v a. refl)
+  advanced-seven = every-advanced (λ p. length (p .message) ≡ 7) (λ v b ie x. refl) (λ v b a. refl)
 
   module _ (l : Legal u) (e : length m ≡ u .lengths .memory) where
     sound-rejects : Rejects u (SoundPlan u)

@@ -7,8 +7,6 @@ pub mod Stays
 pub mod Calls
 pub mod Room
 pub mod Mounting
-pub mod Walk
-pub mod Buffers
 pub mod Advancing
 pub mod Formed
 pub mod Unique
