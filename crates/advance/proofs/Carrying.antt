@@ -1,4 +1,4 @@
--- Every command that is carried out keeps what an effect has to keep.
+-- Every command that is carried out keeps what a plan has to keep.
 use mathlib.Core.Bool.{Bool, true, false, _||_, true≢false}
 use mathlib.Core.List.{List}
 use mathlib.Core.Path.{_≡_, refl}
@@ -6,21 +6,21 @@ use Prim.Native.Nat.{ℕ, _+_, _≤_}
 use native.Mathlib.Omega.{arith}
 use lib.Dec.{leb, ltb}
 use lib.ListN.{length}
-use Rattle.lists.specs.Pick.{pick}
 use Rattle.lists.proofs.Cases.{pick-told}
+use Rattle.signals.specs.Numbers.{pointerLimit}
 use Rattle.signals.specs.declared.codes.Command.{Command}
 use Rattle.signals.specs.declared.codes.Command.the-variants as command
+use Rattle.signals.specs.declared.message.End.{End}
 use Rattle.signals.specs.declared.packet.Header.{Header}
 use Rattle.signals.specs.declared.packet.Packet.{Packet}
 use Rattle.signals.specs.declared.counts.Residual.the-variants as residual
-use Rattle.state.specs.Checks.{bufferWrong, pointerLimit}
+use Rattle.state.specs.Checks.{bufferWrong, lastClass}
 use Rattle.state.specs.Legal.{BufferFits, Legal}
 use Rattle.state.specs.declared.Characteristics.{Characteristics}
 use Rattle.state.specs.declared.Unit.{Unit as State}
 use Rattle.state.proofs.Legal.{buffer-right, legal-panel, legal-with}
 use Rattle.state.proofs.Tests.{either, neither}
-use Rattle.motions.specs.Parts.{end, standing}
-use Rattle.motions.specs.Writes.{retried, writtenAt}
+use Rattle.motions.specs.Parts.{end, resting, standing}
 use Rattle.motions.specs.declared.parts.Laid.{Laid}
 use Rattle.motions.specs.declared.parts.Motion.the-variants as motion
 use Rattle.motions.specs.declared.parts.Ending.{Ending}
@@ -28,11 +28,10 @@ use Rattle.motions.specs.declared.parts.ObjectKind.{ObjectKind}
 use Rattle.motions.specs.declared.parts.ObjectKind.the-variants as kind
 use Rattle.motions.specs.declared.reads.Buffer.{Buffer}
 use Rattle.motions.proofs.Fit.{ReadFits, SpaceFits, WriteFits, read-one-fits, reread-fits, retry-fits, space-fits, write-fits}
-use Rattle.commands.specs.Commands.{asked, carriedOut, characteristicsAt, characterized, formatted, laidHere, plainEffect, plainEnd, positionedBy, readBy, refusedCharacteristics, released, rereadBy, rewound, takenCharacteristics, unloaded, withCharacteristics, withNba, writtenBy}
-use Rattle.commands.specs.Effects.{withTape}
-use Rattle.commands.specs.declared.effects.Notice.the-variants as notice
+use Rattle.commands.specs.Commands.{asked, carriedOut, characteristicsAt, characterized, formatted, laidHere, laying, plainEffect, plainEnd, positionedBy, readBy, refusedCharacteristics, released, rereadBy, rewound, takenCharacteristics, unloaded, withCharacteristics, withNba, writtenBy}
+use Rattle.commands.specs.Ends.{told}
 use Rattle.advance.proofs.Extents.{hasData}
-use Rattle.advance.proofs.Sound.{EndingFits, SoundRan, effect-sound, motion-sound, no-lay-fits, no-move-fits}
+use Rattle.advance.proofs.Sound.{EndingFits, SoundPlan, motion-sound, no-lay-fits, no-move-fits, resting-fits, told-sound, untold-sound}
 
 module _ (u : State) (l : Legal u) where
   -- a Read inside the recorded end is inside the reel
@@ -67,89 +66,89 @@ module _ (u : State) (l : Legal u) where
       }
 
   module _ (s : List ℕ) (h : Header) (p : Packet) where
-    read-sound : (reverse : Bool) → p .pointer + p .count ≤ u .lengths .memory → SoundRan u (readBy u s h p reverse)
+    read-sound : (reverse : Bool) → p .pointer + p .count ≤ u .lengths .memory → SoundPlan u (readBy u s h p reverse)
     unfolding readBy
     read-sound reverse k =
-        motion-sound u l _ (h .ie) (λ x y. read-moves (asked h p) k x (read-one-fits s (u .tape) (l .place) (asked h p) reverse y))
+        motion-sound u l (h .ie) _ (λ x y. read-moves (asked h p) k x (read-one-fits s (u .tape) (l .place) (asked h p) reverse y))
 
-    reread-sound : (reverse : Bool) → p .pointer + p .count ≤ u .lengths .memory → SoundRan u (rereadBy u s h p reverse)
+    reread-sound : (reverse : Bool) → p .pointer + p .count ≤ u .lengths .memory → SoundPlan u (rereadBy u s h p reverse)
     unfolding rereadBy
     reread-sound reverse k =
-        motion-sound u l _ (h .ie) (λ x y. read-moves (asked h p) k x (reread-fits s (u .tape) (l .place) (asked h p) reverse (h .opp) y))
+        motion-sound u l (h .ie) _ (λ x y. read-moves (asked h p) k x (reread-fits s (u .tape) (l .place) (asked h p) reverse (h .opp) y))
 
-    position-sound : (reverse marks : Bool) → SoundRan u (positionedBy u s h p reverse marks)
+    position-sound : (reverse marks : Bool) → SoundPlan u (positionedBy u s h p reverse marks)
     unfolding positionedBy
     position-sound reverse marks =
-        motion-sound u l _ (h .ie) (λ x y. space-moves x (space-fits s (u .tape) (l .place) _ (p .count) (u .characteristics .enb) y))
+        motion-sound u l (h .ie) _ (λ x y. space-moves x (space-fits s (u .tape) (l .place) _ (p .count) (u .characteristics .enb) y))
 
   -- a write, or a retry
-  lay-moves : (s : List ℕ) (n : Laid) (mark again : Bool) → n .pointer + n .length ≤ u .lengths .memory → (x : Ending) → pick again (retried s (u .tape) (u .lengths .blocks) n mark) (writtenAt (u .tape) (u .lengths .blocks) n mark) ≡ motion.Ended x → EndingFits (u .lengths) x
+  lay-moves : (s : List ℕ) (n : Laid) (mark again : Bool) → n .pointer + n .length ≤ u .lengths .memory → (x : Ending) → laying s (u .tape) (u .lengths .blocks) n mark again ≡ motion.Ended x → EndingFits (u .lengths) x
   lay-moves s n mark true k x y = write-moves n k x (retry-fits (u .tape) (u .lengths .blocks) (l .place) (l .capacity) n mark s y)
   lay-moves s n mark false k x y = write-moves n k x (write-fits (u .tape) (u .lengths .blocks) (l .place) (l .capacity) n mark y)
 
-  write-sound : (s : List ℕ) (h : Header) (p : Packet) (again : Bool) → p .pointer + p .count ≤ u .lengths .memory → SoundRan u (writtenBy u s h p again)
+  write-sound : (s : List ℕ) (h : Header) (p : Packet) (again : Bool) → p .pointer + p .count ≤ u .lengths .memory → SoundPlan u (writtenBy u s h p again)
   unfolding writtenBy
   write-sound s h p again k =
-      motion-sound u l _ (h .ie) (lay-moves s (laidHere u kind.Record (p .pointer) (p .count) (h .swb)) false again k)
+      motion-sound u l (h .ie) _ (lay-moves s (laidHere (u .tape) kind.Record (p .pointer) (p .count) (h .swb)) false again k)
 
-  format-sound : (s : List ℕ) (h : Header) (o : ObjectKind) (mark again : Bool) → SoundRan u (formatted u s h o mark again)
+  format-sound : (s : List ℕ) (h : Header) (o : ObjectKind) (mark again : Bool) → SoundPlan u (formatted u s h o mark again)
   unfolding formatted
   format-sound s h o mark again =
-      motion-sound u l _ (h .ie) (lay-moves s (laidHere u o 0 0 false) mark again (omega arith))
+      motion-sound u l (h .ie) _ (lay-moves s (laidHere (u .tape) o 0 0 false) mark again (omega arith))
 
   module _ (ie : Bool) where
-    plain-sound : SoundRan u (plainEffect u ie)
-    unfolding plainEffect
-    plain-sound = effect-sound u l plainEnd notice.Message ie (omega arith)
+    -- an end where the tape stands, in a state with the same lengths
+    stands-sound : (v : State) → Legal v → (x : End) → x .class ≤ lastClass → SoundPlan v (told v ie (resting x (v .tape)))
+    stands-sound v k x h = told-sound v k ie _ (resting-fits (v .lengths) x (v .tape) (k .place) (k .capacity) h)
 
-    release-sound : SoundRan u (released u ie)
+    plain-sound : SoundPlan u (plainEffect u ie)
+    unfolding plainEffect
+    plain-sound = stands-sound u l plainEnd (omega arith)
+
+    release-sound : SoundPlan u (released u ie)
     unfolding released
-    release-sound = effect-sound _ (legal-panel u _ _ l) plainEnd notice.Nothing ie (omega arith)
+    release-sound = untold-sound _ (legal-panel u _ _ l) 0 false (omega arith)
 
     -- at block 0
-    legal-rewound : Legal (withTape u (standing 0 (u .tape .end)))
-    legal-rewound = legal-with u _ l refl (omega arith) (l .capacity) (l .pointer) (l .class) (l .buffer)
+    rewinds : (v : State) → Legal v → SoundPlan v (told v ie (resting plainEnd (standing 0 (v .tape .end))))
+    rewinds v k = told-sound v k ie _ (resting-fits (v .lengths) plainEnd (standing 0 (v .tape .end)) (omega arith) (k .capacity) (omega arith))
 
-    rewind-sound : SoundRan u (rewound u ie)
+    rewind-sound : SoundPlan u (rewound u ie)
     unfolding rewound
-    rewind-sound = effect-sound _ legal-rewound plainEnd notice.Message ie (omega arith)
+    rewind-sound = rewinds u l
 
-    unload-sound : SoundRan u (unloaded u ie)
+    unload-sound : SoundPlan u (unloaded u ie)
     unfolding unloaded
-    unload-sound = effect-sound _ (legal-panel _ _ _ legal-rewound) plainEnd notice.Message ie (omega arith)
+    unload-sound = rewinds _ (legal-panel u _ _ l)
 
     -- no buffer is named
-    refused-sound : SoundRan u (refusedCharacteristics u ie)
+    refused-sound : SoundPlan u (refusedCharacteristics u ie)
     unfolding refusedCharacteristics
     refused-sound =
-        effect-sound (withNba u true)
+        stands-sound (withNba u true)
         (legal-with u (withNba u true) l refl (l .place) (l .capacity) (l .pointer) (l .class) (λ e. absurd (true≢false e)))
         (end 3 0 0 residual.Nothing)
-        notice.Message
-        ie
         (omega arith)
 
-    taken-sound : (c : Characteristics) → BufferFits c (u .lengths .memory) → SoundRan u (takenCharacteristics u c ie)
+    taken-sound : (c : Characteristics) → BufferFits c (u .lengths .memory) → SoundPlan u (takenCharacteristics u c ie)
     unfolding takenCharacteristics
     taken-sound c f =
-        effect-sound (withCharacteristics (withNba u false) c)
+        stands-sound (withCharacteristics (withNba u false) c)
         (legal-with u (withCharacteristics (withNba u false) c) l refl (l .place) (l .capacity) (l .pointer) (l .class) (λ e. f))
         plainEnd
-        notice.Message
-        ie
         (omega arith)
 
-    characterize-sound : (m : List ℕ) (p : Packet) → length m ≡ u .lengths .memory → SoundRan u (characterized u m p ie)
+    characterize-sound : (m : List ℕ) (p : Packet) → length m ≡ u .lengths .memory → SoundPlan u (characterized u m p ie)
     unfolding characterized
     characterize-sound m p e =
         let c = characteristicsAt m p in
-        either (SoundRan u) (ltb (p .count) 6) _ _ refused-sound
-        (pick-told (SoundRan u) (leb pointerLimit (c .address) || bufferWrong c (length m)) _ _
+        either (SoundPlan u) (ltb (p .count) 6) _ _ refused-sound
+        (pick-told (SoundPlan u) (leb pointerLimit (c .address) || bufferWrong c (length m)) _ _
         (λ t. refused-sound)
         (λ t. taken-sound c (rw (← e) (buffer-right c (length m) (neither (leb pointerLimit (c .address)) (bufferWrong c (length m)) t .1)))))
 
 -- the data of a command that has any lie inside memory
-pub carried-sound : (u : State) → Legal u → (m s : List ℕ) (h : Header) (p : Packet) → length m ≡ u .lengths .memory → (c : Command) → (hasData c ≡ true → p .pointer + p .count ≤ u .lengths .memory) → SoundRan u (carriedOut u m s h p c)
+pub carried-sound : (u : State) → Legal u → (m s : List ℕ) (h : Header) (p : Packet) → length m ≡ u .lengths .memory → (c : Command) → (hasData c ≡ true → p .pointer + p .count ≤ u .lengths .memory) → SoundPlan u (carriedOut u m s h p c)
 unfolding carriedOut
 carried-sound u l m s h p e command.ReadNext k = read-sound u l s h p false (k refl)
 carried-sound u l m s h p e command.ReadPrevious k = read-sound u l s h p true (k refl)

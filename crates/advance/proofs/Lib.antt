@@ -1,6 +1,6 @@
 -- The laws of advance.
 pub mod Extents
+pub mod Walk
 pub mod Sound
 pub mod Carrying
-pub mod Stepping
-pub mod Kept
+pub mod Planned

@@ -1,7 +1,7 @@
--- What every effect keeps: the mount's lengths and the command's pointer, a tape inside its recorded end and the reel, a message buffer
--- inside memory, and what is moved and laid inside both.
-use mathlib.Core.Bool.{Bool, false}
-use mathlib.Core.Path.{_≡_, refl}
+-- What every plan keeps: a legal state with the mount's lengths, a message buffer inside memory, and what is moved and laid inside memory
+-- and reel.
+use mathlib.Core.Bool.{Bool, true, true≢false}
+use mathlib.Core.Path.{_≡_, refl, sym}
 use Prim.Native.Nat.{ℕ, _+_, _*_, _≤_}
 use native.Mathlib.Omega.{arith}
 use Rattle.tape.specs.Numbers.{blockBytes, piecesOf}
@@ -9,18 +9,18 @@ use Rattle.signals.specs.declared.message.End.{End}
 use Rattle.state.specs.Checks.{lastClass}
 use Rattle.state.specs.Legal.{BufferFits, Legal}
 use Rattle.state.specs.declared.Lengths.{Lengths}
-use Rattle.state.specs.declared.Unit.{Unit as State}
-use Rattle.motions.specs.Parts.{laidBlocks, noLay, noMove, objectBlocks}
+use Rattle.state.specs.declared.Tape.{Tape}
+use Rattle.state.specs.declared.Unit.{Unit}
+use Rattle.motions.specs.Parts.{laidBlocks, noLay, noMove, objectBlocks, resting}
+use Rattle.motions.specs.declared.parts.Ending.{Ending}
 use Rattle.motions.specs.declared.parts.Laid.{Laid}
 use Rattle.motions.specs.declared.parts.Motion.{Motion}
 use Rattle.motions.specs.declared.parts.Motion.the-variants as motion
 use Rattle.motions.specs.declared.parts.Moved.{Moved}
-use Rattle.motions.specs.declared.parts.Ending.{Ending}
-use Rattle.commands.specs.Effects.{effectOf, motionEffect}
-use Rattle.commands.specs.declared.effects.Effect.{Effect}
-use Rattle.commands.specs.declared.effects.Notice.{Notice}
-use Rattle.commands.specs.declared.effects.Ran.{Ran}
-use Rattle.commands.specs.declared.effects.Ran.the-variants as ran
+use Rattle.commands.specs.Ends.{motionPlan, still, told, untold}
+use Rattle.commands.specs.declared.plans.Answer.{Answer}
+use Rattle.commands.specs.declared.plans.Plan.{Plan}
+use Rattle.commands.proofs.Told.{ends-legal, motion-either, told-ends, told-sends, untold-ends}
 
 -- what is moved comes from the reel and goes to memory
 pub record MoveFits (n : Lengths) (x : Moved) : Type 0 where
@@ -39,42 +39,7 @@ pub no-lay-fits : (n : Lengths) → LayFits n noLay
 unfolding laidBlocks objectBlocks
 no-lay-fits n = record { room = omega arith; source = omega arith }
 
--- on a mount with lengths n, the command fetched at `pointer`
-pub record SoundEffect (n : Lengths) (pointer : ℕ) (x : Effect) : Type 0 where
-  pub lengths : x .unit .lengths ≡ n
-  pub place : x .unit .tape .position ≤ x .unit .tape .end
-  pub capacity : x .unit .tape .end ≤ n .blocks
-  pub pointer-kept : x .unit .registers .pointer ≡ pointer
-  pub buffer : x .unit .registers .nba ≡ false → BufferFits (x .unit .characteristics) (n .memory)
-  pub class : x .end .class ≤ lastClass
-  pub moved : MoveFits n (x .moved)
-  pub laid : LayFits n (x .laid)
-
--- a run; a fault changes nothing
-abbrev SoundOn : Lengths → ℕ → Ran → Type 0
-SoundOn n pointer (ran.Ended x) = SoundEffect n pointer x
-SoundOn n pointer (ran.Fault k) = Unit {0}
-
--- a run from the state u; switches and attention are no part of it
-abbrev pub SoundRan : State → Ran → Type 0
-SoundRan u r = SoundOn (u .lengths) (u .registers .pointer) r
-
--- an end that moves and lays nothing
-pub effect-sound : (u : State) → Legal u → (x : End) (told : Notice) (ie : Bool) → x .class ≤ lastClass → SoundRan u (ran.Ended (effectOf u x told ie))
-unfolding effectOf
-effect-sound u l x told ie h =
-    record {
-      lengths = refl;
-      place = l .place;
-      capacity = l .capacity;
-      pointer-kept = refl;
-      buffer = l .buffer;
-      class = h;
-      moved = no-move-fits (u .lengths);
-      laid = no-lay-fits (u .lengths);
-    }
-
--- a motion that ended
+-- an end of a command, on a mount with lengths n
 pub record EndingFits (n : Lengths) (x : Ending) : Type 0 where
   pub place : x .tape .position ≤ x .tape .end
   pub capacity : x .tape .end ≤ n .blocks
@@ -82,18 +47,60 @@ pub record EndingFits (n : Lengths) (x : Ending) : Type 0 where
   pub moved : MoveFits n (x .moved)
   pub laid : LayFits n (x .laid)
 
-pub motion-sound : (u : State) → Legal u → (y : Motion) (ie : Bool) → ((x : Ending) → y ≡ motion.Ended x → EndingFits (u .lengths) x) → SoundRan u (motionEffect u y ie)
-unfolding motionEffect
-motion-sound u l (motion.Ended x) ie f =
-    let h = f x refl in
-    record {
-      lengths = refl;
-      place = h .place;
-      capacity = h .capacity;
-      pointer-kept = refl;
-      buffer = l .buffer;
-      class = h .class;
-      moved = h .moved;
-      laid = h .laid;
-    }
-motion-sound u l (motion.Fault k) ie f = tt
+pub resting-fits : (n : Lengths) (x : End) (t : Tape) → t .position ≤ t .end → t .end ≤ n .blocks → x .class ≤ lastClass → EndingFits n (resting x t)
+resting-fits n x t place capacity h =
+    record { place = place; capacity = capacity; class = h; moved = no-move-fits n; laid = no-lay-fits n }
+
+-- a plan made on a mount with lengths n
+pub record SoundOn (n : Lengths) (p : Plan) : Type 0 where
+  pub legal : Legal (p .unit)
+  pub lengths : p .unit .lengths ≡ n
+  pub moved : MoveFits n (p .moved)
+  pub laid : LayFits n (p .laid)
+  pub message : p .sends ≡ true → BufferFits (p .unit .characteristics) (n .memory)
+
+-- a plan made in the state u, of which the lengths alone count
+abbrev pub SoundPlan : Unit → Plan → Type 0
+SoundPlan u p = SoundOn (u .lengths) p
+
+pub same-lengths : {n n′ : Lengths} {p : Plan} → n ≡ n′ → SoundOn n p → SoundOn n′ p
+same-lengths e f = rw e at f
+
+module _ (u : Unit) (l : Legal u) where
+  pub still-sound : (a : Answer) → SoundPlan u (still u a)
+  unfolding still
+  still-sound a =
+      record {
+        legal = l;
+        lengths = refl;
+        moved = no-move-fits (u .lengths);
+        laid = no-lay-fits (u .lengths);
+        message = λ e. absurd (true≢false (sym e));
+      }
+
+  pub untold-sound : (class : ℕ) (interrupts : Bool) → class ≤ lastClass → SoundPlan u (untold u class interrupts)
+  unfolding untold still
+  untold-sound class interrupts h =
+      let v = untold-ends u class interrupts in
+      record {
+        legal = ends-legal u l v (l .place) (l .capacity) h;
+        lengths = v .lengths;
+        moved = no-move-fits (u .lengths);
+        laid = no-lay-fits (u .lengths);
+        message = λ e. absurd (true≢false (sym e));
+      }
+
+  pub told-sound : (ie : Bool) (x : Ending) → EndingFits (u .lengths) x → SoundPlan u (told u ie x)
+  unfolding told
+  told-sound ie x f =
+      let v = told-ends u ie x in
+      record {
+        legal = ends-legal u l v (f .place) (f .capacity) (f .class);
+        lengths = v .lengths;
+        moved = f .moved;
+        laid = f .laid;
+        message = λ e. rw (v .characteristics) (l .buffer (told-sends u ie x e));
+      }
+
+  pub motion-sound : (ie : Bool) (y : Motion) → ((x : Ending) → y ≡ motion.Ended x → EndingFits (u .lengths) x) → SoundPlan u (motionPlan u ie y)
+  motion-sound ie y f = motion-either u ie (SoundPlan u) y (λ x e. told-sound ie x (f x e)) (λ k e. still-sound _)

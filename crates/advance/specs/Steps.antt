@@ -1,4 +1,16 @@
--- "Advance, in order" (01): a definition for each step, last step first, so that each names the next.
+-- "Advance, in order" (01): a definition for each step. They stand last step first, so that each names the next; `advanced` is the whole.
+--
+--    1  header word outside memory                                  stepHeader       here
+--    2  ACK gives the message buffer to the unit                    stepOwner        here
+--    3  attention pending and the unit owns the buffer              stepAttention    here
+--    4  CVC clears VCK                                              stepVolume       here
+--    5  unknown code or mode                                        stepIllegal      here, with Rules
+--    6  NBA set and not Write Characteristics                       stepNoBuffer     here
+--    7  the words the command uses, outside memory                  stepFetch        here
+--    8  pointer bits above A17, or odd in Write Characteristics     stepPointer      here
+--    9  tape command off line or with VCK; lock; block 0; length    stepExecutable   here, with Rules
+--   10  data extent past the end of memory                          stepExtent       here, with Rules
+--   11  object doesn't fit the reel                                 noRoom           motions/specs/Writes.antt
 use mathlib.Core.Bool.{Bool, false, _||_, _&&_, not}
 use mathlib.Core.List.{List}
 use Prim.Native.Nat.{ℕ, _+_, _*_, _%_}
@@ -14,30 +26,26 @@ use Rattle.signals.specs.declared.packet.Packet.{Packet}
 use Rattle.signals.specs.declared.counts.Residual.{Residual}
 use Rattle.signals.specs.declared.counts.Residual.the-variants as residual
 use Rattle.state.specs.declared.Unit.{Unit}
-use Rattle.motions.specs.Parts.{end}
-use Rattle.commands.specs.Effects.{effectOf, planned, still, withAttention, withOwner, withPanel}
+use Rattle.motions.specs.Parts.{end, resting}
+use Rattle.commands.specs.Ends.{still, told, untold, withAttention, withOwner, withPanel}
 use Rattle.commands.specs.Commands.{carriedOut}
 use Rattle.advance.specs.Rules.{hasExtent, isIllegal, isTape, notExecutable, wholeCount, writes}
 use Rattle.commands.specs.declared.plans.Answer.the-variants as answer
 use Rattle.commands.specs.declared.plans.Plan.{Plan}
-use Rattle.commands.specs.declared.effects.Notice.the-variants as notice
-use Rattle.commands.specs.declared.effects.Ran.{Ran}
-use Rattle.commands.specs.declared.effects.Ran.the-variants as ran
 
 -- an end before the command is carried out: the tape stays
-unfoldable pub rejected : Unit → Bool → ℕ → ℕ → Residual → Ran
-rejected u ie class found left = ran.Ended (effectOf u (end class found 0 left) notice.Message ie)
+unfoldable pub rejected : Unit → Bool → ℕ → ℕ → Residual → Plan
+rejected u ie class found left = told u ie (resting (end class found 0 left) (u .tape))
 
 -- "10. Codes 1, 4, 5: data extent, pointer plus whole count, ends past the end of memory: NXM, class 5, tape unmoved."
--- (11 stands with the writes.)
-unfoldable pub stepExtent : Unit → List ℕ → List ℕ → Header → Packet → Ran
+unfoldable pub stepExtent : Unit → List ℕ → List ℕ → Header → Packet → Plan
 stepExtent u m s h p =
     pick (hasExtent h && ltb (length m) (p .pointer + p .count)) (rejected u (h .ie) 5 0 (wholeCount h (p .count)))
     (carriedOut u m s h p (commandOf (h .code) (h .mode)))
 
 -- "9. Tape command off line or with VCK: NEF, class 3. Then in this order, class 3 each: Write or Format under write lock, NEF and
 -- WLE; reverse first stage at block 0 (not a rewind), NEF; a written length out of range, NEF."
-unfoldable pub stepExecutable : Unit → List ℕ → List ℕ → Header → Packet → Ran
+unfoldable pub stepExecutable : Unit → List ℕ → List ℕ → Header → Packet → Plan
 stepExecutable u m s h p =
     pick (isTape h && (not (u .panel .online) || u .panel .vck)) (rejected u (h .ie) 3 NEF (wholeCount h (p .count)))
     (pick (writes h && u .panel .locked) (rejected u (h .ie) 3 (NEF + WLE) (wholeCount h (p .count)))
@@ -45,30 +53,30 @@ stepExecutable u m s h p =
     (stepExtent u m s h p)))
 
 -- "8. Pointer bits above A17, or odd pointer in Write Characteristics: ILA, class 3."
-unfoldable pub stepPointer : Unit → List ℕ → List ℕ → Header → Packet → Ran
+unfoldable pub stepPointer : Unit → List ℕ → List ℕ → Header → Packet → Plan
 stepPointer u m s h p =
     pick (p .high || (eqb (h .code) 4 && eqb (p .pointer % 2) 1)) (rejected u (h .ie) 3 ILA (wholeCount h (p .count)))
     (stepExecutable u m s h p)
 
 -- "7. (House) The unit fetches the words the command uses .. Outside memory: NXM, class 5."
-unfoldable pub stepFetch : Unit → List ℕ → List ℕ → Header → Ran
+unfoldable pub stepFetch : Unit → List ℕ → List ℕ → Header → Plan
 stepFetch u m s h =
     pick (ltb (length m) (u .registers .pointer + 2 * wordsOf (h .code))) (rejected u (h .ie) 5 0 residual.Nothing)
     (stepPointer u m s h (packetOf m (u .registers .pointer) (h .code)))
 
 -- "6. NBA set and not Write Characteristics: class 3."
-unfoldable pub stepNoBuffer : Unit → List ℕ → List ℕ → Header → Ran
+unfoldable pub stepNoBuffer : Unit → List ℕ → List ℕ → Header → Plan
 stepNoBuffer u m s h =
     pick (u .registers .nba && not (eqb (h .code) 4)) (rejected u (h .ie) 3 0 residual.Nothing) (stepFetch u m s h)
 
 -- "5. Bits 7:5 neither 000 nor 100, or unknown code or mode: ILC, class 3."
-unfoldable pub stepIllegal : Unit → List ℕ → List ℕ → Header → Ran
+unfoldable pub stepIllegal : Unit → List ℕ → List ℕ → Header → Plan
 stepIllegal u m s h =
     pick (not (h .plain) || isIllegal (commandOf (h .code) (h .mode))) (rejected u (h .ie) 3 ILC residual.Nothing)
     (stepNoBuffer u m s h)
 
 -- "4. CVC (14) clears VCK."
-unfoldable pub stepVolume : Unit → List ℕ → List ℕ → Header → Ran
+unfoldable pub stepVolume : Unit → List ℕ → List ℕ → Header → Plan
 stepVolume u m s h =
     stepIllegal
     (withPanel u (record { online = u .panel .online; locked = u .panel .locked; vck = u .panel .vck && not (h .cvc) }))
@@ -77,7 +85,7 @@ stepVolume u m s h =
     h
 
 -- "class 1, ATTN message, command lost .. Then none is pending, even where NBA held the message back."
-unfoldable pub attended : Unit → Bool → Ran
+unfoldable pub attended : Unit → Bool → Plan
 attended u ie =
     rejected
     (withAttention u
@@ -88,21 +96,19 @@ attended u ie =
     residual.Nothing
 
 -- "3. Attention pending and the unit owns the buffer"
-unfoldable pub stepAttention : Unit → List ℕ → List ℕ → Header → Ran
+unfoldable pub stepAttention : Unit → List ℕ → List ℕ → Header → Plan
 stepAttention u m s h = pick (u .attention .pending) (attended u (h .ie)) (stepVolume u m s h)
 
 -- "2. ACK (15) gives the message buffer to the unit. No ACK while the CPU owns it: SSR set, class 0, no message, the command isn't run."
-unfoldable pub stepOwner : Unit → List ℕ → List ℕ → Header → Ran
+unfoldable pub stepOwner : Unit → List ℕ → List ℕ → Header → Plan
 stepOwner u m s h =
     pick (u .attention .«unit_owns» || h .ack) (stepAttention (withOwner u (u .attention .«unit_owns» || h .ack)) m s h)
-    (ran.Ended
-    (effectOf (withOwner u (u .attention .«unit_owns» || h .ack)) (end 0 0 0 residual.Nothing) notice.Interrupt (h .ie)))
+    (untold (withOwner u (u .attention .«unit_owns» || h .ack)) 0 (h .ie))
 
 -- "1. Header word outside memory: NXM, class 5, no message, no interrupt, the message buffer's owner kept."
-unfoldable pub stepHeader : Unit → List ℕ → List ℕ → Ran
+unfoldable pub stepHeader : Unit → List ℕ → List ℕ → Plan
 stepHeader u m s =
-    pick (ltb (length m) (u .registers .pointer + 2))
-    (ran.Ended (effectOf u (end 5 0 0 residual.Nothing) notice.Nothing false))
+    pick (ltb (length m) (u .registers .pointer + 2)) (untold u 5 false)
     (stepOwner u m s (headerOf (wordAt m (u .registers .pointer))))
 
 -- "A command waits .. exactly while SSR is clear." "Advance with no command waiting and no attention to send answers Idle"; "Idle advance
@@ -110,7 +116,5 @@ stepHeader u m s =
 unfoldable pub advanced : Unit → List ℕ → List ℕ → Plan
 advanced u m s =
     pick (u .registers .ssr)
-    (pick (u .attention .pending && u .attention .«unit_owns»)
-    (planned u (attended u (u .attention .«release_ie»)))
-    (still u answer.Idle))
-    (planned u (stepHeader u m s))
+    (pick (u .attention .pending && u .attention .«unit_owns») (attended u (u .attention .«release_ie»)) (still u answer.Idle))
+    (stepHeader u m s)

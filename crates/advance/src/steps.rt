@@ -1,13 +1,12 @@
 // Advance, in order: a function for each step of the paper, each going on to the next.
 use commands::Answer;
-use commands::Notice;
 use commands::Plan;
-use commands::Ran;
 use commands::carry_out;
-use commands::effect_of;
-use commands::plan_of;
 use commands::still_plan;
+use commands::tell;
+use commands::untell;
 use lists::word;
+use motions::rest;
 use signals::ByteCount;
 use signals::Command;
 use signals::End;
@@ -20,11 +19,13 @@ use state::Unit;
 use tape::Geometry;
 ghost use mathlib.Core.Path.{_≡_};
 ghost use Prim.Native.Nat.{_<_, _≤_};
+ghost use Rattle.tape.specs.Numbers.{capacityLimit};
+ghost use Rattle.signals.specs.Numbers.{pointerLimit};
 ghost use Rattle.advance.specs.Rules.{hasExtent, isIllegal, isTape, lengthWrong, notExecutable, reverseFirst, wholeCount, writes};
 ghost use Rattle.advance.specs.Steps.{advanced, attended, rejected, stepAttention, stepExecutable, stepExtent, stepFetch, stepHeader, stepIllegal, stepNoBuffer, stepOwner, stepPointer, stepVolume};
 
 // What a rejected command says: class 3, or 5 with NXM.
-fn reject(u: Unit, ie: bool, class: usize, found: u8, residual: Residual) -> Ran
+fn reject(u: Unit, ie: bool, class: usize, found: u16, residual: Residual) -> Plan
     ensures { λ r. ⌜ r ≡ rejected u ie class found residual ⌝ }
 {
     let end = End {
@@ -33,7 +34,8 @@ fn reject(u: Unit, ie: bool, class: usize, found: u8, residual: Residual) -> Ran
         xst3: 0,
         residual,
     };
-    Ran::Ended(effect_of(u, end, Notice::Message, ie))
+    let t = u.tape;
+    tell(u, ie, rest(end, t))
 }
 
 // The whole count: bytes for Read, records or marks for Position modes 0 to 3, else 0.
@@ -116,8 +118,8 @@ fn is_illegal(c: Command) -> bool
 }
 
 // 10. Data extent past the end of memory: NXM, class 5.
-fn step_extent(u: Unit, mem: &[u8], reel: &[u8], h: Header, p: Packet) -> Ran
-    requires { ⌜ (u .tape .end ≤ 65536) × (p .pointer < 262144) ⌝ }
+fn step_extent(u: Unit, mem: &[u8], reel: &[u8], h: Header, p: Packet) -> Plan
+    requires { ⌜ (u .tape .end ≤ capacityLimit) × (p .pointer < pointerLimit) ⌝ }
     ensures { λ r. ⌜ r ≡ stepExtent u (now (mem .entry)) (now (reel .entry)) h p ⌝ }
 {
     if has_extent(h) & (mem.len() < p.pointer + p.count as usize) {
@@ -134,8 +136,8 @@ fn not_executable(u: Unit, h: Header, p: Packet) -> bool
 }
 
 // 9. Off line or VCK: NEF. Write lock: NEF and WLE. Reverse at block 0, a written length out of range: NEF.
-fn step_executable(u: Unit, mem: &[u8], reel: &[u8], h: Header, p: Packet) -> Ran
-    requires { ⌜ (u .tape .end ≤ 65536) × (p .pointer < 262144) ⌝ }
+fn step_executable(u: Unit, mem: &[u8], reel: &[u8], h: Header, p: Packet) -> Plan
+    requires { ⌜ (u .tape .end ≤ capacityLimit) × (p .pointer < pointerLimit) ⌝ }
     ensures { λ r. ⌜ r ≡ stepExecutable u (now (mem .entry)) (now (reel .entry)) h p ⌝ }
 {
     if is_tape(h) & ((!u.panel.online) | u.panel.vck) {
@@ -157,8 +159,8 @@ fn step_executable(u: Unit, mem: &[u8], reel: &[u8], h: Header, p: Packet) -> Ra
 }
 
 // 8. Pointer bits above A17, or odd pointer in Write Characteristics: ILA, class 3.
-fn step_pointer(u: Unit, mem: &[u8], reel: &[u8], h: Header, p: Packet) -> Ran
-    requires { ⌜ (u .tape .end ≤ 65536) × (p .pointer < 262144) ⌝ }
+fn step_pointer(u: Unit, mem: &[u8], reel: &[u8], h: Header, p: Packet) -> Plan
+    requires { ⌜ (u .tape .end ≤ capacityLimit) × (p .pointer < pointerLimit) ⌝ }
     ensures { λ r. ⌜ r ≡ stepPointer u (now (mem .entry)) (now (reel .entry)) h p ⌝ }
 {
     if p.high | ((h.code == 4) & (p.pointer % 2 == 1)) {
@@ -168,8 +170,8 @@ fn step_pointer(u: Unit, mem: &[u8], reel: &[u8], h: Header, p: Packet) -> Ran
 }
 
 // 7. The words that the command uses, outside memory: NXM, class 5.
-fn step_fetch(u: Unit, mem: &[u8], reel: &[u8], h: Header) -> Ran
-    requires { ⌜ (u .tape .end ≤ 65536) × (u .registers .pointer < 262144) ⌝ }
+fn step_fetch(u: Unit, mem: &[u8], reel: &[u8], h: Header) -> Plan
+    requires { ⌜ (u .tape .end ≤ capacityLimit) × (u .registers .pointer < pointerLimit) ⌝ }
     ensures { λ r. ⌜ r ≡ stepFetch u (now (mem .entry)) (now (reel .entry)) h ⌝ }
 {
     let at = u.registers.pointer;
@@ -180,8 +182,8 @@ fn step_fetch(u: Unit, mem: &[u8], reel: &[u8], h: Header) -> Ran
 }
 
 // 6. NBA set and not Write Characteristics: class 3.
-fn step_no_buffer(u: Unit, mem: &[u8], reel: &[u8], h: Header) -> Ran
-    requires { ⌜ (u .tape .end ≤ 65536) × (u .registers .pointer < 262144) ⌝ }
+fn step_no_buffer(u: Unit, mem: &[u8], reel: &[u8], h: Header) -> Plan
+    requires { ⌜ (u .tape .end ≤ capacityLimit) × (u .registers .pointer < pointerLimit) ⌝ }
     ensures { λ r. ⌜ r ≡ stepNoBuffer u (now (mem .entry)) (now (reel .entry)) h ⌝ }
 {
     if u.registers.nba & (h.code != 4) {
@@ -191,8 +193,8 @@ fn step_no_buffer(u: Unit, mem: &[u8], reel: &[u8], h: Header) -> Ran
 }
 
 // 5. Bits 7:5 neither 000 nor 100, or unknown code or mode: ILC, class 3.
-fn step_illegal(u: Unit, mem: &[u8], reel: &[u8], h: Header) -> Ran
-    requires { ⌜ (u .tape .end ≤ 65536) × (u .registers .pointer < 262144) ⌝ }
+fn step_illegal(u: Unit, mem: &[u8], reel: &[u8], h: Header) -> Plan
+    requires { ⌜ (u .tape .end ≤ capacityLimit) × (u .registers .pointer < pointerLimit) ⌝ }
     ensures { λ r. ⌜ r ≡ stepIllegal u (now (mem .entry)) (now (reel .entry)) h ⌝ }
 {
     if (!h.plain) | is_illegal(signals::decode(h.code, h.mode)) {
@@ -202,8 +204,8 @@ fn step_illegal(u: Unit, mem: &[u8], reel: &[u8], h: Header) -> Ran
 }
 
 // 4. CVC clears VCK.
-fn step_volume(u: Unit, mem: &[u8], reel: &[u8], h: Header) -> Ran
-    requires { ⌜ (u .tape .end ≤ 65536) × (u .registers .pointer < 262144) ⌝ }
+fn step_volume(u: Unit, mem: &[u8], reel: &[u8], h: Header) -> Plan
+    requires { ⌜ (u .tape .end ≤ capacityLimit) × (u .registers .pointer < pointerLimit) ⌝ }
     ensures { λ r. ⌜ r ≡ stepVolume u (now (mem .entry)) (now (reel .entry)) h ⌝ }
 {
     let mut v = u;
@@ -213,7 +215,7 @@ fn step_volume(u: Unit, mem: &[u8], reel: &[u8], h: Header) -> Ran
 }
 
 // An attention goes out: class 1, and none is pending then.
-fn attend(u: Unit, ie: bool) -> Ran
+fn attend(u: Unit, ie: bool) -> Plan
     ensures { λ r. ⌜ r ≡ attended u ie ⌝ }
 {
     let mut v = u;
@@ -222,8 +224,8 @@ fn attend(u: Unit, ie: bool) -> Ran
 }
 
 // 3. Attention pending and the unit owns the buffer: the command is lost.
-fn step_attention(u: Unit, mem: &[u8], reel: &[u8], h: Header) -> Ran
-    requires { ⌜ (u .tape .end ≤ 65536) × (u .registers .pointer < 262144) ⌝ }
+fn step_attention(u: Unit, mem: &[u8], reel: &[u8], h: Header) -> Plan
+    requires { ⌜ (u .tape .end ≤ capacityLimit) × (u .registers .pointer < pointerLimit) ⌝ }
     ensures { λ r. ⌜ r ≡ stepAttention u (now (mem .entry)) (now (reel .entry)) h ⌝ }
 {
     if u.attention.pending {
@@ -233,55 +235,41 @@ fn step_attention(u: Unit, mem: &[u8], reel: &[u8], h: Header) -> Ran
 }
 
 // 2. ACK gives the message buffer to the unit. No ACK while the CPU owns it: class 0, no message, the command isn't run.
-fn step_owner(u: Unit, mem: &[u8], reel: &[u8], h: Header) -> Ran
-    requires { ⌜ (u .tape .end ≤ 65536) × (u .registers .pointer < 262144) ⌝ }
+fn step_owner(u: Unit, mem: &[u8], reel: &[u8], h: Header) -> Plan
+    requires { ⌜ (u .tape .end ≤ capacityLimit) × (u .registers .pointer < pointerLimit) ⌝ }
     ensures { λ r. ⌜ r ≡ stepOwner u (now (mem .entry)) (now (reel .entry)) h ⌝ }
 {
     let owns = u.attention.unit_owns | h.ack;
     let mut v = u;
     v.attention.unit_owns = owns;
     if !owns {
-        let residual = Residual::Nothing;
-        let end = End {
-            class: 0,
-            found: 0,
-            xst3: 0,
-            residual,
-        };
-        return Ran::Ended(effect_of(v, end, Notice::Interrupt, h.ie));
+        return untell(v, 0, h.ie);
     }
     step_attention(v, mem, reel, h)
 }
 
 // 1. Header word outside memory: NXM, class 5, no message, no interrupt, the message buffer's owner kept.
-fn step_header(u: Unit, mem: &[u8], reel: &[u8]) -> Ran
-    requires { ⌜ (u .tape .end ≤ 65536) × (u .registers .pointer < 262144) ⌝ }
+fn step_header(u: Unit, mem: &[u8], reel: &[u8]) -> Plan
+    requires { ⌜ (u .tape .end ≤ capacityLimit) × (u .registers .pointer < pointerLimit) ⌝ }
     ensures { λ r. ⌜ r ≡ stepHeader u (now (mem .entry)) (now (reel .entry)) ⌝ }
 {
     let at = u.registers.pointer;
     if mem.len() < at + 2 {
-        let residual = Residual::Nothing;
-        let end = End {
-            class: 5,
-            found: 0,
-            xst3: 0,
-            residual,
-        };
-        return Ran::Ended(effect_of(u, end, Notice::Nothing, false));
+        return untell(u, 5, false);
     }
     step_owner(u, mem, reel, signals::header_of(word(mem, at)))
 }
 
 // What an advance is about to do. With no command waiting, an attention that the unit may send goes out with the release's IE.
 pub fn plan_advance(u: Unit, mem: &[u8], reel: &[u8]) -> Plan
-    requires { ⌜ (u .tape .end ≤ 65536) × (u .registers .pointer < 262144) ⌝ }
+    requires { ⌜ (u .tape .end ≤ capacityLimit) × (u .registers .pointer < pointerLimit) ⌝ }
     ensures { λ r. ⌜ r ≡ advanced u (now (mem .entry)) (now (reel .entry)) ⌝ }
 {
     if !u.registers.ssr {
-        return plan_of(u, step_header(u, mem, reel));
+        return step_header(u, mem, reel);
     }
     if u.attention.pending & u.attention.unit_owns {
-        return plan_of(u, attend(u, u.attention.release_ie));
+        return attend(u, u.attention.release_ie);
     }
     still_plan(u, Answer::Idle)
 }

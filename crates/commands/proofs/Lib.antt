@@ -1,2 +1,3 @@
--- What the plan of an end says, however the end is told.
+-- What the plan of an end says, whether it is told or not.
 pub mod Told
+pub mod Every

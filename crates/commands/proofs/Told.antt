@@ -1,87 +1,78 @@
--- What the plan of an end says, for the layers above: an end is either told or silent, and most of its plan is the same for both.
-use mathlib.Core.Bool.{Bool, true, false, true≢false}
-use mathlib.Core.Path.{_≡_, refl, ap, sym}
-use Prim.Native.Nat.{ℕ}
+-- What the plan of an end says, for the layers above, whether the end is told or not.
+use mathlib.Core.Bool.{Bool, true, false}
+use mathlib.Core.Path.{_≡_, refl}
+use Prim.Native.Nat.{ℕ, _≤_}
 use borrow.Author.Tests.{not-true}
-use Rattle.state.specs.declared.Unit.{Unit}
+use Rattle.state.specs.Checks.{lastClass}
+use Rattle.state.specs.Legal.{Legal}
 use Rattle.state.specs.declared.Attention.{Attention}
+use Rattle.state.specs.declared.Tape.{Tape}
+use Rattle.state.specs.declared.Unit.{Unit}
+use Rattle.state.proofs.Legal.{legal-with}
 use Rattle.motions.specs.Parts.{noLay, noMove}
-use Rattle.motions.specs.declared.parts.Laid.{Laid}
-use Rattle.motions.specs.declared.parts.Moved.{Moved}
-use Rattle.commands.specs.Effects.{endedUnit, finished, finishedBy, planned, silenced, still, told, toldUnit, withAttention}
-use Rattle.commands.specs.declared.effects.Effect.{Effect}
-use Rattle.commands.specs.declared.effects.Notice.{Notice}
-use Rattle.commands.specs.declared.effects.Notice.the-variants as notice
-use Rattle.commands.specs.declared.effects.Ran.{Ran}
-use Rattle.commands.specs.declared.effects.Ran.the-variants as ran
+use Rattle.motions.specs.declared.parts.Ending.{Ending}
+use Rattle.motions.specs.declared.parts.Motion.{Motion}
+use Rattle.motions.specs.declared.parts.Motion.the-variants as motion
+use Rattle.commands.specs.Ends.{ended, motionPlan, still, told, toldUnit, untold, withAttention, withTape}
 use Rattle.commands.specs.declared.plans.Answer.{Answer}
 use Rattle.commands.specs.declared.plans.Answer.the-variants as answer
 use Rattle.commands.specs.declared.plans.Plan.{Plan}
 
--- where the notice is known
-pub finished-as : (x : Effect) (start : ℕ) {n : Notice} → x .notice ≡ n → finished x start ≡ finishedBy x start n
-unfolding finished
-finished-as x start e = ap (finishedBy x start) e
+-- the state v that an end of class k leaves of u: all but the end's own registers, the tape and the message buffer's owner stays
+pub record EndsAs (u : Unit) (t : Tape) (k : ℕ) (v : Unit) : Type 0 where
+  pub tape : v .tape ≡ t
+  pub panel : v .panel ≡ u .panel
+  pub characteristics : v .characteristics ≡ u .characteristics
+  pub lengths : v .lengths ≡ u .lengths
+  pub pointer : v .registers .pointer ≡ u .registers .pointer
+  pub rmr : v .registers .rmr ≡ u .registers .rmr
+  pub nba : v .registers .nba ≡ u .registers .nba
+  pub class : v .registers .class ≡ k
+  pub ssr : v .registers .ssr ≡ true
 
--- what holds of an end that is told and of a silent one holds of every end
-by-notice : (x : Effect) (start : ℕ) (P : Plan → Type 0) → P (told x start) → ((i : Bool) → P (silenced x i)) → (n : Notice) → P (finishedBy x start n)
-unfolding finishedBy
-by-notice x start P p q notice.Message = p
-by-notice x start P p q notice.Interrupt = q (x .ie)
-by-notice x start P p q notice.Nothing = q false
+ends-with : (u : Unit) (t : Tape) (class : ℕ) (a : Attention) → EndsAs u t class (withAttention (ended (withTape u t) class) a)
+unfolding ended
+ends-with u t class a =
+    record {
+      tape = refl;
+      panel = refl;
+      characteristics = refl;
+      lengths = refl;
+      pointer = refl;
+      rmr = refl;
+      nba = refl;
+      class = refl;
+      ssr = refl;
+    }
 
-pub finished-either : (x : Effect) (start : ℕ) (P : Plan → Type 0) → P (told x start) → ((i : Bool) → P (silenced x i)) → P (finished x start)
-unfolding finished
-finished-either x start P p q = by-notice x start P p q (x .notice)
+pub told-ends : (u : Unit) (ie : Bool) (x : Ending) → EndsAs u (x .tape) (x .end .class) (told u ie x .unit)
+unfolding told toldUnit
+told-ends u ie x = ends-with u (x .tape) (x .end .class) _
 
--- and the same of a run: it ended, or met a fault
-pub planned-either : (u : Unit) (P : Plan → Type 0) (r : Ran) → ((x : Effect) → r ≡ ran.Ended x → P (finished x (u .tape .position))) → ((k : ℕ) → r ≡ ran.Fault k → P (still u (answer.BadBlock k))) → P (planned u r)
-unfolding planned
-planned-either u P (ran.Ended x) p q = p x refl
-planned-either u P (ran.Fault k) p q = q k refl
+pub untold-ends : (u : Unit) (class : ℕ) (interrupts : Bool) → EndsAs u (u .tape) class (untold u class interrupts .unit)
+unfolding untold still
+untold-ends u class interrupts = ends-with u (u .tape) class _
 
--- the state that an end leaves: all but the end's own registers and the message buffer's owner is the effect's
-pub record EndsAs (x : Effect) (u : Unit) : Type 0 where
-  pub tape : u .tape ≡ x .unit .tape
-  pub panel : u .panel ≡ x .unit .panel
-  pub characteristics : u .characteristics ≡ x .unit .characteristics
-  pub lengths : u .lengths ≡ x .unit .lengths
-  pub pointer : u .registers .pointer ≡ x .unit .registers .pointer
-  pub nba : u .registers .nba ≡ x .unit .registers .nba
-  pub class : u .registers .class ≡ x .end .class
-  pub ssr : u .registers .ssr ≡ true
-
-ends-with : (x : Effect) (a : Attention) → EndsAs x (withAttention (endedUnit (x .unit) (x .end .class)) a)
-unfolding endedUnit
-ends-with x a =
-    record { tape = refl; panel = refl; characteristics = refl; lengths = refl; pointer = refl; nba = refl; class = refl; ssr = refl }
-
-pub finished-ends : (x : Effect) (start : ℕ) → EndsAs x (finished x start .unit)
-unfolding told toldUnit silenced still
-finished-ends x start = finished-either x start (λ p. EndsAs x (p .unit)) (ends-with x _) (λ i. ends-with x _)
+-- a legal state stays one, if the tape that is left fits the reel
+pub ends-legal : (u : Unit) → Legal u → {t : Tape} {class : ℕ} {v : Unit} → EndsAs u t class v → t .position ≤ t .end → t .end ≤ u .lengths .blocks → class ≤ lastClass → Legal v
+ends-legal u l {v = v} e place capacity h =
+    legal-with u v l (e .lengths)
+    (rw (e .tape) place)
+    (rw (e .tape, e .lengths) capacity)
+    (rw (e .pointer) (l .pointer))
+    (rw (e .class) h)
+    (λ n. rw (e .characteristics, e .lengths) (l .buffer (rw (e .nba) at n)))
 
 -- "A message goes out only if NBA is clear."
-pub finished-sends : (x : Effect) (start : ℕ) → finished x start .sends ≡ true → x .unit .registers .nba ≡ false
-unfolding told toldUnit endedUnit silenced still
-finished-sends x start =
-    finished-either x start (λ p. p .sends ≡ true → x .unit .registers .nba ≡ false) (not-true (x .unit .registers .nba)) (λ i e. absurd (true≢false (sym e)))
+pub told-sends : (u : Unit) (ie : Bool) (x : Ending) → told u ie x .sends ≡ true → u .registers .nba ≡ false
+unfolding told toldUnit ended
+told-sends u ie x = not-true (u .registers .nba)
 
--- A plan moves and lays what its effect does, or nothing.
-pub finished-moved : (x : Effect) (start : ℕ) (P : Moved → Type 0) → P (x .moved) → P noMove → P (finished x start .moved)
-unfolding told silenced still
-finished-moved x start P p q = finished-either x start (λ r. P (r .moved)) p (λ i. q)
-
-pub finished-laid : (x : Effect) (start : ℕ) (P : Laid → Type 0) → P (x .laid) → P noLay → P (finished x start .laid)
-unfolding told silenced still
-finished-laid x start P p q = finished-either x start (λ r. P (r .laid)) p (λ i. q)
-
-pub record Carries (x : Effect) (p : Plan) : Type 0 where
-  pub moved : p .moved ≡ x .moved
-  pub laid : p .laid ≡ x .laid
-
-pub finished-carries : (x : Effect) (start : ℕ) → x .notice ≡ notice.Message → Carries x (finished x start)
-unfolding finishedBy told
-finished-carries x start e = rw (finished-as x start e) (record { moved = refl; laid = refl })
+-- what holds of every end that is told and of every fault holds of every motion
+pub motion-either : (u : Unit) (ie : Bool) (P : Plan → Type 0) (y : Motion) → ((x : Ending) → y ≡ motion.Ended x → P (told u ie x)) → ((k : ℕ) → y ≡ motion.Fault k → P (still u (answer.BadBlock k))) → P (motionPlan u ie y)
+unfolding motionPlan
+motion-either u ie P (motion.Ended x) p q = p x refl
+motion-either u ie P (motion.Fault k) p q = q k refl
 
 pub record StoresNothing (p : Plan) : Type 0 where
   pub moved : p .moved ≡ noMove
@@ -92,12 +83,6 @@ pub still-stores-nothing : (u : Unit) (a : Answer) → StoresNothing (still u a)
 unfolding still
 still-stores-nothing u a = record { moved = refl; laid = refl; sends = refl }
 
-silent-by : (x : Effect) (start : ℕ) (n : Notice) → (n ≡ notice.Message → ⊥) → StoresNothing (finishedBy x start n)
-unfolding finishedBy silenced
-silent-by x start notice.Message f = absurd (f refl)
-silent-by x start notice.Interrupt f = still-stores-nothing _ _
-silent-by x start notice.Nothing f = still-stores-nothing _ _
-
-pub finished-silent : (x : Effect) (start : ℕ) → (x .notice ≡ notice.Message → ⊥) → StoresNothing (finished x start)
-unfolding finished
-finished-silent x start f = silent-by x start (x .notice) f
+pub untold-stores-nothing : (u : Unit) (class : ℕ) (interrupts : Bool) → StoresNothing (untold u class interrupts)
+unfolding untold
+untold-stores-nothing u class interrupts = still-stores-nothing _ _

@@ -7,6 +7,7 @@ use lib.Dec.{eqb, leb, ltb}
 use lib.ListN.{length}
 use Rattle.lists.specs.Pick.{pick}
 use Rattle.lists.specs.Words.{wordAt}
+use Rattle.signals.specs.Numbers.{pointerLimit}
 use Rattle.signals.specs.declared.codes.Command.{Command}
 use Rattle.signals.specs.declared.codes.Command.the-variants as command
 use Rattle.signals.specs.declared.packet.Header.{Header}
@@ -14,56 +15,48 @@ use Rattle.signals.specs.declared.packet.Packet.{Packet}
 use Rattle.signals.specs.declared.message.End.{End}
 use Rattle.signals.specs.declared.counts.Residual.the-variants as residual
 use Rattle.state.specs.Changes.{withRegisters}
-use Rattle.state.specs.Checks.{bufferWrong, pointerLimit}
+use Rattle.state.specs.Checks.{bufferWrong}
 use Rattle.state.specs.declared.Unit.{Unit}
 use Rattle.state.specs.declared.Characteristics.{Characteristics}
 use Rattle.state.specs.declared.Registers.{Registers}
+use Rattle.state.specs.declared.Tape.{Tape}
 use Rattle.moves.specs.declared.spacing.Rule.{Rule}
-use Rattle.motions.specs.Parts.{end, standing}
+use Rattle.motions.specs.Parts.{end, resting, standing}
 use Rattle.motions.specs.Reads.{readOne, reread}
 use Rattle.motions.specs.Spaces.{positioned}
 use Rattle.motions.specs.Writes.{retried, writtenAt}
-use Rattle.commands.specs.Effects.{effectOf, motionEffect, withAttention, withPanel, withTape}
+use Rattle.commands.specs.Ends.{motionPlan, told, untold, withAttention, withPanel}
 use Rattle.motions.specs.declared.parts.Laid.{Laid}
+use Rattle.motions.specs.declared.parts.Motion.{Motion}
 use Rattle.motions.specs.declared.parts.ObjectKind.{ObjectKind}
 use Rattle.motions.specs.declared.parts.ObjectKind.the-variants as kind
 use Rattle.motions.specs.declared.reads.Buffer.{Buffer}
-use Rattle.commands.specs.declared.effects.Notice.the-variants as notice
-use Rattle.commands.specs.declared.effects.Ran.{Ran}
-use Rattle.commands.specs.declared.effects.Ran.the-variants as ran
+use Rattle.commands.specs.declared.plans.Plan.{Plan}
 
 abbrev pub plainEnd : End
 plainEnd = end 0 0 0 residual.Nothing
 
 -- "clean (no action)", "Initialize 11/0 (house: no action). Get Status 15/0."
-unfoldable pub plainEffect : Unit → Bool → Ran
-plainEffect u ie = ran.Ended (effectOf u plainEnd notice.Message ie)
+unfoldable pub plainEffect : Unit → Bool → Plan
+plainEffect u ie = told u ie (resting plainEnd (u .tape))
 
 -- "a release carried out, which sends none and keeps the owner"; its IE is an idle attention's
-unfoldable pub released : Unit → Bool → Ran
+unfoldable pub released : Unit → Bool → Plan
 released u ie =
-    ran.Ended
-    (effectOf
+    untold
     (withAttention u (record { «unit_owns» = u .attention .«unit_owns»; pending = u .attention .pending; «release_ie» = ie }))
-    plainEnd
-    notice.Nothing
-    ie)
+    0
+    false
 
 -- "4 rewind"
-unfoldable pub rewound : Unit → Bool → Ran
-rewound u ie = ran.Ended (effectOf (withTape u (standing 0 (u .tape .end))) plainEnd notice.Message ie)
+unfoldable pub rewound : Unit → Bool → Plan
+rewound u ie = told u ie (resting plainEnd (standing 0 (u .tape .end)))
 
 -- "rewind and unload (ends off line, no attention)"
-unfoldable pub unloaded : Unit → Bool → Ran
+unfoldable pub unloaded : Unit → Bool → Plan
 unloaded u ie =
-    ran.Ended
-    (effectOf
-    (withPanel
-    (withTape u (standing 0 (u .tape .end)))
-    (record { online = false; locked = u .panel .locked; vck = u .panel .vck }))
-    plainEnd
-    notice.Message
-    ie)
+    told (withPanel u (record { online = false; locked = u .panel .locked; vck = u .panel .vck })) ie
+    (resting plainEnd (standing 0 (u .tape .end)))
 
 -- "mode word (0 if the count is under 8)"
 unfoldable pub modeWord : List ℕ → Packet → ℕ
@@ -93,8 +86,8 @@ withNba u nba =
     })
 
 -- "NBA set, class 3, all old values kept"
-unfoldable pub refusedCharacteristics : Unit → Bool → Ran
-refusedCharacteristics u ie = ran.Ended (effectOf (withNba u true) (end 3 0 0 residual.Nothing) notice.Message ie)
+unfoldable pub refusedCharacteristics : Unit → Bool → Plan
+refusedCharacteristics u ie = told (withNba u true) ie (resting (end 3 0 0 residual.Nothing) (u .tape))
 
 abbrev pub withCharacteristics : Unit → Characteristics → Unit
 withCharacteristics u c =
@@ -108,58 +101,58 @@ withCharacteristics u c =
     }
 
 -- "Otherwise NBA clears and all are taken."
-unfoldable pub takenCharacteristics : Unit → Characteristics → Bool → Ran
-takenCharacteristics u c ie = ran.Ended (effectOf (withCharacteristics (withNba u false) c) plainEnd notice.Message ie)
+unfoldable pub takenCharacteristics : Unit → Characteristics → Bool → Plan
+takenCharacteristics u c ie = told (withCharacteristics (withNba u false) c) ie (resting plainEnd (u .tape))
 
 -- "Count under 6, address odd or past 18 bits, length under 14, or buffer not inside memory"
-unfoldable pub characterized : Unit → List ℕ → Packet → Bool → Ran
+unfoldable pub characterized : Unit → List ℕ → Packet → Bool → Plan
 characterized u m p ie =
     pick (ltb (p .count) 6) (refusedCharacteristics u ie)
     (pick (leb pointerLimit (characteristicsAt m p .address) || bufferWrong (characteristicsAt m p) (length m))
     (refusedCharacteristics u ie)
     (takenCharacteristics u (characteristicsAt m p) ie))
 
+-- what a Read asks for
 abbrev pub asked : Header → Packet → Buffer
 asked h p = record { pointer = p .pointer; count = p .count; swb = h .swb }
 
-unfoldable pub readBy : Unit → List ℕ → Header → Packet → Bool → Ran
-readBy u s h p reverse = motionEffect u (readOne s (u .tape) (asked h p) reverse) (h .ie)
+unfoldable pub readBy : Unit → List ℕ → Header → Packet → Bool → Plan
+readBy u s h p reverse = motionPlan u (h .ie) (readOne s (u .tape) (asked h p) reverse)
 
-unfoldable pub rereadBy : Unit → List ℕ → Header → Packet → Bool → Ran
-rereadBy u s h p reverse = motionEffect u (reread s (u .tape) (asked h p) reverse (h .opp)) (h .ie)
+unfoldable pub rereadBy : Unit → List ℕ → Header → Packet → Bool → Plan
+rereadBy u s h p reverse = motionPlan u (h .ie) (reread s (u .tape) (asked h p) reverse (h .opp))
 
-unfoldable pub positionedBy : Unit → List ℕ → Header → Packet → Bool → Bool → Ran
+-- "In Marks with ESS .. or with ENB too"
+abbrev pub positioning : List ℕ → Tape → Characteristics → ℕ → Bool → Bool → Motion
+positioning s t c count reverse marks = positioned s t (record { reverse = reverse; marks = marks; ess = c .ess }) count (c .enb)
+
+unfoldable pub positionedBy : Unit → List ℕ → Header → Packet → Bool → Bool → Plan
 positionedBy u s h p reverse marks =
-    motionEffect u
-    (positioned s (u .tape) (record { reverse = reverse; marks = marks; ess = u .characteristics .ess }) (p .count) (u .characteristics .enb))
-    (h .ie)
+    motionPlan u (h .ie) (positioning s (u .tape) (u .characteristics) (p .count) reverse marks)
 
--- where the tape stands
-abbrev pub laidHere : Unit → ObjectKind → ℕ → ℕ → Bool → Laid
-laidHere u o pointer n swb =
-    record { at = u .tape .position; «gap_first» = false; object = o; pointer = pointer; length = n; swb = swb }
+-- an object where the tape stands
+abbrev pub laidHere : Tape → ObjectKind → ℕ → ℕ → Bool → Laid
+laidHere t o pointer n swb =
+    record { at = t .position; «gap_first» = false; object = o; pointer = pointer; length = n; swb = swb }
 
-unfoldable pub writtenBy : Unit → List ℕ → Header → Packet → Bool → Ran
+-- "Write 5 / 0, 2 retry", "Format 9 / 0 mark, .. 2 mark retry"
+abbrev pub laying : List ℕ → Tape → ℕ → Laid → Bool → Bool → Motion
+laying s t blocks l mark again = pick again (retried s t blocks l mark) (writtenAt t blocks l mark)
+
+unfoldable pub writtenBy : Unit → List ℕ → Header → Packet → Bool → Plan
 writtenBy u s h p again =
-    motionEffect u
-    (pick again
-    (retried s (u .tape) (u .lengths .blocks) (laidHere u kind.Record (p .pointer) (p .count) (h .swb)) false)
-    (writtenAt (u .tape) (u .lengths .blocks) (laidHere u kind.Record (p .pointer) (p .count) (h .swb)) false))
-    (h .ie)
+    motionPlan u (h .ie)
+    (laying s (u .tape) (u .lengths .blocks) (laidHere (u .tape) kind.Record (p .pointer) (p .count) (h .swb)) false again)
 
-unfoldable pub formatted : Unit → List ℕ → Header → ObjectKind → Bool → Bool → Ran
+unfoldable pub formatted : Unit → List ℕ → Header → ObjectKind → Bool → Bool → Plan
 formatted u s h o mark again =
-    motionEffect u
-    (pick again
-    (retried s (u .tape) (u .lengths .blocks) (laidHere u o 0 0 false) mark)
-    (writtenAt (u .tape) (u .lengths .blocks) (laidHere u o 0 0 false) mark))
-    (h .ie)
+    motionPlan u (h .ie) (laying s (u .tape) (u .lengths .blocks) (laidHere (u .tape) o 0 0 false) mark again)
 
 -- what a Write Characteristics asks of its packet: the data are in memory (step 10)
 abbrev pub DataFit : Command → Packet → List ℕ → Type 0
 DataFit c p m = c ≡ command.WriteCharacteristics → p .pointer + p .count ≤ length m
 
-unfoldable pub carriedOut : Unit → List ℕ → List ℕ → Header → Packet → Command → Ran
+unfoldable pub carriedOut : Unit → List ℕ → List ℕ → Header → Packet → Command → Plan
 carriedOut u m s h p command.ReadNext = readBy u s h p false
 carriedOut u m s h p command.ReadPrevious = readBy u s h p true
 carriedOut u m s h p command.RereadPrevious = rereadBy u s h p true

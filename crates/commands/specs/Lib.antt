@@ -1,4 +1,4 @@
 -- The commands carried out, and how an end is told.
 pub mod Answers
-pub mod Effects
+pub mod Ends
 pub mod Commands

@@ -1,9 +1,8 @@
 // The commands, carried out.
-use crate::effects::Effect;
-use crate::effects::Notice;
-use crate::effects::Ran;
-use crate::effects::effect_of;
-use crate::effects::motion_effect;
+use crate::ends::plan_motion;
+use crate::ends::tell;
+use crate::ends::untell;
+use crate::plans::Plan;
 use lists::word;
 use motions::Buffer;
 use motions::Laid;
@@ -12,6 +11,7 @@ use motions::ObjectKind;
 use motions::position;
 use motions::read_one;
 use motions::reread_one;
+use motions::rest;
 use motions::retry;
 use motions::write_at;
 use moves::Rule;
@@ -27,7 +27,8 @@ ghost use mathlib.Core.Bool.{true};
 ghost use mathlib.Core.Path.{_≡_};
 ghost use Prim.Native.Nat.{_+_, _≤_};
 ghost use lib.ListN.{length};
-ghost use Rattle.commands.specs.Commands.{DataFit, carriedOut, characteristicsAt, characterized, formatted, modeWord, plainEffect, plainEnd, positionedBy, readBy, refusedCharacteristics, released, rereadBy, rewound, takenCharacteristics, unloaded, writtenBy};
+ghost use Rattle.tape.specs.Numbers.{capacityLimit};
+ghost use Rattle.commands.specs.Commands.{DataFit, asked, carriedOut, characteristicsAt, characterized, laidHere, laying, modeWord, plainEnd, positioning, refusedCharacteristics, released, rewound, takenCharacteristics, unloaded};
 
 fn plain_end() -> End
     ensures { λ r. ⌜ r ≡ plainEnd ⌝ }
@@ -41,38 +42,36 @@ fn plain_end() -> End
     }
 }
 
-// Clean, Initialize and Get Status take no action.
-fn plain_effect(u: Unit, ie: bool) -> Ran
-    ensures { λ r. ⌜ r ≡ plainEffect u ie ⌝ }
-{
-    Ran::Ended(effect_of(u, plain_end(), Notice::Message, ie))
-}
-
-// A release carried out sends no message, keeps the owner, and leaves its IE for an idle attention.
-fn release(u: Unit, ie: bool) -> Ran
+// A release carried out is not told, and leaves its IE for an idle attention.
+fn release(u: Unit, ie: bool) -> Plan
     ensures { λ r. ⌜ r ≡ released u ie ⌝ }
 {
     let mut v = u;
     v.attention.release_ie = ie;
-    Ran::Ended(effect_of(v, plain_end(), Notice::Nothing, ie))
+    untell(v, 0, false)
 }
 
-fn rewind(u: Unit, ie: bool) -> Ran
+fn rewind(u: Unit, ie: bool) -> Plan
     ensures { λ r. ⌜ r ≡ rewound u ie ⌝ }
 {
-    let mut v = u;
-    v.tape.position = 0;
-    Ran::Ended(effect_of(v, plain_end(), Notice::Message, ie))
+    let start = Tape {
+        position: 0,
+        end: u.tape.end,
+    };
+    tell(u, ie, rest(plain_end(), start))
 }
 
 // Rewind and unload ends off line, with no attention.
-fn unload(u: Unit, ie: bool) -> Ran
+fn unload(u: Unit, ie: bool) -> Plan
     ensures { λ r. ⌜ r ≡ unloaded u ie ⌝ }
 {
     let mut v = u;
-    v.tape.position = 0;
     v.panel.online = false;
-    Ran::Ended(effect_of(v, plain_end(), Notice::Message, ie))
+    let start = Tape {
+        position: 0,
+        end: u.tape.end,
+    };
+    tell(v, ie, rest(plain_end(), start))
 }
 
 // The mode word, 0 if the count is under 8.
@@ -95,8 +94,8 @@ fn characteristics_at(mem: &[u8], p: Packet) -> Characteristics
     let length = word(mem, p.pointer + 4);
     let mode = mode_word(mem, p);
     Characteristics {
-        address,
-        length,
+        address: address as u32,
+        length: length as u32,
         eai: mode / 32 % 2 == 1,
         ess: mode / 128 % 2 == 1,
         enb: mode / 64 % 2 == 1,
@@ -104,7 +103,7 @@ fn characteristics_at(mem: &[u8], p: Packet) -> Characteristics
 }
 
 // NBA set, class 3, all old values kept.
-fn refuse_characteristics(u: Unit, ie: bool) -> Ran
+fn refuse_characteristics(u: Unit, ie: bool) -> Plan
     ensures { λ r. ⌜ r ≡ refusedCharacteristics u ie ⌝ }
 {
     let mut v = u;
@@ -116,20 +115,22 @@ fn refuse_characteristics(u: Unit, ie: bool) -> Ran
         xst3: 0,
         residual,
     };
-    Ran::Ended(effect_of(v, end, Notice::Message, ie))
+    let t = u.tape;
+    tell(v, ie, rest(end, t))
 }
 
 // NBA clears and all are taken.
-fn take_characteristics(u: Unit, c: Characteristics, ie: bool) -> Ran
+fn take_characteristics(u: Unit, c: Characteristics, ie: bool) -> Plan
     ensures { λ r. ⌜ r ≡ takenCharacteristics u c ie ⌝ }
 {
     let mut v = u;
     v.registers.nba = false;
     v.characteristics = c;
-    Ran::Ended(effect_of(v, plain_end(), Notice::Message, ie))
+    let t = u.tape;
+    tell(v, ie, rest(plain_end(), t))
 }
 
-fn characterize(u: Unit, mem: &[u8], p: Packet, ie: bool) -> Ran
+fn characterize(u: Unit, mem: &[u8], p: Packet, ie: bool) -> Plan
     requires { ⌜ p .pointer + p .count ≤ length (now mem) ⌝ }
     ensures { λ r. ⌜ r ≡ characterized u (now (mem .entry)) p ie ⌝ }
 {
@@ -137,117 +138,92 @@ fn characterize(u: Unit, mem: &[u8], p: Packet, ie: bool) -> Ran
         return refuse_characteristics(u, ie);
     }
     let c = characteristics_at(mem, p);
-    if (state::POINTER_LIMIT <= c.address) | state::buffer_wrong(c, mem.len()) {
+    if (signals::POINTER_LIMIT <= c.address as usize) | state::buffer_wrong(c, mem.len()) {
         return refuse_characteristics(u, ie);
     }
     take_characteristics(u, c, ie)
 }
 
-fn read(u: Unit, reel: &[u8], h: Header, p: Packet, reverse: bool) -> Ran
-    ensures { λ r. ⌜ r ≡ readBy u (now (reel .entry)) h p reverse ⌝ }
+// What a Read asks for.
+fn asked_buffer(h: Header, p: Packet) -> Buffer
+    ensures { λ r. ⌜ r ≡ asked h p ⌝ }
 {
-    let t = u.tape;
-    let r = Buffer {
+    Buffer {
         pointer: p.pointer,
         count: p.count,
         swb: h.swb,
-    };
-    motion_effect(u, read_one(reel, t, r, reverse), h.ie)
+    }
 }
 
-fn reread(u: Unit, reel: &[u8], h: Header, p: Packet, reverse: bool) -> Ran
-    ensures { λ r. ⌜ r ≡ rereadBy u (now (reel .entry)) h p reverse ⌝ }
+fn space(reel: &[u8], t: Tape, c: Characteristics, count: u16, reverse: bool, marks: bool) -> Motion
+    requires { ⌜ t .end ≤ capacityLimit ⌝ }
+    ensures { λ r. ⌜ r ≡ positioning (now (reel .entry)) t c count reverse marks ⌝ }
 {
-    let t = u.tape;
-    let r = Buffer {
-        pointer: p.pointer,
-        count: p.count,
-        swb: h.swb,
-    };
-    motion_effect(u, reread_one(reel, t, r, reverse, h.opp), h.ie)
-}
-
-fn space(u: Unit, reel: &[u8], h: Header, p: Packet, reverse: bool, marks: bool) -> Ran
-    requires { ⌜ u .tape .end ≤ 65536 ⌝ }
-    ensures { λ r. ⌜ r ≡ positionedBy u (now (reel .entry)) h p reverse marks ⌝ }
-{
-    let t = u.tape;
     let rule = Rule {
         reverse,
         marks,
-        ess: u.characteristics.ess,
+        ess: c.ess,
     };
-    motion_effect(
-        u,
-        position(reel, t, rule, p.count, u.characteristics.enb),
-        h.ie,
-    )
+    position(reel, t, rule, count, c.enb)
 }
 
-// A Write's record, where the tape stands or as a retry.
-fn write(u: Unit, reel: &[u8], h: Header, p: Packet, again: bool) -> Ran
-    ensures { λ r. ⌜ r ≡ writtenBy u (now (reel .entry)) h p again ⌝ }
+// An object where the tape stands.
+fn lay_here(t: Tape, object: ObjectKind, pointer: usize, length: u16, swb: bool) -> Laid
+    ensures { λ r. ⌜ r ≡ laidHere t object pointer length swb ⌝ }
 {
-    let t = u.tape;
-    let object = ObjectKind::Record;
-    let l = Laid {
+    Laid {
         at: t.position,
         gap_first: false,
         object,
-        pointer: p.pointer,
-        length: p.count,
-        swb: h.swb,
-    };
-    if again {
-        return motion_effect(u, retry(reel, t, u.lengths.blocks, l, false), h.ie);
+        pointer,
+        length,
+        swb,
     }
-    motion_effect(u, write_at(t, u.lengths.blocks, l, false), h.ie)
 }
 
-// A Format's mark or gap.
-fn format(u: Unit, reel: &[u8], h: Header, object: ObjectKind, mark: bool, again: bool) -> Ran
-    ensures { λ r. ⌜ r ≡ formatted u (now (reel .entry)) h object mark again ⌝ }
+// A Write or a Format, or its retry.
+fn lay(reel: &[u8], t: Tape, blocks: usize, l: Laid, mark: bool, again: bool) -> Motion
+    ensures { λ r. ⌜ r ≡ laying (now (reel .entry)) t blocks l mark again ⌝ }
 {
-    let t = u.tape;
-    let l = Laid {
-        at: t.position,
-        gap_first: false,
-        object,
-        pointer: 0,
-        length: 0,
-        swb: false,
-    };
     if again {
-        return motion_effect(u, retry(reel, t, u.lengths.blocks, l, mark), h.ie);
+        return retry(reel, t, blocks, l, mark);
     }
-    motion_effect(u, write_at(t, u.lengths.blocks, l, mark), h.ie)
+    write_at(t, blocks, l, mark)
 }
 
-pub fn carry_out(u: Unit, mem: &[u8], reel: &[u8], h: Header, p: Packet, c: Command) -> Ran
-    requires { ⌜ (u .tape .end ≤ 65536) × DataFit c p (now mem) ⌝ }
+pub fn carry_out(u: Unit, mem: &[u8], reel: &[u8], h: Header, p: Packet, c: Command) -> Plan
+    requires { ⌜ (u .tape .end ≤ capacityLimit) × DataFit c p (now mem) ⌝ }
     ensures { λ r. ⌜ r ≡ carriedOut u (now (mem .entry)) (now (reel .entry)) h p c ⌝ }
 {
+    let t = u.tape;
+    let x = u.characteristics;
+    let blocks = u.lengths.blocks;
+    let buffer = asked_buffer(h, p);
+    let record = lay_here(t, ObjectKind::Record, p.pointer, p.count, h.swb);
+    let mark = lay_here(t, ObjectKind::Mark, 0, 0, false);
+    let gap = lay_here(t, ObjectKind::Gap, 0, 0, false);
+    let here = rest(plain_end(), t);
     match c {
-        Command::ReadNext => read(u, reel, h, p, false),
-        Command::ReadPrevious => read(u, reel, h, p, true),
-        Command::RereadPrevious => reread(u, reel, h, p, true),
-        Command::RereadNext => reread(u, reel, h, p, false),
+        Command::ReadNext => plan_motion(u, h.ie, read_one(reel, t, buffer, false)),
+        Command::ReadPrevious => plan_motion(u, h.ie, read_one(reel, t, buffer, true)),
+        Command::RereadPrevious => plan_motion(u, h.ie, reread_one(reel, t, buffer, true, h.opp)),
+        Command::RereadNext => plan_motion(u, h.ie, reread_one(reel, t, buffer, false, h.opp)),
         Command::WriteCharacteristics => characterize(u, mem, p, h.ie),
-        Command::Write => write(u, reel, h, p, false),
-        Command::WriteRetry => write(u, reel, h, p, true),
-        Command::RecordsForward => space(u, reel, h, p, false, false),
-        Command::RecordsReverse => space(u, reel, h, p, true, false),
-        Command::MarksForward => space(u, reel, h, p, false, true),
-        Command::MarksReverse => space(u, reel, h, p, true, true),
+        Command::Write => plan_motion(u, h.ie, lay(reel, t, blocks, record, false, false)),
+        Command::WriteRetry => plan_motion(u, h.ie, lay(reel, t, blocks, record, false, true)),
+        Command::RecordsForward => plan_motion(u, h.ie, space(reel, t, x, p.count, false, false)),
+        Command::RecordsReverse => plan_motion(u, h.ie, space(reel, t, x, p.count, true, false)),
+        Command::MarksForward => plan_motion(u, h.ie, space(reel, t, x, p.count, false, true)),
+        Command::MarksReverse => plan_motion(u, h.ie, space(reel, t, x, p.count, true, true)),
         Command::Rewind => rewind(u, h.ie),
-        Command::WriteMark => format(u, reel, h, ObjectKind::Mark, true, false),
-        Command::Erase => format(u, reel, h, ObjectKind::Gap, false, false),
-        Command::MarkRetry => format(u, reel, h, ObjectKind::Mark, true, true),
+        Command::WriteMark => plan_motion(u, h.ie, lay(reel, t, blocks, mark, true, false)),
+        Command::Erase => plan_motion(u, h.ie, lay(reel, t, blocks, gap, false, false)),
+        Command::MarkRetry => plan_motion(u, h.ie, lay(reel, t, blocks, mark, true, true)),
         Command::Release => release(u, h.ie),
         Command::Unload => unload(u, h.ie),
-        Command::Clean => plain_effect(u, h.ie),
-        Command::Initialize => plain_effect(u, h.ie),
-        Command::GetStatus => plain_effect(u, h.ie),
-        Command::Illegal => plain_effect(u, h.ie),
+        Command::Clean => tell(u, h.ie, here),
+        Command::Initialize => tell(u, h.ie, here),
+        Command::GetStatus => tell(u, h.ie, here),
+        Command::Illegal => tell(u, h.ie, here),
     }
 }

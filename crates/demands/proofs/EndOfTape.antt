@@ -14,7 +14,7 @@ use Rattle.motions.specs.Parts.{laidBlocks, objectBlocks}
 use Rattle.motions.specs.declared.parts.Laid.{Laid}
 use Rattle.motions.specs.declared.parts.ObjectKind.{ObjectKind}
 use Rattle.motions.specs.declared.parts.ObjectKind.the-variants as kind
-use Rattle.commands.specs.Effects.{statusOf}
+use Rattle.commands.specs.Ends.{statusOf}
 
 object-short : (o : ObjectKind) (n : ℕ) → n ≤ recordLimit → objectBlocks o n + 1 ≤ margin
 unfolding objectBlocks

@@ -1,5 +1,5 @@
 -- What an advance leaves as it was: memory outside the data and the message, and the reel outside the new object's blocks.
-use mathlib.Core.Bool.{Bool, true, _&&_}
+use mathlib.Core.Bool.{Bool, true}
 use mathlib.Core.List.{List}
 use mathlib.Core.Logic.{_⊎_, ⊎-elim}
 use mathlib.Core.Path.{_≡_, refl, ap}
@@ -8,7 +8,6 @@ use lib.Dec.{ltb}
 use lib.ListN.{getD, length}
 use Rattle.tape.specs.Numbers.{blockBytes}
 use Rattle.tape.specs.Objects.{imagesOf}
-use Rattle.signals.specs.Message.{messageOf}
 use Rattle.state.specs.declared.Tape.{Tape}
 use Rattle.state.specs.declared.Unit.{Unit as State}
 use Rattle.state.proofs.Tests.{either}
@@ -26,34 +25,17 @@ use Rattle.motions.specs.declared.parts.Ending.{Ending}
 use Rattle.motions.specs.declared.reads.Buffer.{Buffer}
 use Rattle.motions.proofs.Ends.{Has}
 use Rattle.motions.proofs.Fit.{read-fits, space-fits}
-use Rattle.commands.specs.Effects.{planned, silenced, still, told}
-use Rattle.commands.specs.declared.plans.Plan.{Plan}
-use Rattle.commands.specs.declared.effects.Ran.{Ran}
-use Rattle.commands.proofs.Told.{finished-either, planned-either}
+use Rattle.storing.specs.Outside.{OffData, OffMessage}
 use Rattle.storing.specs.Stored.{Storable, laidObject, laidObjects, laidOn, memoryAfter, reelAfter}
-use Rattle.storing.proofs.DataPlaces.{OffData}
-use Rattle.storing.proofs.Undone.{OffMessage, memory-kept, reel-kept-above, reel-kept-below}
+use Rattle.storing.proofs.Undone.{memory-kept, reel-kept-above, reel-kept-below}
 use Rattle.advance.specs.Steps.{advanced}
-
-abbrev Seven : Plan → Type 0
-Seven p = length (p .message) ≡ 7
-
--- every plan has a message of seven words
-planned-seven : (u : State) (r : Ran) → Seven (planned u r)
-unfolding told silenced still messageOf
-planned-seven u r = planned-either u Seven r (λ x e. finished-either x (u .tape .position) Seven refl (λ i. refl)) (λ k e. refl)
+use Rattle.advance.proofs.Planned.{advanced-seven}
+use Rattle.demands.specs.Stays.{KeptBelow, StopsAt}
 
 module _ (u : State) (m s : List ℕ) where
-  pub advanced-seven : length (advanced u m s .message) ≡ 7
-  unfolding advanced still
-  advanced-seven =
-      either Seven (u .registers .ssr) _ _
-      (either Seven (u .attention .pending && u .attention .«unit_owns») _ _ (planned-seven u _) refl)
-      (planned-seven u _)
-
   -- "Data byte i lies at address pointer + i; with SWB at that address with its lowest bit flipped." No other byte changes but the message's.
   pub memory-stays : Storable (advanced u m s) (length m) (length s) → (j : ℕ) → OffData (advanced u m s .moved) j → OffMessage (advanced u m s) j → getD (memoryAfter (advanced u m s) m s) j 0 ≡ getD m j 0
-  memory-stays fits = memory-kept (advanced u m s) m s fits advanced-seven
+  memory-stays fits = memory-kept (advanced u m s) m s fits (advanced-seven u m s)
 
   -- "Writing stores only the new object's blocks"
   pub reel-stays : (j : ℕ) → (j < blockBytes * advanced u m s .laid .at) ⊎ (blockBytes * (advanced u m s .laid .at + laidBlocks (advanced u m s .laid)) ≤ j) → getD (reelAfter (advanced u m s) m s) j 0 ≡ getD s j 0
@@ -74,30 +56,19 @@ module _ (s m : List ℕ) where
     pub space-keeps-reel : (r : Rule) (count : ℕ) (enb : Bool) → positioned s t r count enb ≡ motion.Ended x → laidOn s m (x .laid) ≡ s
     space-keeps-reel r count enb y = rw (space-fits s t h r count enb y .unlaid) none-laid
 
-  -- the blocks below q are as they were
-  abbrev pub KeptBelow : ℕ → Ending → Type 0
-  KeptBelow q x = (j : ℕ) → j < blockBytes * q → getD (laidOn s m (x .laid)) j 0 ≡ getD s j 0
-
   module _ (t : Tape) (blocks : ℕ) where
-    write-has : (l : Laid) (mark : Bool) → Has (KeptBelow (l .at)) (writtenAt t blocks l mark)
+    write-has : (l : Laid) (mark : Bool) → Has (KeptBelow s m (l .at)) (writtenAt t blocks l mark)
     unfolding writtenAt noRoom writtenMotion
     write-has l mark =
-        either (Has (KeptBelow (l .at))) (ltb blocks (l .at + laidBlocks l)) _ _
+        either (Has (KeptBelow s m (l .at))) (ltb blocks (l .at + laidBlocks l)) _ _
         (λ j h. ap (λ (r : List ℕ). getD r j 0) none-laid)
         (λ j h. reel-kept-below m s l j h)
 
     -- "Writing stores only the new object's blocks": a Write or a Format lays from the position on, and the reel below it stays
-    pub write-keeps-below : (l : Laid) (mark : Bool) {x : Ending} → l .at ≡ t .position → writtenAt t blocks l mark ≡ motion.Ended x → KeptBelow (t .position) x
+    pub write-keeps-below : (l : Laid) (mark : Bool) {x : Ending} → l .at ≡ t .position → writtenAt t blocks l mark ≡ motion.Ended x → KeptBelow s m (t .position) x
     write-keeps-below l mark e y = rw (← e) (rw y at (write-has l mark))
 
-    -- a search with this answer stopped at q, if it found anything
-    abbrev pub StopsAt : ℕ → Sought → Type 0
-    StopsAt q (sought-as.Record n q′) = q ≡ q′
-    StopsAt q (sought-as.Mark q′) = q ≡ q′
-    StopsAt q (sought-as.Nothing q′) = Unit {0}
-    StopsAt q (sought-as.Bad k) = Unit {0}
-
-    retry-by : (l : Laid) (mark : Bool) (q : ℕ) (f : Sought) → StopsAt q f → Has (KeptBelow q) (retriedBy t blocks l mark f)
+    retry-by : (l : Laid) (mark : Bool) (q : ℕ) (f : Sought) → StopsAt q f → Has (KeptBelow s m q) (retriedBy t blocks l mark f)
     unfolding retriedBy behindGap
     retry-by l mark q (sought-as.Record n q′) e = rw e (write-has (behindGap l q′) mark)
     retry-by l mark q (sought-as.Mark q′) e = rw e (write-has (behindGap l q′) mark)
@@ -105,6 +76,6 @@ module _ (s m : List ℕ) where
     retry-by l mark q (sought-as.Bad k) e = tt
 
     -- "Retry: space reverse over gaps and one record or mark, then a one-block gap, then the new object. None found: .. nothing written."
-    pub retry-keeps-below : (l : Laid) (mark : Bool) (q : ℕ) {x : Ending} → StopsAt q (sought s true (t .position) (t .end)) → retried s t blocks l mark ≡ motion.Ended x → KeptBelow q x
+    pub retry-keeps-below : (l : Laid) (mark : Bool) (q : ℕ) {x : Ending} → StopsAt q (sought s true (t .position) (t .end)) → retried s t blocks l mark ≡ motion.Ended x → KeptBelow s m q x
     unfolding retried
     retry-keeps-below l mark q e y = rw y at (retry-by l mark q (sought s true (t .position) (t .end)) e)

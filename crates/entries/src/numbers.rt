@@ -44,8 +44,8 @@ pub fn numbers_of(e: Entry) -> [u32; 31]
         bit_of(u.attention.unit_owns),
         bit_of(u.attention.pending),
         bit_of(u.attention.release_ie),
-        low(u.characteristics.address),
-        low(u.characteristics.length),
+        u.characteristics.address,
+        u.characteristics.length,
         bit_of(u.characteristics.eai),
         bit_of(u.characteristics.ess),
         bit_of(u.characteristics.enb),
@@ -90,8 +90,8 @@ fn unit_of(n: [u32; 31]) -> Unit
         release_ie: n[13] != 0,
     };
     let characteristics = Characteristics {
-        address: n[14] as usize,
-        length: n[15] as usize,
+        address: n[14],
+        length: n[15],
         eai: n[16] != 0,
         ess: n[17] != 0,
         enb: n[18] != 0,

@@ -12,7 +12,7 @@ use Rattle.tape.specs.Bytes.{movedBytes, movedTo, readInto, recordBytes}
 use Rattle.tape.specs.Objects.{imagesOf}
 use Rattle.state.specs.declared.Unit.{Unit}
 use Rattle.motions.specs.Parts.{laidBlocks, movedLength, objectBlocks}
-use Rattle.commands.specs.Effects.{still}
+use Rattle.commands.specs.Ends.{still}
 use Rattle.commands.specs.declared.plans.Answer.the-variants as answer
 use Rattle.commands.specs.declared.plans.Plan.{Plan}
 use Rattle.storing.specs.Stored.{StoredPlan, laidObject, laidObjects, laidOn, memoryAfter, messageOn, movedOn, reelAfter}

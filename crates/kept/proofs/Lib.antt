@@ -1,4 +1,4 @@
--- What an advance keeps: a well formed reel, and a position that is a bound of it.
+-- What an advance keeps: a well formed reel and a position that is a bound of it, and a buffer's numbers of 32 bits.
 pub mod Standing
 pub mod Overlaid
 pub mod Reading
@@ -6,7 +6,5 @@ pub mod Spacing
 pub mod Writing
 pub mod Carrying
 pub mod Lengths
-pub mod Stepping
 pub mod Advanced
-pub mod Walk
 pub mod Buffers

@@ -1,4 +1,4 @@
--- The numbers of every end fit their bytes: the class is one of the paper's, and what is found and XST3 are one byte each.
+-- The numbers of every end fit their words: the class is one of the paper's, and what is found and XST3 are words.
 use mathlib.Core.Bool.{Bool, not}
 use Prim.Native.Nat.{ℕ, _≤_, _<_}
 use native.Mathlib.Omega.{arith}
@@ -24,8 +24,8 @@ Has P (motion.Fault k) = Unit {0}
 
 pub record EndFits (x : End) : Type 0 where
   pub class : x .class ≤ 6
-  pub found : x .found < 256
-  pub xst3 : x .xst3 < 256
+  pub found : x .found < 65536
+  pub xst3 : x .xst3 < 65536
 
 pub flag-most : (b : Bool) (w : ℕ) → flagOf b w ≤ w
 flag-most b w = either (λ n. n ≤ w) b w 0 (omega arith) (omega arith)

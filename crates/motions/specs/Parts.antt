@@ -14,7 +14,7 @@ use Rattle.motions.specs.declared.parts.Ending.{Ending}
 use Rattle.motions.specs.declared.parts.Motion.{Motion}
 use Rattle.motions.specs.declared.parts.Motion.the-variants as motion
 
--- an end: class, XST0's high byte, XST3, residual
+-- an end: class, what was found for XST0, XST3, residual
 abbrev pub end : ℕ → ℕ → ℕ → Residual → End
 end class found xst3 left = record { class = class; found = found; xst3 = xst3; residual = left }
 
@@ -27,9 +27,12 @@ noMove = record { first = 0; length = 0; reverse = false; pointer = 0; count = 0
 abbrev pub noLay : Laid
 noLay = record { at = 0; «gap_first» = false; object = kind.Nothing; pointer = 0; length = 0; swb = false }
 
--- a motion that ended and moves and lays nothing
+-- an end that moves and lays nothing
+abbrev pub resting : End → Tape → Ending
+resting x t = record { end = x; tape = t; moved = noMove; laid = noLay }
+
 abbrev pub stops : End → Tape → Motion
-stops x t = motion.Ended (record { end = x; tape = t; moved = noMove; laid = noLay })
+stops x t = motion.Ended (resting x t)
 
 -- the blocks of what is laid
 unfoldable pub objectBlocks : ObjectKind → ℕ → ℕ

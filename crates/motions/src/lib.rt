@@ -13,6 +13,7 @@ pub use parts::laid_blocks;
 pub use parts::moved_bytes;
 pub use parts::no_lay;
 pub use parts::no_move;
+pub use parts::rest;
 pub use reads::Buffer;
 pub use reads::read_one;
 pub use reads::reread_one;

@@ -4,7 +4,7 @@ use state::Tape;
 ghost use mathlib.Core.Path.{_≡_};
 ghost use Prim.Native.Nat.{_+_, _≤_};
 ghost use Rattle.tape.specs.Numbers.{capacityLimit};
-ghost use Rattle.motions.specs.Parts.{laidBlocks, movedLength, noLay, noMove, objectBlocks};
+ghost use Rattle.motions.specs.Parts.{laidBlocks, movedLength, noLay, noMove, objectBlocks, resting};
 
 // The bytes that a Read moves: of the record of `length` bytes at block `first`, to a buffer of `count` bytes at `pointer`.
 pub struct Moved {
@@ -71,6 +71,20 @@ pub fn no_lay() -> Laid
         pointer: 0,
         length: 0,
         swb: false,
+    }
+}
+
+// An end that moves and lays nothing.
+pub fn rest(end: End, tape: Tape) -> Ending
+    ensures { λ r. ⌜ r ≡ resting end tape ⌝ }
+{
+    let moved = no_move();
+    let laid = no_lay();
+    Ending {
+        end,
+        tape,
+        moved,
+        laid,
     }
 }
 

@@ -18,7 +18,7 @@ use Rattle.state.specs.declared.act.Act.the-variants as act
 use Rattle.state.proofs.Tests.{either}
 use Rattle.moves.specs.Between.{Bound}
 use Rattle.motions.specs.Parts.{standing}
-use Rattle.commands.specs.Effects.{still}
+use Rattle.commands.specs.Ends.{still}
 use Rattle.commands.specs.declared.plans.Answer.the-variants as answer
 use Rattle.storing.specs.Stored.{reelAfter}
 use Rattle.kept.proofs.Advanced

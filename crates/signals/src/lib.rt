@@ -22,29 +22,48 @@ pub use packet::fetch;
 pub use packet::header_of;
 pub use packet::words_of;
 
-// XST0's high byte: what the command found.
-pub const TMK: u8 = 128;
+// XST0, from bit 15 on: what the command found, then the unit's condition.
+pub const TMK: u16 = 0x8000;
 
-pub const RLS: u8 = 64;
+pub const RLS: u16 = 0x4000;
 
-pub const LET: u8 = 32;
+pub const LET: u16 = 0x2000;
 
-pub const RLL: u8 = 16;
+pub const RLL: u16 = 0x1000;
 
-pub const WLE: u8 = 8;
+pub const WLE: u16 = 0x0800;
 
-pub const NEF: u8 = 4;
+pub const NEF: u16 = 0x0400;
 
-pub const ILC: u8 = 2;
+pub const ILC: u16 = 0x0200;
 
-pub const ILA: u8 = 1;
+pub const ILA: u16 = 0x0100;
+
+pub const MOT: u16 = 0x0080;
+
+pub const ONL: u16 = 0x0040;
+
+pub const IE: u16 = 0x0020;
+
+pub const VCK: u16 = 0x0010;
+
+pub const PED: u16 = 0x0008;
+
+pub const WLK: u16 = 0x0004;
+
+pub const BOT: u16 = 0x0002;
+
+pub const EOT: u16 = 0x0001;
 
 // XST3.
-pub const OPI: u8 = 64;
+pub const OPI: u16 = 0x0040;
 
-pub const REV: u8 = 32;
+pub const REV: u16 = 0x0020;
 
-pub const RIB: u8 = 1;
+pub const RIB: u16 = 0x0001;
+
+// Pointers have 18 bits.
+pub const POINTER_LIMIT: usize = 0x40000;
 
 // The message's length in bytes, and the least that a message buffer may have.
 pub const MESSAGE: usize = 14;

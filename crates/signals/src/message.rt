@@ -2,7 +2,7 @@
 use crate::counts::Residual;
 use crate::counts::residual_word;
 use lists::put_word;
-use lists::wide;
+use std::num::wrapping_add_u16;
 ghost use mathlib.Core.Path.{_≡_};
 ghost use Prim.Native.Nat.{_+_, _≤_};
 ghost use lib.ListN.{length};
@@ -11,9 +11,9 @@ ghost use Rattle.signals.specs.Message.{flagOf, headerWord, messageOf, m
 // What the end of a command says of itself.
 pub struct End {
     pub class: usize,
-    // XST0's high byte.
-    pub found: u8,
-    pub xst3: u8,
+    // XST0's bits 15 to 8, at their places.
+    pub found: u16,
+    pub xst3: u16,
     pub residual: Residual,
 }
 
@@ -28,24 +28,24 @@ pub struct Status {
     pub eot: bool,
 }
 
-pub fn flag(b: bool, w: u8) -> u8
+pub fn flag(b: bool, w: u16) -> u16
     ensures is { λ r. ⌜ r ≡ flagOf b w ⌝ }
     ensures low { λ r. ⌜ r ≤ w ⌝ }
 {
     if b { w } else { 0 }
 }
 
-fn status_byte(s: Status) -> u8
+fn status_byte(s: Status) -> u16
     ensures { λ r. ⌜ r ≡ statusByte s ⌝ }
 {
-    flag(s.mot, 128)
-        + flag(s.onl, 64)
-        + flag(s.ie, 32)
-        + flag(s.vck, 16)
-        + 8
-        + flag(s.wlk, 4)
-        + flag(s.bot, 2)
-        + flag(s.eot, 1)
+    flag(s.mot, crate::MOT)
+        + flag(s.onl, crate::ONL)
+        + flag(s.ie, crate::IE)
+        + flag(s.vck, crate::VCK)
+        + crate::PED
+        + flag(s.wlk, crate::WLK)
+        + flag(s.bot, crate::BOT)
+        + flag(s.eot, crate::EOT)
 }
 
 // The header word, by the class; 3 goes by NEF.
@@ -64,17 +64,16 @@ fn header_word(class: usize, nef: bool) -> u16
 pub fn message_of(e: End, s: Status) -> [u16; 7]
     ensures { λ r. ⌜ r ≡ messageOf e s ⌝ }
 {
-    let found = wide(e.found);
     let residual = e.residual;
-    let xst0 = 256 * found + wide(status_byte(s));
+    let nef = e.found / crate::NEF % 2 == 1;
     [
-        header_word(e.class, found / 4 % 2 == 1),
+        header_word(e.class, nef),
         10,
         residual_word(residual),
-        xst0 as u16,
+        wrapping_add_u16(e.found, status_byte(s)),
         0,
         0,
-        wide(e.xst3) as u16,
+        e.xst3,
     ]
 }
 

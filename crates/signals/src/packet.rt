@@ -4,6 +4,7 @@ ghost use mathlib.Core.Path.{_≡_};
 ghost use Prim.Native.Nat.{_+_, _*_, _≤_, _<_};
 ghost use lib.ListN.{length};
 ghost use Rattle.signals.specs.Header.{headerOf, packetOf, wordsOf};
+ghost use Rattle.signals.specs.Numbers.{pointerLimit};
 
 // The header word's fields.
 pub struct Header {
@@ -54,9 +55,9 @@ pub struct Packet {
 }
 
 pub fn fetch(mem: &[u8], at: usize, code: usize) -> Packet
-    requires { ⌜ (at + 2 * wordsOf code ≤ length (now mem)) × (at < 262144) ⌝ }
+    requires { ⌜ (at + 2 * wordsOf code ≤ length (now mem)) × (at < pointerLimit) ⌝ }
     ensures is { λ r. ⌜ r ≡ packetOf (now (mem .entry)) at code ⌝ }
-    ensures low { λ r. ⌜ r .pointer < 262144 ⌝ }
+    ensures low { λ r. ⌜ r .pointer < pointerLimit ⌝ }
 {
     let words = words_of(code);
     if words == 4 {

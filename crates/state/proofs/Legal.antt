@@ -8,6 +8,7 @@ use lib.Dec.{eqb, leb, ltb}
 use Rattle.lists.specs.Pick.{pick}
 use Rattle.tape.specs.Numbers.{blockBytes, capacityLimit}
 use Rattle.signals.specs.Message.{messageBytes}
+use Rattle.signals.specs.Numbers.{pointerLimit}
 use Rattle.state.specs.declared.Unit.{Unit}
 use Rattle.state.specs.declared.Tape.{Tape}
 use Rattle.state.specs.declared.Registers.{Registers}
@@ -18,7 +19,7 @@ use Rattle.state.specs.declared.Lengths.{Lengths}
 use Rattle.state.specs.declared.act.Act.{Act}
 use Rattle.state.specs.declared.act.Act.the-variants as act
 use Rattle.state.specs.Changes.{acceptedWrite, initialized, mountedAs, operated, rejectedWrite, switchedLine, switchedLock, tsdbWritten, withRegisters}
-use Rattle.state.specs.Checks.{blocksRight, bufferWrong, lastClass, lengthsWrong, memoryLimit, memoryRight, pointerLimit, refusalOf, registersWrong, stateWrong, tapeWrong}
+use Rattle.state.specs.Checks.{blocksRight, bufferWrong, lastClass, lengthsWrong, memoryLimit, memoryRight, refusalOf, registersWrong, stateWrong, tapeWrong}
 use Rattle.state.specs.Legal.{BufferFits, Legal}
 use Rattle.lists.proofs.Cases.{past}
 use Rattle.state.proofs.Tests.{either, neither, none-unless, unless}

@@ -1,10 +1,10 @@
 -- Laws of tests: which way parts of a test went, and two numbers' tests that say the same.
 use mathlib.Core.Path.{_≡_, refl, sym}
 use mathlib.Core.Bool.{Bool, true, false, _||_, _&&_, not, true≢false, and-eq-true-iff}
-use Prim.Native.Nat.{ℕ, _+_, _-_, _*_, _/_, _%_, _≤_}
+use Prim.Native.Nat.{ℕ, _*_, _/_, _%_}
 use native.Mathlib.Omega.{arith}
-use borrow.Author.Tests.{ltb-true, lt-ltb, eqb-true, eq-eqb}
-use lib.Dec.{eqb, ltb}
+use borrow.Author.Tests.{eqb-true, eq-eqb}
+use lib.Dec.{eqb}
 use Rattle.lists.specs.Pick.{pick}
 use Rattle.tape.specs.Numbers.{blockBytes}
 
@@ -33,13 +33,6 @@ same true true f g = refl
 same true false f g = sym (f refl)
 same false true f g = g refl
 same false false f g = refl
-
--- a buffer outside memory, by a difference and by a sum
-pub difference : (memory address size : ℕ) → size ≤ memory → ltb (memory - size) address ≡ ltb memory (address + size)
-difference memory address size h =
-    same (ltb (memory - size) address) (ltb memory (address + size))
-    (λ p. lt-ltb memory (address + size) (omega (arith, ltb-true (memory - size) address p)))
-    (λ p. lt-ltb (memory - size) address (omega (arith, ltb-true memory (address + size) p)))
 
 -- a length in whole blocks, by its rest and quotient and by a product
 pub whole-blocks : (n blocks : ℕ) → (eqb (n % blockBytes) 0 && eqb (n / blockBytes) blocks) ≡ eqb n (blockBytes * blocks)

@@ -5,6 +5,7 @@ use lib.Dec.{eqb, leb, ltb}
 use Rattle.lists.specs.Pick.{pick}
 use Rattle.tape.specs.Numbers.{blockBytes, capacityLimit}
 use Rattle.signals.specs.Message.{messageBytes}
+use Rattle.signals.specs.Numbers.{pointerLimit}
 use Rattle.state.specs.declared.Unit.{Unit}
 use Rattle.state.specs.declared.Tape.{Tape}
 use Rattle.state.specs.declared.Registers.{Registers}
@@ -21,10 +22,6 @@ memoryRight n = (eqb (n % 2) 0 && leb 2 n) && leb n memoryLimit
 -- "Reel slice: 1 to 65,536 blocks"
 abbrev pub blocksRight : ℕ → Bool
 blocksRight b = leb 1 b && leb b capacityLimit
-
--- "pointer past 18 bits"
-abbrev pub pointerLimit : ℕ
-pointerLimit = 262144
 
 abbrev pub lastClass : ℕ
 lastClass = 6

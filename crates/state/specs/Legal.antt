@@ -4,7 +4,8 @@ use mathlib.Core.Bool.{false}
 use Prim.Native.Nat.{ℕ, _+_, _%_, _<_, _≤_}
 use Rattle.tape.specs.Numbers.{capacityLimit}
 use Rattle.signals.specs.Message.{messageBytes}
-use Rattle.state.specs.Checks.{lastClass, memoryLimit, pointerLimit}
+use Rattle.signals.specs.Numbers.{pointerLimit}
+use Rattle.state.specs.Checks.{lastClass, memoryLimit}
 use Rattle.state.specs.declared.Unit.{Unit}
 use Rattle.state.specs.declared.Characteristics.{Characteristics}
 

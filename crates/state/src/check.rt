@@ -10,8 +10,6 @@ ghost use Rattle.state.specs.Checks.{blocksRight, bufferWrong, lengthsWr
 
 pub const MEMORY_LIMIT: usize = 262144;
 
-pub const POINTER_LIMIT: usize = 262144;
-
 pub const LAST_CLASS: usize = 6;
 
 pub fn memory_right(n: usize) -> bool
@@ -35,17 +33,16 @@ fn tape_wrong(t: Tape, blocks: usize) -> bool
 fn registers_wrong(g: Registers) -> bool
     ensures { λ r. ⌜ r ≡ registersWrong g ⌝ }
 {
-    (POINTER_LIMIT <= g.pointer) | (LAST_CLASS < g.class)
+    (signals::POINTER_LIMIT <= g.pointer) | (LAST_CLASS < g.class)
 }
 
-// A difference and no sum: both numbers may be made up.
+// Both numbers may be made up, but their sum doesn't wrap: they have 32 bits.
 pub fn buffer_wrong(c: Characteristics, memory: usize) -> bool
     ensures { λ r. ⌜ r ≡ bufferWrong c memory ⌝ }
 {
-    if memory < c.length {
-        return true;
-    }
-    (c.address % 2 == 1) | (c.length < signals::MESSAGE) | (memory - c.length < c.address)
+    let address = c.address as usize;
+    let length = c.length as usize;
+    (address % 2 == 1) | (length < signals::MESSAGE) | (memory < address + length)
 }
 
 fn lengths_wrong(l: Lengths) -> bool

@@ -6,7 +6,6 @@ mod register;
 pub use act::Act;
 pub use act::mounted;
 pub use check::MEMORY_LIMIT;
-pub use check::POINTER_LIMIT;
 pub use check::blocks_right;
 pub use check::buffer_wrong;
 pub use check::memory_right;
@@ -44,8 +43,8 @@ pub struct Attention {
 
 // What Write Characteristics took.
 pub struct Characteristics {
-    pub address: usize,
-    pub length: usize,
+    pub address: u32,
+    pub length: u32,
     pub eai: bool,
     pub ess: bool,
     pub enb: bool,

@@ -2,27 +2,22 @@
 use mathlib.Core.Path.{_≡_}
 use mathlib.Core.Bool.{Bool, true, false}
 use mathlib.Core.List.{List}
-use Prim.Native.Nat.{ℕ, _+_, _≤_, _<_, min}
+use Prim.Native.Nat.{ℕ, _+_, _≤_, min}
 use native.Mathlib.Omega.{arith}
 use lib.ListN.{length, getD, length-drop, length-take}
-use Rattle.lists.specs.Places.{gathered, place, placed}
+use Rattle.lists.specs.Places.{gathered, placed}
 use Rattle.lists.proofs.Back.{put-back}
 use Rattle.lists.proofs.Placed.{placed-other}
 use Rattle.tape.specs.Bytes.{movedBytes, movedTo, readInto, recordBytes}
 use Rattle.tape.proofs.Recorded.{record-length}
 use Rattle.motions.specs.Parts.{movedLength}
 use Rattle.motions.specs.declared.parts.Moved.{Moved}
+use Rattle.storing.specs.Outside.{OffData, dataTo}
 use Rattle.storing.specs.Stored.{MovedFits, movedOn}
 
--- the address of the first data byte, the data bytes, and that j is none of their places
-abbrev pub dataTo : Moved → ℕ
-dataTo x = movedTo (x .reverse) (x .pointer) (x .count) (x .length)
-
+-- the data bytes
 abbrev pub dataFrom : List ℕ → Moved → List ℕ
 dataFrom s x = movedBytes (x .reverse) (x .count) (recordBytes s (x .first) (x .length))
-
-abbrev pub OffData : Moved → ℕ → Type 0
-OffData x j = (i : ℕ) → i < movedLength x → j ≡ place (x .swb) (dataTo x + i) → ⊥
 
 -- how many bytes of a record are moved, and that the buffer holds them, either way
 length-chosen : (reverse : Bool) (count n : ℕ) (d : List ℕ) → length d ≡ n → length (movedBytes reverse count d) ≡ min n count

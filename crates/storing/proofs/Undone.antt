@@ -20,18 +20,13 @@ use Rattle.state.proofs.Tests.{either}
 use Rattle.motions.specs.Parts.{laidBlocks, movedLength}
 use Rattle.motions.specs.declared.parts.Laid.{Laid}
 use Rattle.commands.specs.declared.plans.Plan.{Plan}
+use Rattle.storing.specs.Outside.{OffData, OffMessage, dataTo, messageTo}
 use Rattle.storing.specs.Stored.{LaidFits, MovedFits, Storable, laidObjects, laidOn, memoryAfter, messageOn, movedOn, reelAfter}
-use Rattle.storing.proofs.DataPlaces.{OffData, data-kept, data-undone, dataTo}
+use Rattle.storing.proofs.DataPlaces.{data-kept, data-undone}
 use Rattle.storing.proofs.Lengths.{length-laid, length-memory, length-moved, length-reel}
 use Rattle.storing.proofs.Ways.{message-sent, none-sent}
 
--- the message's address, that j is none of its places, and memory after the data and before the message
-abbrev pub messageTo : Plan → ℕ
-messageTo p = p .unit .characteristics .address
-
-abbrev pub OffMessage : Plan → ℕ → Type 0
-OffMessage p j = p .sends ≡ true → (i : ℕ) → i < messageBytes → j ≡ messageTo p + i → ⊥
-
+-- memory after the data and before the message
 abbrev pub dataAfter : Plan → List ℕ → List ℕ → List ℕ
 dataAfter p m s = movedOn (reelAfter p m s) (p .moved) m
 

@@ -61,7 +61,7 @@ pub fn store(p: Plan, mem: &mut [u8], reel: &mut [u8])
     lay(reel, l, mem);
     move_data(reel, m, mem);
     if p.sends {
-        let a = p.unit.characteristics.address;
+        let a = p.unit.characteristics.address as usize;
         let words = p.message;
         signals::put_message(mem, a, words);
     }

@@ -10,7 +10,7 @@ use Rattle.motions.specs.Parts.{laidBlocks, movedLength, objectBlocks}
 use Rattle.motions.specs.Reads.{readEnd}
 use Rattle.tape.specs.Bytes.{movedTo}
 use Rattle.commands.specs.Commands.{released}
-use Rattle.commands.specs.Effects.{effectOf, endedUnit, finished, finishedBy, planned, silenced, still}
+use Rattle.commands.specs.Ends.{effectOf, endedUnit, finished, finishedBy, planned, silenced, still}
 use Rattle.journal.specs.Entries.{entryFor, entryLength, movedPlace}
 use Rattle.table.specs.Table.{Table}
 use Rattle.table.proofs.Places.{after-first, before-last, first, last}

@@ -20,7 +20,7 @@ use Rattle.moves.proofs.Within.{sought-in, sought-record}
 use Rattle.motions.specs.Parts.{standing}
 use Rattle.motions.specs.Reads.{firstBlock, onRecord, readEnd, readMotion, readOne, stageBy, stageOf}
 use Rattle.commands.specs.Commands.{asked, readBy}
-use Rattle.commands.specs.Effects.{endedUnit, finished, finishedBy, motionEffect, planned, statusOf, told, toldUnit}
+use Rattle.commands.specs.Ends.{endedUnit, finished, finishedBy, motionEffect, planned, statusOf, told, toldUnit}
 use Rattle.storing.specs.Stored.{movedOn}
 use Rattle.table.specs.Table.{Clear, Plain, ShortRead, readPlan}
 

@@ -20,7 +20,7 @@ use Rattle.moves.specs.Seeking.{sought}
 use Rattle.moves.specs.declared.seeking.Sought.the-variants as sought-as
 use Rattle.motions.specs.Reads.{bytes, readEnd}
 use Rattle.commands.specs.Commands.{readBy, released}
-use Rattle.commands.specs.Effects.{planned}
+use Rattle.commands.specs.Ends.{planned}
 use Rattle.commands.specs.declared.plans.Plan.{Plan}
 use Rattle.storing.specs.Stored.{movedOn}
 use Rattle.journal.specs.Entries.{entryFor, entryLength}

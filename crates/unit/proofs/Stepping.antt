@@ -16,12 +16,12 @@ use Rattle.state.specs.declared.act.Act.{Act}
 use Rattle.state.specs.declared.act.Act.the-variants as act
 use Rattle.state.proofs.Legal.{legal-initialized, legal-operated, legal-tsdb}
 use Rattle.state.proofs.Tests.{either, neither}
-use Rattle.commands.specs.Effects.{still}
+use Rattle.commands.specs.Ends.{still}
 use Rattle.commands.specs.declared.plans.Answer.the-variants as answer
 use Rattle.commands.specs.declared.plans.Plan.{Plan}
 use Rattle.storing.specs.Stored.{Storable}
 use Rattle.advance.specs.Steps.{advanced}
-use Rattle.advance.proofs.Kept.{advanced-seven, advanced-sound}
+use Rattle.advance.proofs.Planned.{advanced-seven, advanced-sound}
 use Rattle.touched.specs.Touches.{Only, Sizes, TouchedIn, none}
 use Rattle.unit.specs.Asks.{Ask, Asked, advance, host-store, operate, write-tsdb, write-tssr}
 use Rattle.unit.specs.Cores.{Accepted, Core}

@@ -10,7 +10,7 @@ use Rattle.state.specs.declared.Unit.{Unit}
 use Rattle.commands.specs.declared.plans.Plan.{Plan}
 use Rattle.storing.specs.Stored.{Storable}
 use Rattle.advance.specs.Steps.{advanced}
-use Rattle.advance.proofs.Kept.{SoundPlan, advanced-sound}
+use Rattle.advance.proofs.Planned.{SoundPlan, advanced-sound}
 
 sound-storable : (u : Unit) → Legal u → (p : Plan) → SoundPlan u p → Storable p (u .lengths .memory) (blockBytes * u .lengths .blocks)
 sound-storable u l p f =

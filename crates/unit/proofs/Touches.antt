@@ -16,7 +16,7 @@ use Rattle.tape.specs.Numbers.{blockBytes}
 use Rattle.signals.specs.Message.{messageBytes}
 use Rattle.state.specs.declared.Unit.{Unit}
 use Rattle.motions.specs.Parts.{laidBlocks, objectBlocks}
-use Rattle.commands.specs.Effects.{still}
+use Rattle.commands.specs.Ends.{still}
 use Rattle.commands.specs.declared.plans.Answer.{Answer}
 use Rattle.commands.specs.declared.plans.Plan.{Plan}
 use Rattle.storing.specs.Stored.{Storable, memoryAfter, reelAfter}

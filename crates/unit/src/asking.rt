@@ -11,7 +11,7 @@ ghost use Prim.Native.Nat.{_+_, _≤_, _<_, _%_};
 ghost use lib.ListN.{length};
 ghost use lib.Seq.{sets};
 ghost use Rattle.tape.specs.Numbers.{capacityLimit};
-ghost use Rattle.state.specs.Checks.{pointerLimit};
+ghost use Rattle.signals.specs.Numbers.{pointerLimit};
 ghost use Rattle.storing.specs.Stored.{Storable, StoredPlan};
 ghost use Rattle.advance.specs.Steps.{advanced};
 ghost use Rattle.unit.specs.Touching.{hostTouched, movedPlace, touchedBy};
@@ -51,7 +51,7 @@ pub fn touched_by(p: Plan) -> Touched
     let data_length = moved_bytes(m);
     let reel_blocks = laid_blocks(l);
     if p.sends {
-        let message_at = p.unit.characteristics.address;
+        let message_at = p.unit.characteristics.address as usize;
         return Touched {
             data_at,
             data_length,

@@ -9,7 +9,8 @@ use lib.ListN.{length}
 use Rattle.lists.specs.Pick.{pick}
 use Rattle.lists.proofs.Cases.{by-test, past}
 use Rattle.tape.specs.Numbers.{blockBytes, capacityLimit}
-use Rattle.state.specs.Checks.{pointerLimit, refusalOf, stateWrong}
+use Rattle.signals.specs.Numbers.{pointerLimit}
+use Rattle.state.specs.Checks.{refusalOf, stateWrong}
 use Rattle.state.proofs.Legal.{accepted, right}
 use Rattle.state.proofs.Tests.{neither}
 use Rattle.touched.specs.Touches.{Sizes}

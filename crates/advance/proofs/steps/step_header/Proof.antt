@@ -8,12 +8,12 @@ use Rattle.advance.proofs.steps.step_header.Tie as tie
 add-if1 : tie.Need-add-if1
 add-if1 c = search needs
 
-effect-of-requires : tie.Need-effect-of-requires
-effect-of-requires c κs = search needs
+untell-requires : tie.Need-untell-requires
+untell-requires c κs = search needs
 
 returns : tie.Need-returns
 unfolding stepHeader
-returns c = rw (c .effect-of .ensures, lt-ltb _ _ (c .before .if1 .taken))
+returns c = rw (lt-ltb _ _ (c .before .if1 .taken)) (c .untell .ensures)
 
 word-requires : tie.Need-word-requires
 word-requires c κs = search needs
@@ -33,7 +33,7 @@ step-header-spec =
     tie.close
     (tie.spec
     add-if1
-    effect-of-requires
+    untell-requires
     returns
     word-requires
     header-of-requires

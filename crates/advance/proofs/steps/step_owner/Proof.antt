@@ -6,14 +6,14 @@ use Rattle.advance.specs.Steps.{stepOwner}
 use Rattle.advance.proofs.steps.step_owner.Statement.{statement}
 use Rattle.advance.proofs.steps.step_owner.Tie as tie
 
-effect-of-requires : tie.Need-effect-of-requires
-effect-of-requires c κs = search needs
+untell-requires : tie.Need-untell-requires
+untell-requires c κs = search needs
 
 returns : tie.Need-returns
 unfolding stepOwner
 returns c =
     let a = c .before .before .before .before .before .before .before .args in
-    rw (c .effect-of .ensures, not-true (a .u .attention .«unit_owns» || a .h .ack) (c .before .if1 .taken))
+    rw (← c .untell .ensures, not-true (a .u .attention .«unit_owns» || a .h .ack) (c .before .if1 .taken))
 
 step-attention-requires : tie.Need-step-attention-requires
 step-attention-requires c κs = search needs
@@ -25,4 +25,4 @@ returns-2 c =
     rw (← c .step-attention .ensures, not-false (a .u .attention .«unit_owns» || a .h .ack) (c .before .if1 .left))
 
 pub step-owner-spec : {M : Type 1} → statement M
-step-owner-spec = tie.close (tie.spec effect-of-requires returns step-attention-requires returns-2)
+step-owner-spec = tie.close (tie.spec untell-requires returns step-attention-requires returns-2)

@@ -28,6 +28,12 @@ word-requires-3 c κs = search needs
 mode-word-requires : tie.Need-mode-word-requires
 mode-word-requires c κs = search needs
 
+cast-t10 : tie.Need-cast-t10
+cast-t10 c = search needs
+
+cast-t11 : tie.Need-cast-t11
+cast-t11 c = search needs
+
 returns : tie.Need-returns
 unfolding characteristicsAt
 returns c = rw (c .mode-word .ensures, c .before .word3 .ensures .0, c .before .before .before .word2 .ensures .0, c .before .before .before .before .before .word .ensures .0)
@@ -44,4 +50,6 @@ characteristics-at-spec =
     add-word-2
     word-requires-3
     mode-word-requires
+    cast-t10
+    cast-t11
     returns)

@@ -15,6 +15,9 @@ returns c = rw (lt-ltb _ _ (c .before .if1 .taken)) (c .refuse-characteristics .
 characteristics-at-requires : tie.Need-characteristics-at-requires
 characteristics-at-requires c κs = search needs
 
+cast-if2 : tie.Need-cast-if2
+cast-if2 c = search needs
+
 buffer-wrong-requires : tie.Need-buffer-wrong-requires
 buffer-wrong-requires c κs = search needs
 
@@ -39,6 +42,7 @@ characterize-spec =
     refuse-characteristics-requires
     returns
     characteristics-at-requires
+    cast-if2
     buffer-wrong-requires
     refuse-characteristics-requires-2
     returns-2

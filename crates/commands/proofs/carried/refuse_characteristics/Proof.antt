@@ -4,12 +4,15 @@ use Rattle.commands.specs.Commands.{refusedCharacteristics}
 use Rattle.commands.proofs.carried.refuse_characteristics.Statement.{statement}
 use Rattle.commands.proofs.carried.refuse_characteristics.Tie as tie
 
-effect-of-requires : tie.Need-effect-of-requires
-effect-of-requires c κs = search needs
+rest-requires : tie.Need-rest-requires
+rest-requires c κs = search needs
+
+tell-requires : tie.Need-tell-requires
+tell-requires c κs = search needs
 
 returns : tie.Need-returns
 unfolding refusedCharacteristics
-returns c = rw (c .effect-of .ensures)
+returns c = rw (← c .before .rest .ensures) (c .tell .ensures)
 
 pub refuse-characteristics-spec : {M : Type 1} → statement M
-refuse-characteristics-spec = tie.close (tie.spec effect-of-requires returns)
+refuse-characteristics-spec = tie.close (tie.spec rest-requires tell-requires returns)

@@ -1,18 +1,15 @@
--- `release` meets its contract: a plain end of the unit with its stores.
+-- `release` meets its contract: an end that is not told, of the unit with its IE.
 use borrow.Author.Needs.{needs}
 use Rattle.commands.specs.Commands.{released}
 use Rattle.commands.proofs.carried.release.Statement.{statement}
 use Rattle.commands.proofs.carried.release.Tie as tie
 
-plain-end-requires : tie.Need-plain-end-requires
-plain-end-requires c κs = search needs
-
-effect-of-requires : tie.Need-effect-of-requires
-effect-of-requires c κs = search needs
+untell-requires : tie.Need-untell-requires
+untell-requires c κs = search needs
 
 returns : tie.Need-returns
 unfolding released
-returns c = rw (c .effect-of .ensures, c .before .plain-end .ensures)
+returns c = c .untell .ensures
 
 pub release-spec : {M : Type 1} → statement M
-release-spec = tie.close (tie.spec plain-end-requires effect-of-requires returns)
+release-spec = tie.close (tie.spec untell-requires returns)

@@ -1,4 +1,4 @@
--- `take_characteristics` meets its contract: a plain end of the unit with its stores.
+-- `take_characteristics` meets its contract: NBA is clear, and all are taken.
 use borrow.Author.Needs.{needs}
 use Rattle.commands.specs.Commands.{takenCharacteristics}
 use Rattle.commands.proofs.carried.take_characteristics.Statement.{statement}
@@ -7,12 +7,16 @@ use Rattle.commands.proofs.carried.take_characteristics.Tie as tie
 plain-end-requires : tie.Need-plain-end-requires
 plain-end-requires c κs = search needs
 
-effect-of-requires : tie.Need-effect-of-requires
-effect-of-requires c κs = search needs
+rest-requires : tie.Need-rest-requires
+rest-requires c κs = search needs
+
+tell-requires : tie.Need-tell-requires
+tell-requires c κs = search needs
 
 returns : tie.Need-returns
 unfolding takenCharacteristics
-returns c = rw (c .effect-of .ensures, c .before .plain-end .ensures)
+returns c = rw (← c .before .before .plain-end .ensures, ← c .before .rest .ensures) (c .tell .ensures)
 
 pub take-characteristics-spec : {M : Type 1} → statement M
-take-characteristics-spec = tie.close (tie.spec plain-end-requires effect-of-requires returns)
+take-characteristics-spec =
+    tie.close (tie.spec plain-end-requires rest-requires tell-requires returns)

@@ -1,4 +1,4 @@
--- `unload` meets its contract: a plain end of the unit with its stores.
+-- `unload` meets its contract: a plain end at block 0, off line.
 use borrow.Author.Needs.{needs}
 use Rattle.commands.specs.Commands.{unloaded}
 use Rattle.commands.proofs.carried.unload.Statement.{statement}
@@ -7,12 +7,15 @@ use Rattle.commands.proofs.carried.unload.Tie as tie
 plain-end-requires : tie.Need-plain-end-requires
 plain-end-requires c κs = search needs
 
-effect-of-requires : tie.Need-effect-of-requires
-effect-of-requires c κs = search needs
+rest-requires : tie.Need-rest-requires
+rest-requires c κs = search needs
+
+tell-requires : tie.Need-tell-requires
+tell-requires c κs = search needs
 
 returns : tie.Need-returns
 unfolding unloaded
-returns c = rw (c .effect-of .ensures, c .before .plain-end .ensures)
+returns c = rw (← c .before .before .plain-end .ensures, ← c .before .rest .ensures) (c .tell .ensures)
 
 pub unload-spec : {M : Type 1} → statement M
-unload-spec = tie.close (tie.spec plain-end-requires effect-of-requires returns)
+unload-spec = tie.close (tie.spec plain-end-requires rest-requires tell-requires returns)

@@ -11,10 +11,11 @@ lay-requires c κs = search needs
 move-data-requires : tie.Need-move-data-requires
 move-data-requires c κs = search needs
 
+cast-a : tie.Need-cast-a
+cast-a c = search needs
+
 put-message-requires : tie.Need-put-message-requires
-put-message-requires c κs =
-    let start = c .before .before .before .before .before .before .before .before .before .before .before .before .before .before .before .before .before in
-    omega (arith, start .pre .message (c .before .before .if1 .taken), c .before .before .before .before .before .move-data .kept)
+put-message-requires c κs = omega (arith, c .before .before .before .before .before .before .before .before .before .before .before .before .before .before .before .before .before .before .pre .message (c .before .before .before .if1 .taken), c .before .before .before .before .before .before .move-data .kept)
 
 same-length : tie.Need-same-length
 same-length c = search needs
@@ -23,7 +24,7 @@ same-length-2 : tie.Need-same-length-2
 same-length-2 c = search needs
 
 returns : tie.Need-returns
-returns c = stored-sent _ _ _ _ _ (c .before .before .before .before .before .before .before .before .before .before .before .before .before .lay .ensures) (c .before .before .before .before .before .before .before .before .move-data .ensures) _ (c .before .before .before .before .before .if1 .taken) (c .before .before .put-message .ensures)
+returns c = stored-sent _ _ _ _ _ (c .before .before .before .before .before .before .before .before .before .before .before .before .before .before .lay .ensures) (c .before .before .before .before .before .before .before .before .before .move-data .ensures) _ (c .before .before .before .before .before .before .if1 .taken) (c .before .before .put-message .ensures)
 
 same-length-3 : tie.Need-same-length-3
 same-length-3 c = search needs
@@ -40,6 +41,7 @@ store-spec =
     (tie.spec
     lay-requires
     move-data-requires
+    cast-a
     put-message-requires
     same-length
     same-length-2

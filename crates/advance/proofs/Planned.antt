@@ -1,0 +1,56 @@
+-- An advance from a legal state leaves one, and moves, lays and sends inside memory and reel.
+use mathlib.Core.List.{List}
+use mathlib.Core.Logic.{inl}
+use mathlib.Core.Path.{_≡_, refl}
+use Prim.Native.Nat.{ℕ, _*_}
+use lib.ListN.{length}
+use Rattle.tape.specs.Numbers.{blockBytes}
+use Rattle.signals.specs.Codes.{commandOf}
+use Rattle.signals.specs.Message.{messageOf}
+use Rattle.state.specs.Legal.{Legal}
+use Rattle.state.specs.declared.Unit.{Unit}
+use Rattle.commands.specs.Ends.{ended, still, told, untold}
+use Rattle.commands.specs.declared.plans.Plan.{Plan}
+use Rattle.commands.proofs.Every.{Stands, Tells, every-carried}
+use Rattle.advance.specs.Steps.{advanced}
+use Rattle.advance.proofs.Carrying.{carried-sound}
+use Rattle.advance.proofs.Sound.{resting-fits, same-lengths, still-sound, told-sound, untold-sound}
+use Rattle.advance.proofs.Walk.{Alike, Carries, Rejects, Untold, advanced-all, alike-legal}
+pub use Rattle.advance.proofs.Sound.{SoundPlan}
+
+module _ (u : Unit) (m s : List ℕ) where
+  -- what holds of every end that is told and of every plan that stores nothing holds of an advance
+  pub every-advanced : (P : Plan → Type 0) → Tells (u .characteristics) (length m) P → Stands (u .characteristics) (length m) P → P (advanced u m s)
+  unfolding untold ended
+  every-advanced P tells stands =
+      advanced-all u m s P (λ v a ie x h. tells v (inl (a .characteristics)) ie _) (λ v a class i h. stands _ (inl (a .characteristics)) _)
+      (λ v a h p f d. every-carried v m P (λ w b ie x. tells w (rw (a .characteristics) at b) ie x) (λ w b x. stands w (rw (a .characteristics) at b) x) s h p (commandOf (h .code) (h .mode)))
+      (stands u (inl refl) _)
+
+  -- a message has seven words, whether it goes out or not
+  pub advanced-seven : length (advanced u m s .message) ≡ 7
+  unfolding told still messageOf
+  advanced-seven = every-advanced (λ p. length (p .message) ≡ 7) (λ v b ie x. refl) (λ v b a. refl)
+
+  module _ (l : Legal u) (e : length m ≡ u .lengths .memory) where
+    sound-rejects : Rejects u (SoundPlan u)
+    sound-rejects v a ie x h =
+        let k = alike-legal u v a l in
+        same-lengths (a .lengths) (told-sound v k ie _ (resting-fits (v .lengths) x (v .tape) (k .place) (k .capacity) h))
+
+    sound-untold : Untold u (SoundPlan u)
+    sound-untold v a class interrupts h = same-lengths (a .lengths) (untold-sound v (alike-legal u v a l) class interrupts h)
+
+    sound-carries : Carries u m s (SoundPlan u)
+    sound-carries v a h p f d =
+        same-lengths (a .lengths) (carried-sound v (alike-legal u v a l) m s h p (rw (a .lengths) e) (commandOf (h .code) (h .mode)) (λ t. rw (a .lengths, ← e) (d t)))
+
+pub advanced-sound : (u : Unit) (m s : List ℕ) → Legal u → length m ≡ u .lengths .memory → SoundPlan u (advanced u m s)
+advanced-sound u m s l e =
+    advanced-all u m s (SoundPlan u) (sound-rejects u m s l e) (sound-untold u m s l e) (sound-carries u m s l e) (still-sound u l _)
+
+pub advanced-legal : (u : Unit) (m s : List ℕ) → Legal u → length m ≡ u .lengths .memory → length s ≡ blockBytes * u .lengths .blocks → Legal (advanced u m s .unit)
+advanced-legal u m s l e f = advanced-sound u m s l e .legal
+
+pub advanced-lengths : (u : Unit) (m s : List ℕ) → Legal u → length m ≡ u .lengths .memory → advanced u m s .unit .lengths ≡ u .lengths
+advanced-lengths u m s l e = advanced-sound u m s l e .lengths

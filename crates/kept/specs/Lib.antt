@@ -1,0 +1,2 @@
+-- What an advance keeps.
+pub mod Formed
