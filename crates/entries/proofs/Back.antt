@@ -1,11 +1,10 @@
 -- An entry comes back from its numbers, whole: every field of the state has its place among them, so none can be forgotten.
 use mathlib.Core.Path.{_≡_, refl}
 use mathlib.Core.Bool.{Bool, true, false, not}
-use mathlib.Core.List.{List, [], _∷_}
-use Prim.Native.Nat.{ℕ, zero, suc, _%_, _<_}
+use Prim.Native.Nat.{ℕ, _%_, _<_}
 use native.Mathlib.Omega.{arith}
 use lib.Dec.{eqb}
-use lib.ListN.{length, getD}
+use lib.ListN.{length}
 use Rattle.entries.specs.declared.Entry.{Entry}
 use Rattle.entries.specs.Bytes.{headCount}
 use Rattle.entries.specs.Numbers.{Small, bit, entryOf, numberLimit, numbersOf, touchedOf, unitOf}
@@ -44,8 +43,6 @@ entry-back e h =
       told (a .«unit_owns»),
       told (a .pending),
       told (a .«release_ie»),
-      low _ (h .address),
-      low _ (h .length),
       told (k .eai),
       told (k .ess),
       told (k .enb),
@@ -59,34 +56,3 @@ entry-back e h =
       low _ (h .reel-at),
       low _ (h .reel-blocks),
     )
-
--- every number has at most four bytes, whatever the entry holds
-unfoldable Four : List ℕ → Type 0
-Four ns = (i : ℕ) → getD ns i 0 < numberLimit
-
-none : Four []
-unfolding Four
-none i = omega arith
-
-next : (n : ℕ) (ns : List ℕ) → n < numberLimit → Four ns → Four (n ∷ ns)
-unfolding Four
-next n ns h k zero = h
-next n ns h k (suc i) = k i
-
-mod-low : (x : ℕ) → x % numberLimit < numberLimit
-mod-low x = omega arith
-
-bit-low : (b : Bool) → bit b < numberLimit
-bit-low true = omega arith
-bit-low false = omega arith
-
-zero-low : 0 < numberLimit
-zero-low = omega arith
-
-four : (e : Entry) → Four (numbersOf e)
-unfolding numbersOf
-four e = search (next, none, mod-low, bit-low, zero-low) depth 40 fits 10000
-
-pub numbers-small : (e : Entry) (i : ℕ) → getD (numbersOf e) i 0 < numberLimit
-unfolding Four
-numbers-small e i = four e i

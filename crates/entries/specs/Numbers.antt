@@ -31,8 +31,8 @@ numbersOf e =
     ∷ bit (e .unit .attention .«unit_owns»)
     ∷ bit (e .unit .attention .pending)
     ∷ bit (e .unit .attention .«release_ie»)
-    ∷ e .unit .characteristics .address % numberLimit
-    ∷ e .unit .characteristics .length % numberLimit
+    ∷ e .unit .characteristics .address
+    ∷ e .unit .characteristics .length
     ∷ bit (e .unit .characteristics .eai)
     ∷ bit (e .unit .characteristics .ess)
     ∷ bit (e .unit .characteristics .enb)
@@ -92,14 +92,12 @@ touchedOf n =
 unfoldable pub entryOf : List ℕ → Entry
 entryOf n = record { unit = unitOf n; touched = touchedOf n }
 
--- every number of the entry has at most four bytes; so has each that the journal writes
+-- every number of the entry that its type lets be larger has at most four bytes; so has each that the journal writes
 pub record Small (e : Entry) : Type 0 where
   pub position : e .unit .tape .position < numberLimit
   pub end : e .unit .tape .end < numberLimit
   pub pointer : e .unit .registers .pointer < numberLimit
   pub class : e .unit .registers .class < numberLimit
-  pub address : e .unit .characteristics .address < numberLimit
-  pub length : e .unit .characteristics .length < numberLimit
   pub memory : e .unit .lengths .memory < numberLimit
   pub blocks : e .unit .lengths .blocks < numberLimit
   pub data-at : e .touched .«data_at» < numberLimit

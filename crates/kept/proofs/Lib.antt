@@ -1,4 +1,4 @@
--- What an advance keeps: a well formed reel and a position that is a bound of it, and a buffer's numbers of 32 bits.
+-- What an advance keeps: a well formed reel and a position that is a bound of it.
 pub mod Standing
 pub mod Overlaid
 pub mod Reading
@@ -7,4 +7,3 @@ pub mod Writing
 pub mod Carrying
 pub mod Lengths
 pub mod Advanced
-pub mod Buffers

@@ -2,9 +2,6 @@
 use crate::builds::bytes_in;
 use crate::builds::bytes_made;
 use commands::Answer;
-use worlds::Outcome;
-use worlds::RegisterRead;
-use worlds::Session;
 use script::Fault;
 use script::Three;
 use script::Value;
@@ -13,6 +10,9 @@ use script::find_word;
 use script::numbers;
 use state::Act;
 use unit::Register;
+use worlds::Outcome;
+use worlds::RegisterRead;
+use worlds::Session;
 
 // What a call came to, and what else its line prints: an entry's length, the interrupt, a word.
 pub struct Told {

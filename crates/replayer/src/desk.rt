@@ -1,5 +1,4 @@
 // All that the lines of a script change, besides the bytes of the buffers.
-use worlds::Session;
 use state::Attention;
 use state::Characteristics;
 use state::Lengths;
@@ -7,6 +6,7 @@ use state::Panel;
 use state::Registers;
 use state::Tape;
 use state::Unit;
+use worlds::Session;
 
 // In bytes.
 pub struct Sizes {

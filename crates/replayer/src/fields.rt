@@ -1,5 +1,4 @@
 // The state's fields in the order in which they are printed, and three more that can be set.
-use worlds::Session;
 use script::flag;
 use script::put_labelled;
 use state::Attention;
@@ -9,6 +8,7 @@ use state::Panel;
 use state::Registers;
 use state::Tape;
 use state::Unit;
+use worlds::Session;
 ghost use Prim.Native.Nat.{_<_};
 
 fn fields(s: Session) -> [usize; 23] {

@@ -14,7 +14,7 @@ use Rattle.worlds.specs.Worlds.{Answered, World, answered}
 use Rattle.worlds.specs.Calls.{backOn, entryFor, guarded, noted, refusedAs, undone}
 use Rattle.sessions.specs.Session.{Clean, Done, Kind, Machine, Moment, Ran, after, and-did, and-saw, back, backFrom, backs, does, looked, one-did, one-saw, pops, refused, standing, start, stepped, strike}
 use Rattle.sessions.specs.Calling.{Call, Noted, Said, broughtBack, doing, entryAt, journalOf, kindOf, ledgerOf, lengthOf, notedAt, onCall, wordOf, worldFrom}
-use Rattle.sessions.specs.Good.{Formed, Fresh, Good}
+use Rattle.sessions.specs.Good.{Fresh, Good}
 use Rattle.sessions.proofs.Striking.{entries-stand, fit-clean, fit-ran, one-end, strike-clean, struck, went-back}
 use Rattle.worlds.proofs.Undoing.{core-undone}
 use Rattle.sessions.proofs.Taken.{doing-keeps, doing-sound, stays, step-fit, step-undone, takenTo, took}
@@ -43,7 +43,7 @@ module _ (n : ℕ) where
   kept-good c s f k =
       record {
         fit = rw (← stepped-world c s k) (step-fit n (worldFrom n s) (f .fit) c k);
-        formed = doing-keeps n (worldFrom n s) (f .fit) c k .formed (f .formed);
+        formed = doing-keeps n (worldFrom n s) (f .fit) c k (f .formed);
       }
 
   -- a step is undone by its entry

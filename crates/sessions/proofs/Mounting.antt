@@ -32,7 +32,8 @@ use Rattle.unit.specs.Cores.{Core}
 use Rattle.worlds.specs.Passes.{Fit}
 use Rattle.sessions.specs.Session.{Moment, refused, stepped}
 use Rattle.sessions.specs.Calling.{Noted, journalOf, lengthOf, stepKind, worldFrom}
-use Rattle.sessions.specs.Good.{Formed, Fresh}
+use Rattle.kept.specs.Formed.{Formed}
+use Rattle.sessions.specs.Good.{Fresh}
 use Rattle.sessions.proofs.Keeping.{first-bound}
 use Rattle.sessions.proofs.Taken.{refused-none}
 
@@ -140,7 +141,6 @@ module _ (old : Session) (m r : List ℕ) (journal e : ℕ) (online locked : Boo
               journal-is = refl;
             });
         whole = refl;
-        held = record { address = omega arith; extent = omega arith };
       })
 
   -- the reel of a mount is well formed, and the tape stands at its first block
@@ -148,7 +148,7 @@ module _ (old : Session) (m r : List ℕ) (journal e : ℕ) (online locked : Boo
   unfolding mountedAs
   mounted-formed bytes =
       let f = whole-swept r e bytes (found .swept) in
-      rw (found .is) (record { objects = f .0; holds = f .1; bound = first-bound (f .0) })
+      rw (found .is) (f .0, f .1, first-bound (f .0))
 
   -- a mount begins a session
   pub mounted : Bytes r → Fresh journal (mountMoment old m r journal e online locked)

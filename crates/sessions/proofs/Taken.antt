@@ -23,7 +23,7 @@ use Rattle.worlds.proofs.Passing.{core-accepted, passed}
 use Rattle.worlds.specs.Passes.{Fit}
 use Rattle.sessions.specs.Session.{looked, refused, stepped}
 use Rattle.sessions.specs.Calling.{Call, doing, entryAt, kindOf, onCall, read-register, readKind, step, stepKind}
-use Rattle.sessions.proofs.Keeping.{Keeps, keeping}
+use Rattle.sessions.proofs.Keeping.{CoreFormed, keeping}
 use Rattle.worlds.proofs.Undoing.{fit-after, taken-undone}
 
 -- kinds are apart
@@ -106,10 +106,10 @@ module _ (n : ℕ) (w : World) (fit : Fit n w) where
   doing-sound (step a h) k = sound (w .core) accepts a h
   doing-sound (read-register r) k = read-none _ k
 
-  pub doing-keeps : (c : Call) → kindOf c (onCall n c w .answer) ≡ stepped → Keeps (w .core) (doing c (w .core))
+  pub doing-keeps : (c : Call) → kindOf c (onCall n c w .answer) ≡ stepped → CoreFormed (w .core) → CoreFormed (doing c (w .core) .after)
   unfolding doing kindOf onCall
-  doing-keeps (step a h) k = keeping (w .core) accepts a
-  doing-keeps (read-register r) k = read-none _ k
+  doing-keeps (step a h) k f = keeping (w .core) f accepts a
+  doing-keeps (read-register r) k f = read-none _ k
 
   module _ (c : Call) (k : kindOf c (onCall n c w .answer) ≡ stepped) where
     has-room : w .ledger .used + entryLength (entryAt c (w .core)) ≤ w .ledger .length
@@ -125,7 +125,7 @@ module _ (n : ℕ) (w : World) (fit : Fit n w) where
     pub step-fit : Fit n (onCall n c w .world)
     step-fit =
         subst (Fit n) (sym (took n c w k .is))
-        (fit-after n w (doing c (w .core)) fit (doing-sound c k) has-room (doing-keeps c k .held (fit .held)))
+        (fit-after n w (doing c (w .core)) fit (doing-sound c k) has-room)
 
 -- a call that took no step left the world as it was: refusals, an idle advance and a reading
 abbrev pub Left : World → Answered → Type 0

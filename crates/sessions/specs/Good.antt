@@ -3,9 +3,7 @@ use mathlib.Core.List.{List, []}
 use mathlib.Core.Path.{_≡_}
 use mathlib.Core.Bool.{Bool}
 use Prim.Native.Nat.{ℕ, _-_, _<_}
-use Rattle.tape.specs.Objects.{Holds, Object}
-use Rattle.state.specs.declared.Tape.{Tape}
-use Rattle.moves.specs.Between.{Bound}
+use Rattle.kept.specs.Formed.{Formed}
 use Rattle.commands.specs.declared.plans.Answer.the-variants as answer
 use Rattle.unit.specs.Cores.{Core}
 use Rattle.unit.specs.Steps.{stepOf}
@@ -17,13 +15,7 @@ use Rattle.worlds.specs.Calls.{refusedAs}
 use Rattle.sessions.specs.Session.{Moment}
 use Rattle.sessions.specs.Calling.{Call, Noted, read-register, step, worldFrom}
 
--- "the reel is well formed, the position is 0 or just after an object"
-pub record Formed (s : List ℕ) (t : Tape) : Type 0 where
-  pub objects : List Object
-  pub holds : Holds s (t .end) objects
-  pub bound : Bound objects (t .position)
-
--- what every moment of a session has
+-- what every moment of a session has: "the reel is well formed, the position is 0 or just after an object"
 pub record Good (n : ℕ) (s : Moment Core Noted) : Type 0 where
   pub fit : Fit n (worldFrom n s)
   pub formed : Formed (s .core .reel) (s .core .unit .tape)

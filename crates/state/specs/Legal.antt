@@ -24,12 +24,3 @@ pub record Legal (u : Unit) : Type 0 where
   pub memory-most : u .lengths .memory ≤ memoryLimit
   pub blocks-least : 1 ≤ u .lengths .blocks
   pub blocks-most : u .lengths .blocks ≤ capacityLimit
-
--- a number of 32 bits, as the state's type has them
-abbrev pub numberLimit : ℕ
-numberLimit = 4294967296
-
--- what the type of the state gives of a buffer's numbers, which refusal 1 doesn't look at while NBA is set
-pub record Held (u : Unit) : Type 0 where
-  pub address : u .characteristics .address < numberLimit
-  pub extent : u .characteristics .length < numberLimit

@@ -2,8 +2,8 @@
 // place and length. A session has one block, and a block that no session has is refused.
 use commands::Answer;
 use entries::Entry;
-use entries::entry_of;
 use entries::HEAD;
+use entries::entry_of;
 use entries::head_at;
 use entries::number_at;
 use entries::numbers_of;

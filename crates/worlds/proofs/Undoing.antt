@@ -8,7 +8,6 @@ use native.Mathlib.Omega.{arith}
 use borrow.Author.Tests.{ne-eqb, le-ltb}
 use lib.ListN.{length, length-append}
 use Rattle.state.specs.Checks.{stateWrong}
-use Rattle.state.specs.Legal.{Held}
 use Rattle.state.proofs.Legal.{right}
 use Rattle.commands.specs.declared.plans.Answer.{Answer}
 use Rattle.commands.specs.declared.plans.Answer.the-variants as answer
@@ -94,8 +93,6 @@ module _ (n : ℕ) (w : World) (x : Step) (fit : Fit n w) (s : Sound (w .core) x
         end = omega (arith, l .capacity, l .blocks-most);
         pointer = omega (arith, l .pointer);
         class = omega (arith, l .class);
-        address = fit .held .address;
-        length = fit .held .extent;
         memory = omega (arith, l .memory-most);
         blocks = omega (arith, l .blocks-most);
         data-at = omega (arith, i .in-memory, was .memory-is, l .memory-most);
@@ -121,8 +118,8 @@ module _ (n : ℕ) (w : World) (x : Step) (fit : Fit n w) (s : Sound (w .core) x
     pub passes-after : checked (sessionOf next) (length (x .after .memory)) (length (x .after .reel)) n ≡ 0
     passes-after = let-pass (sessionOf next) (length (x .after .memory)) (length (x .after .reel)) n next-passes
 
-    pub fit-after : Held (x .after .unit) → Fit n next
-    fit-after h = record { sound = passes-after; whole = noted-long (w .ledger) entry (w .core) (fit .whole); held = h }
+    pub fit-after : Fit n next
+    fit-after = record { sound = passes-after; whole = noted-long (w .ledger) entry (w .core) (fit .whole) }
 
     right-entry : entryWrong next entry ≡ false
     unfolding entryWrong

@@ -3,7 +3,7 @@ use mathlib.Core.Path.{_≡_}
 use Prim.Native.Nat.{ℕ, _*_, _≤_}
 use Rattle.tape.specs.Numbers.{blockBytes}
 use lib.ListN.{length}
-use Rattle.state.specs.Legal.{Held, Legal}
+use Rattle.state.specs.Legal.{Legal}
 use Rattle.worlds.specs.Refusals.{checked, journalLimit}
 use Rattle.worlds.specs.Worlds.{World, sessionOf}
 use Rattle.worlds.specs.declared.Session.{Session}
@@ -16,9 +16,7 @@ pub record Passed (s : Session) (memory reel journal : ℕ) : Type 0 where
   pub used : s .used ≤ s .journal
   pub limit : s .journal ≤ journalLimit
 
--- a world that refusals 1 to 4 let pass, for a journal of n bytes; its ledger's bytes are as many as are used, and its state's numbers as
--- large as their type lets them be
+-- a world that refusals 1 to 4 let pass, for a journal of n bytes; its ledger's bytes are as many as are used
 pub record Fit (n : ℕ) (w : World) : Type 0 where
   pub sound : checked (sessionOf w) (length (w .core .memory)) (length (w .core .reel)) n ≡ 0
   pub whole : length (w .ledger .bytes) ≡ w .ledger .used
-  pub held : Held (w .core .unit)

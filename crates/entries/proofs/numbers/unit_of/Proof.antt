@@ -1,7 +1,7 @@
--- `unit_of` meets its contract: code and definition read the same places.
-use borrow.Author.Needs.{needs}
+-- `unit_of` is its definition.
 use mathlib.Core.Path.{refl}
 use Rattle.entries.specs.Numbers.{unitOf}
+use borrow.Author.Needs.{needs}
 use Rattle.entries.proofs.numbers.unit_of.Statement.{statement}
 use Rattle.entries.proofs.numbers.unit_of.Tie as tie
 
@@ -62,17 +62,14 @@ array-read-t35-3 c = search needs
 array-read-t11-4 : tie.Need-array-read-t11-4
 array-read-t11-4 c = search needs
 
-cast-t16-3 : tie.Need-cast-t16-3
-cast-t16-3 c = search needs
+array-read-t15-3 : tie.Need-array-read-t15-3
+array-read-t15-3 c = search needs
 
 array-read-t35-4 : tie.Need-array-read-t35-4
 array-read-t35-4 c = search needs
 
-cast-t12-3 : tie.Need-cast-t12-3
-cast-t12-3 c = search needs
-
-array-read-t15-3 : tie.Need-array-read-t15-3
-array-read-t15-3 c = search needs
+array-read-t31-4 : tie.Need-array-read-t31-4
+array-read-t31-4 c = search needs
 
 array-read-t27-3 : tie.Need-array-read-t27-3
 array-read-t27-3 c = search needs
@@ -80,17 +77,14 @@ array-read-t27-3 c = search needs
 array-read-t23-2 : tie.Need-array-read-t23-2
 array-read-t23-2 c = search needs
 
-array-read-t31-4 : tie.Need-array-read-t31-4
-array-read-t31-4 c = search needs
+cast-t16-3 : tie.Need-cast-t16-3
+cast-t16-3 c = search needs
 
-cast-t16-4 : tie.Need-cast-t16-4
-cast-t16-4 c = search needs
+array-read-t27-4 : tie.Need-array-read-t27-4
+array-read-t27-4 c = search needs
 
-array-read-t11-5 : tie.Need-array-read-t11-5
-array-read-t11-5 c = search needs
-
-cast-t12-4 : tie.Need-cast-t12-4
-cast-t12-4 c = search needs
+cast-t12-3 : tie.Need-cast-t12-3
+cast-t12-3 c = search needs
 
 returns : tie.Need-returns
 unfolding unitOf
@@ -119,14 +113,12 @@ unit-of-spec =
     array-read-t31-3
     array-read-t35-3
     array-read-t11-4
-    cast-t16-3
-    array-read-t35-4
-    cast-t12-3
     array-read-t15-3
+    array-read-t35-4
+    array-read-t31-4
     array-read-t27-3
     array-read-t23-2
-    array-read-t31-4
-    cast-t16-4
-    array-read-t11-5
-    cast-t12-4
+    cast-t16-3
+    array-read-t27-4
+    cast-t12-3
     returns)
