@@ -11,7 +11,6 @@ use script::numbers;
 use state::Act;
 use unit::Register;
 use worlds::Outcome;
-use worlds::RegisterRead;
 use worlds::Session;
 
 // What a call came to, and what else its line prints: an entry's length, the interrupt, a word.

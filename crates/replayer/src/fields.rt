@@ -39,6 +39,16 @@ fn fields(s: Session) -> [usize; 23] {
     ]
 }
 
+// Of a number that the state holds in 32 bits.
+fn low(x: usize) -> u32 {
+    (x % 4294967296) as u32
+}
+
+// Is v more than field k of the state can hold? The message buffer's address and length have 32 bits.
+pub fn too_wide(k: usize, v: usize) -> bool {
+    ((k == 16) | (k == 17)) & (4294967295 < v)
+}
+
 fn unit_of(f: &[usize; 23]) -> Unit {
     Unit {
         tape: Tape {
@@ -64,8 +74,8 @@ fn unit_of(f: &[usize; 23]) -> Unit {
             release_ie: f[18] != 0,
         },
         characteristics: Characteristics {
-            address: f[16],
-            length: f[17],
+            address: low(f[16]),
+            length: low(f[17]),
             eai: f[13] != 0,
             ess: f[14] != 0,
             enb: f[15] != 0,

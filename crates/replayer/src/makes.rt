@@ -12,6 +12,7 @@ use crate::desk::cleared;
 use crate::faults::moved;
 use crate::faults::settle;
 use crate::faults::stop;
+use crate::fields::too_wide;
 use crate::fields::with_field;
 use libc::STDOUT_FILENO;
 use lists::least;
@@ -121,6 +122,9 @@ fn field_of(text: &[u8]) -> usize {
 fn set_to(d: Desk, k: usize, v: usize) -> Desk {
     if 22 < k {
         return stop(d, Fault::UnknownWord);
+    }
+    if too_wide(k, v) {
+        return stop(d, Fault::NumberTooLarge);
     }
     let s = d.session;
     let next = with_field(s, k, v);

@@ -20,10 +20,12 @@ use Rattle.moves.specs.Seeking.{sought}
 use Rattle.moves.specs.declared.seeking.Sought.the-variants as sought-as
 use Rattle.motions.specs.Reads.{bytes, readEnd}
 use Rattle.commands.specs.Commands.{readBy, released}
-use Rattle.commands.specs.Ends.{planned}
 use Rattle.commands.specs.declared.plans.Plan.{Plan}
 use Rattle.storing.specs.Stored.{movedOn}
-use Rattle.journal.specs.Entries.{entryFor, entryLength}
+use Rattle.unit.specs.Cores.{Core}
+use Rattle.unit.specs.Steps.{carried}
+use Rattle.entries.specs.Entries.{entryLength}
+use Rattle.worlds.specs.Calls.{entryFor}
 
 -- "count 10, record 7": a Read of 10 bytes that meets a record of 7, beyond which the position is q
 pub record ShortRead (u : Unit) (s : List ℕ) (p : Packet) (reverse : Bool) (q : ℕ) : Type 0 where
@@ -32,7 +34,7 @@ pub record ShortRead (u : Unit) (s : List ℕ) (p : Packet) (reverse : Bool) (q 
 
 -- what a Read next, or previous, is about to do
 abbrev pub readPlan : Unit → List ℕ → Header → Packet → Bool → Plan
-readPlan u s h p reverse = planned u (readBy u s h p reverse)
+readPlan u s h p reverse = readBy u s h p reverse
 
 -- on line, RMR, NXM and NBA clear, "address below 65,536"
 pub record Clear (u : Unit) : Type 0 where
@@ -93,4 +95,4 @@ pub record Table : Type 0 where
   -- "P11 16,384 bytes, 33."
   pub p11 : (d : List ℕ) → length d ≡ 16384 → blocksIn (record-of d) ≡ 33
   -- "P12 release: entry 128."
-  pub p12 : (u : Unit) (ie : Bool) → entryLength (entryFor u (planned u (released u ie))) ≡ 128
+  pub p12 : (c : Core) (ie : Bool) → entryLength (entryFor c (carried c (released (c .unit) ie))) ≡ 128
