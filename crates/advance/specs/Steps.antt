@@ -10,7 +10,7 @@
 --    8  pointer bits above A17, or odd in Write Characteristics     stepPointer      here
 --    9  tape command off line or with VCK; lock; block 0; length    stepExecutable   here, with Rules
 --   10  data extent past the end of memory                          stepExtent       here, with Rules
---   11  object doesn't fit the reel                                 noRoom           motions/specs/Writes.antt
+--   11  object doesn't fit the reel                                 writtenAt        motions/specs/Writes.antt, with noRoom
 use mathlib.Core.Bool.{Bool, false, _||_, _&&_, not}
 use mathlib.Core.List.{List}
 use Prim.Native.Nat.{ℕ, _+_, _*_, _%_}

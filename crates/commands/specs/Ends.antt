@@ -4,8 +4,6 @@ use mathlib.Core.Bool.{Bool, true, false, _||_, not}
 use mathlib.Core.List.{List, [], _∷_}
 use Prim.Native.Nat.{ℕ}
 use lib.Dec.{eqb, leb}
-use lib.ListN.{replicate}
-use Rattle.lists.specs.Pick.{pick}
 use Rattle.tape.specs.Numbers.{eotMarker}
 use Rattle.signals.specs.Message.{messageOf}
 use Rattle.signals.specs.declared.message.Status.{Status}
@@ -13,7 +11,6 @@ use Rattle.state.specs.declared.Unit.{Unit}
 use Rattle.state.specs.declared.Tape.{Tape}
 use Rattle.state.specs.declared.Panel.{Panel}
 use Rattle.state.specs.declared.Attention.{Attention}
-use Rattle.state.specs.declared.Registers.{Registers}
 use Rattle.state.specs.Changes.{withRegisters}
 use Rattle.motions.specs.Parts.{laidBlocks, noLay, noMove}
 use Rattle.commands.specs.declared.plans.Answer.{Answer}

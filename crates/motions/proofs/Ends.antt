@@ -1,4 +1,4 @@
--- The numbers of every end fit their words: the class is one of the paper's, and what is found and XST3 are words.
+-- The numbers of every end fit: the class is one of the paper's, what is found leaves XST0's low byte to the unit's condition, XST3 is a word.
 use mathlib.Core.Bool.{Bool, not}
 use Prim.Native.Nat.{ℕ, _≤_, _<_}
 use native.Mathlib.Omega.{arith}
@@ -24,7 +24,7 @@ Has P (motion.Fault k) = Unit {0}
 
 pub record EndFits (x : End) : Type 0 where
   pub class : x .class ≤ 6
-  pub found : x .found < 65536
+  pub found : x .found ≤ 0xFF00
   pub xst3 : x .xst3 < 65536
 
 pub flag-most : (b : Bool) (w : ℕ) → flagOf b w ≤ w

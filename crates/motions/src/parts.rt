@@ -34,7 +34,7 @@ pub struct Laid {
     pub swb: bool,
 }
 
-// How a command on the tape ended: what it says, where the tape stands, what is moved and laid.
+// How a command ended: what it says, where the tape stands, what is moved and laid.
 pub struct Ending {
     pub end: End,
     pub tape: Tape,

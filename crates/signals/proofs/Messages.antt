@@ -1,8 +1,9 @@
--- Laws of a message's words as bytes: how many there are, that each is a byte, and how one word more is stored.
+-- Laws of a message's words: XST0, and as bytes how many there are, that each is a byte, and how one word more is stored.
 -- (The name `Message` is taken: rattle makes a module `message` of the source.)
+use mathlib.Core.Bool.{Bool, true, false}
 use mathlib.Core.Path.{_≡_, refl}
 use mathlib.Core.List.{List, [], _∷_, _++_}
-use Prim.Native.Nat.{ℕ, zero, suc, _+_, _*_, _<_}
+use Prim.Native.Nat.{ℕ, zero, suc, _+_, _*_, _<_, _≤_}
 use native.Mathlib.Numerals.{add-one}
 use native.Mathlib.Omega.{arith}
 use lib.ListN.{length, take, getD}
@@ -11,7 +12,20 @@ use Rattle.lists.specs.Words.{Bytes, wordBytes}
 use Rattle.lists.proofs.Stores.{sets-at}
 use Rattle.signals.specs.declared.message.End.{End}
 use Rattle.signals.specs.declared.message.Status.{Status}
-use Rattle.signals.specs.Message.{messageOf, messaged, wordsBytes}
+use Rattle.signals.specs.Bits.{BOT, EOT, IE, MOT, ONL, VCK, WLK}
+use Rattle.signals.specs.Message.{flagOf, messageOf, messaged, statusByte, wordsBytes, xst0Of}
+
+flag-most : (b : Bool) (w : ℕ) → flagOf b w ≤ w
+flag-most true w = omega arith
+flag-most false w = omega arith
+
+status-most : (s : Status) → statusByte s ≤ 0xFF
+status-most s =
+    omega (arith, flag-most (s .mot) MOT, flag-most (s .onl) ONL, flag-most (s .ie) IE, flag-most (s .vck) VCK, flag-most (s .wlk) WLK, flag-most (s .bot) BOT, flag-most (s .eot) EOT)
+
+-- where what was found leaves the low byte to the unit's condition, XST0 is the sum of the two
+pub xst0-sum : (found : ℕ) (s : Status) → found ≤ 0xFF00 → xst0Of found s ≡ found + statusByte s
+xst0-sum found s h = omega (arith, status-most s)
 
 -- how many there are
 pub length-words : (ws : List ℕ) → length (wordsBytes ws) ≡ 2 * length ws
