@@ -17,7 +17,7 @@ use Rattle.signals.specs.declared.counts.Residual.the-variants as residual
 use Rattle.state.specs.Checks.{bufferWrong, lastClass}
 use Rattle.state.specs.Legal.{BufferFits, Legal}
 use Rattle.state.specs.declared.Characteristics.{Characteristics}
-use Rattle.state.specs.declared.Unit.{Unit as State}
+use Rattle.state.specs.declared.Unit.{Unit}
 use Rattle.state.proofs.Legal.{buffer-right, legal-panel, legal-with}
 use Rattle.state.proofs.Tests.{either, neither}
 use Rattle.motions.specs.Parts.{end, resting, standing}
@@ -33,7 +33,7 @@ use Rattle.commands.specs.Ends.{told}
 use Rattle.advance.proofs.Extents.{hasData}
 use Rattle.advance.proofs.Sound.{EndingFits, SoundPlan, motion-sound, no-lay-fits, no-move-fits, resting-fits, told-sound, untold-sound}
 
-module _ (u : State) (l : Legal u) where
+module _ (u : Unit) (l : Legal u) where
   -- a Read inside the recorded end is inside the reel
   read-moves : (r : Buffer) → r .pointer + r .count ≤ u .lengths .memory → (x : Ending) → ReadFits (u .tape .end) r x → EndingFits (u .lengths) x
   read-moves r h x f =
@@ -98,7 +98,7 @@ module _ (u : State) (l : Legal u) where
 
   module _ (ie : Bool) where
     -- an end where the tape stands, in a state with the same lengths
-    stands-sound : (v : State) → Legal v → (x : End) → x .class ≤ lastClass → SoundPlan v (told v ie (resting x (v .tape)))
+    stands-sound : (v : Unit) → Legal v → (x : End) → x .class ≤ lastClass → SoundPlan v (told v ie (resting x (v .tape)))
     stands-sound v k x h = told-sound v k ie _ (resting-fits (v .lengths) x (v .tape) (k .place) (k .capacity) h)
 
     plain-sound : SoundPlan u (plainEffect u ie)
@@ -110,7 +110,7 @@ module _ (u : State) (l : Legal u) where
     release-sound = untold-sound _ (legal-panel u _ _ l) 0 false (omega arith)
 
     -- at block 0
-    rewinds : (v : State) → Legal v → SoundPlan v (told v ie (resting plainEnd (standing 0 (v .tape .end))))
+    rewinds : (v : Unit) → Legal v → SoundPlan v (told v ie (resting plainEnd (standing 0 (v .tape .end))))
     rewinds v k = told-sound v k ie _ (resting-fits (v .lengths) plainEnd (standing 0 (v .tape .end)) (omega arith) (k .capacity) (omega arith))
 
     rewind-sound : SoundPlan u (rewound u ie)
@@ -148,7 +148,7 @@ module _ (u : State) (l : Legal u) where
         (λ t. taken-sound c (rw (← e) (buffer-right c (length m) (neither (leb pointerLimit (c .address)) (bufferWrong c (length m)) t .1)))))
 
 -- the data of a command that has any lie inside memory
-pub carried-sound : (u : State) → Legal u → (m s : List ℕ) (h : Header) (p : Packet) → length m ≡ u .lengths .memory → (c : Command) → (hasData c ≡ true → p .pointer + p .count ≤ u .lengths .memory) → SoundPlan u (carriedOut u m s h p c)
+pub carried-sound : (u : Unit) → Legal u → (m s : List ℕ) (h : Header) (p : Packet) → length m ≡ u .lengths .memory → (c : Command) → (hasData c ≡ true → p .pointer + p .count ≤ u .lengths .memory) → SoundPlan u (carriedOut u m s h p c)
 unfolding carriedOut
 carried-sound u l m s h p e command.ReadNext k = read-sound u l s h p false (k refl)
 carried-sound u l m s h p e command.ReadPrevious k = read-sound u l s h p true (k refl)

@@ -9,7 +9,7 @@ use lib.ListN.{getD, length}
 use Rattle.tape.specs.Numbers.{blockBytes}
 use Rattle.tape.specs.Objects.{imagesOf}
 use Rattle.state.specs.declared.Tape.{Tape}
-use Rattle.state.specs.declared.Unit.{Unit as State}
+use Rattle.state.specs.declared.Unit.{Unit}
 use Rattle.state.proofs.Tests.{either}
 use Rattle.moves.specs.Seeking.{sought}
 use Rattle.moves.specs.declared.seeking.Sought.{Sought}
@@ -32,7 +32,7 @@ use Rattle.advance.specs.Steps.{advanced}
 use Rattle.advance.proofs.Planned.{advanced-seven}
 use Rattle.demands.specs.Stays.{KeptBelow, StopsAt}
 
-module _ (u : State) (m s : List ℕ) where
+module _ (u : Unit) (m s : List ℕ) where
   -- "Data byte i lies at address pointer + i; with SWB at that address with its lowest bit flipped." No other byte changes but the message's.
   pub memory-stays : Storable (advanced u m s) (length m) (length s) → (j : ℕ) → OffData (advanced u m s .moved) j → OffMessage (advanced u m s) j → getD (memoryAfter (advanced u m s) m s) j 0 ≡ getD m j 0
   memory-stays fits = memory-kept (advanced u m s) m s fits (advanced-seven u m s)

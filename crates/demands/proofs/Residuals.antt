@@ -7,6 +7,7 @@ use Prim.Native.Nat.{ℕ, _+_}
 use native.Mathlib.Omega.{arith}
 use borrow.Author.Tests.{eqb-true}
 use lib.Dec.{eqb}
+use Rattle.lists.specs.Pick.{Always}
 use Rattle.lists.proofs.Cases.{pick-told}
 use Rattle.tape.specs.Objects.{Holds, Object}
 use Rattle.signals.specs.Residuals.{residualWord}
@@ -56,7 +57,7 @@ module _ (r : Buffer) where
 
   -- a stage that is over
   abbrev StageAdds : Stage → Type 0
-  StageAdds = StageHas (Has Adds) (λ n q. Unit {0})
+  StageAdds = StageHas (Has Adds) (λ n q. Always)
 
   stage-by : (t : Tape) (reverse : Bool) (f : Sought) → StageAdds (stageBy t (r .count) reverse f)
   unfolding stageBy
@@ -72,7 +73,7 @@ module _ (r : Buffer) where
 
     -- what goes on from a stage
     goes-on : (t : Tape) (reverse : Bool) (f : ℕ → ℕ → Motion) → ((n q : ℕ) → Has Adds (f n q)) → Has Adds (onRecord (stageOf s t (r .count) reverse) f)
-    goes-on t reverse f h = on-record (Has Adds) (λ n q. Unit {0}) _ f (stage-adds t reverse) (λ n q i. h n q)
+    goes-on t reverse f h = on-record (Has Adds) (λ n q. Always) _ f (stage-adds t reverse) (λ n q i. h n q)
 
     one-adds : (t : Tape) (reverse : Bool) → Has Adds (readOne s t r reverse)
     unfolding readOne

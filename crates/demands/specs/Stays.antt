@@ -3,6 +3,7 @@ use mathlib.Core.List.{List}
 use mathlib.Core.Path.{_≡_}
 use Prim.Native.Nat.{ℕ, _*_, _<_}
 use lib.ListN.{getD}
+use Rattle.lists.specs.Pick.{Always}
 use Rattle.tape.specs.Numbers.{blockBytes}
 use Rattle.moves.specs.declared.seeking.Sought.{Sought}
 use Rattle.moves.specs.declared.seeking.Sought.the-variants as sought-as
@@ -17,5 +18,5 @@ KeptBelow s m q x = (j : ℕ) → j < blockBytes * q → getD (laidOn s m (x .la
 abbrev pub StopsAt : ℕ → Sought → Type 0
 StopsAt q (sought-as.Record n q′) = q ≡ q′
 StopsAt q (sought-as.Mark q′) = q ≡ q′
-StopsAt q (sought-as.Nothing q′) = Unit {0}
-StopsAt q (sought-as.Bad k) = Unit {0}
+StopsAt q (sought-as.Nothing q′) = Always
+StopsAt q (sought-as.Bad k) = Always

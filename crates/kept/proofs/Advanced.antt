@@ -8,7 +8,7 @@ use Rattle.tape.specs.Objects.{Holds, Object}
 use Rattle.tape.proofs.Accepted.{clash}
 use Rattle.signals.specs.Codes.{commandOf}
 use Rattle.state.specs.declared.Tape.{Tape}
-use Rattle.state.specs.declared.Unit.{Unit as State}
+use Rattle.state.specs.declared.Unit.{Unit}
 use Rattle.moves.specs.Between.{Bound}
 use Rattle.commands.specs.declared.plans.Answer.the-variants as answer
 use Rattle.storing.specs.Stored.{reelAfter}
@@ -19,9 +19,9 @@ use Rattle.kept.proofs.Carrying.{carried-kept, rests}
 use Rattle.kept.proofs.Lengths.{right-count}
 use Rattle.kept.proofs.Standing.{KeptPlan, still-kept, untold-kept}
 
-module _ (s m : List ℕ) (u : State) (w : length s ≡ blockBytes * u .lengths .blocks) (k : Formed s (u .tape)) where
+module _ (s m : List ℕ) (u : Unit) (w : length s ≡ blockBytes * u .lengths .blocks) (k : Formed s (u .tape)) where
   -- in every state that a step leaves
-  still-formed : (v : State) → Alike u v → Formed s (v .tape)
+  still-formed : (v : Unit) → Alike u v → Formed s (v .tape)
   still-formed v a = rw (a .tape) k
 
   rejects : Rejects u (KeptPlan s m)
@@ -37,7 +37,7 @@ module _ (s m : List ℕ) (u : State) (w : length s ≡ blockBytes * u .lengths 
   plan-kept : KeptPlan s m (advanced u m s)
   plan-kept = advanced-all u m s (KeptPlan s m) rejects untolds carries (still-kept s m u answer.Idle k (λ b c. clash (cc)))
 
-module _ (u : State) (m s : List ℕ) {os : List Object} (w : length s ≡ blockBytes * u .lengths .blocks) (h : Holds s (u .tape .end) os) (b : Bound os (u .tape .position)) where
+module _ (u : Unit) (m s : List ℕ) {os : List Object} (w : length s ≡ blockBytes * u .lengths .blocks) (h : Holds s (u .tape .end) os) (b : Bound os (u .tape .position)) where
   pub advanced-kept : Formed (reelAfter (advanced u m s) m s) (advanced u m s .unit .tape)
   advanced-kept = plan-kept s m u w (os, h, b) .stands
 

@@ -5,6 +5,7 @@ use mathlib.Core.Path.{_≡_, refl}
 use Prim.Native.Nat.{ℕ, _*_, _≤_}
 use lib.Dec.{leb, ltb}
 use lib.ListN.{length}
+use Rattle.lists.specs.Pick.{Always}
 use Rattle.tape.specs.Numbers.{blockBytes, recordLimit}
 use Rattle.tape.specs.Objects.{blocksOf}
 use Rattle.tape.proofs.Accepted.{clash}
@@ -16,7 +17,7 @@ use Rattle.signals.specs.declared.packet.Header.{Header}
 use Rattle.signals.specs.declared.packet.Packet.{Packet}
 use Rattle.state.specs.Checks.{bufferWrong}
 use Rattle.state.specs.declared.Tape.{Tape}
-use Rattle.state.specs.declared.Unit.{Unit as State}
+use Rattle.state.specs.declared.Unit.{Unit}
 use Rattle.state.proofs.Tests.{either}
 use Rattle.motions.specs.Parts.{resting, standing}
 use Rattle.motions.specs.declared.parts.ObjectKind.{ObjectKind}
@@ -31,31 +32,31 @@ use Rattle.kept.proofs.Writing.{RightLength, retried-kept, written-kept
 
 -- a Write asks for a record of an allowed length (step 9)
 abbrev pub RightCount : Command → ℕ → Type 0
-RightCount command.ReadNext n = Unit {0}
-RightCount command.ReadPrevious n = Unit {0}
-RightCount command.RereadPrevious n = Unit {0}
-RightCount command.RereadNext n = Unit {0}
-RightCount command.WriteCharacteristics n = Unit {0}
+RightCount command.ReadNext n = Always
+RightCount command.ReadPrevious n = Always
+RightCount command.RereadPrevious n = Always
+RightCount command.RereadNext n = Always
+RightCount command.WriteCharacteristics n = Always
 RightCount command.Write n = (1 ≤ n) × (n ≤ recordLimit)
 RightCount command.WriteRetry n = (1 ≤ n) × (n ≤ recordLimit)
-RightCount command.RecordsForward n = Unit {0}
-RightCount command.RecordsReverse n = Unit {0}
-RightCount command.MarksForward n = Unit {0}
-RightCount command.MarksReverse n = Unit {0}
-RightCount command.Rewind n = Unit {0}
-RightCount command.WriteMark n = Unit {0}
-RightCount command.Erase n = Unit {0}
-RightCount command.MarkRetry n = Unit {0}
-RightCount command.Release n = Unit {0}
-RightCount command.Unload n = Unit {0}
-RightCount command.Clean n = Unit {0}
-RightCount command.Initialize n = Unit {0}
-RightCount command.GetStatus n = Unit {0}
-RightCount command.Illegal n = Unit {0}
+RightCount command.RecordsForward n = Always
+RightCount command.RecordsReverse n = Always
+RightCount command.MarksForward n = Always
+RightCount command.MarksReverse n = Always
+RightCount command.Rewind n = Always
+RightCount command.WriteMark n = Always
+RightCount command.Erase n = Always
+RightCount command.MarkRetry n = Always
+RightCount command.Release n = Always
+RightCount command.Unload n = Always
+RightCount command.Clean n = Always
+RightCount command.Initialize n = Always
+RightCount command.GetStatus n = Always
+RightCount command.Illegal n = Always
 
 module _ (s m : List ℕ) where
   -- an end that lays nothing
-  pub rests : (u : State) (ie : Bool) (x : End) (t : Tape) → Formed s t → KeptPlan s m (told u ie (resting x t))
+  pub rests : (u : Unit) (ie : Bool) (x : End) (t : Tape) → Formed s t → KeptPlan s m (told u ie (resting x t))
   rests u ie x t k = told-kept s m u ie (resting x t) (rw (unlaid s m) k)
 
   -- block 0 is a bound
@@ -63,7 +64,7 @@ module _ (s m : List ℕ) where
   unfolding blocksOf
   at-start t k = (k .0, k .1, record { before = []; after = k .0; whole = refl; place = refl })
 
-  module _ (u : State) (whole : length s ≡ blockBytes * u .lengths .blocks) (k : Formed s (u .tape)) where
+  module _ (u : Unit) (whole : length s ≡ blockBytes * u .lengths .blocks) (k : Formed s (u .tape)) where
     plain-kept : (ie : Bool) → KeptPlan s m (plainEffect u ie)
     unfolding plainEffect
     plain-kept ie = rests u ie _ (u .tape) k

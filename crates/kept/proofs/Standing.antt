@@ -5,7 +5,7 @@ use mathlib.Core.Path.{_≡_, refl}
 use Prim.Native.Nat.{ℕ}
 use Rattle.tape.specs.Objects.{Holds, Object, imagesOf}
 use Rattle.tape.proofs.Accepted.{clash}
-use Rattle.state.specs.declared.Unit.{Unit as State}
+use Rattle.state.specs.declared.Unit.{Unit}
 use Rattle.moves.specs.Between.{Bound}
 use Rattle.motions.specs.Parts.{noLay, standing}
 use Rattle.motions.specs.declared.parts.Ending.{Ending}
@@ -39,19 +39,19 @@ module _ (s m : List ℕ) {e : ℕ} {os : List Object} (h : Holds s e os) where
   halts b = rw (unlaid s m) (os, h, b)
 
 module _ (s m : List ℕ) where
-  pub told-kept : (u : State) (ie : Bool) (x : Ending) → Formed (laidOn s m (x .laid)) (x .tape) → KeptPlan s m (told u ie x)
+  pub told-kept : (u : Unit) (ie : Bool) (x : Ending) → Formed (laidOn s m (x .laid)) (x .tape) → KeptPlan s m (told u ie x)
   unfolding told toldUnit ended reelAfter
   told-kept u ie x k = record { stands = k; sound = λ b c. clash (cc) }
 
-  pub still-kept : (u : State) (a : Answer) → Formed s (u .tape) → ((k : ℕ) → a ≡ answer.BadBlock k → ⊥) → KeptPlan s m (still u a)
+  pub still-kept : (u : Unit) (a : Answer) → Formed s (u .tape) → ((k : ℕ) → a ≡ answer.BadBlock k → ⊥) → KeptPlan s m (still u a)
   unfolding still reelAfter
   still-kept u a k f = record { stands = rw (unlaid s m) k; sound = f }
 
-  pub untold-kept : (u : State) (class : ℕ) (interrupts : Bool) → Formed s (u .tape) → KeptPlan s m (untold u class interrupts)
+  pub untold-kept : (u : Unit) (class : ℕ) (interrupts : Bool) → Formed s (u .tape) → KeptPlan s m (untold u class interrupts)
   unfolding untold ended
   untold-kept u class interrupts k = still-kept _ _ k (λ b c. clash (cc))
 
-  pub motion-kept : (u : State) (ie : Bool) (y : Motion) → KeptMotion s m y → KeptPlan s m (motionPlan u ie y)
+  pub motion-kept : (u : Unit) (ie : Bool) (y : Motion) → KeptMotion s m y → KeptPlan s m (motionPlan u ie y)
   unfolding motionPlan
   motion-kept u ie (motion.Ended x) k = told-kept u ie x k
   motion-kept u ie (motion.Fault b) k = absurd k

@@ -3,6 +3,7 @@ use mathlib.Core.Bool.{Bool, not}
 use Prim.Native.Nat.{ℕ, _≤_, _<_}
 use native.Mathlib.Omega.{arith}
 use lib.Dec.{eqb, ltb}
+use Rattle.lists.specs.Pick.{Always}
 use Rattle.signals.specs.Bits.{REV, RLL, RLS, TMK}
 use Rattle.signals.specs.Message.{flagOf}
 use Rattle.signals.specs.declared.message.End.{End}
@@ -20,7 +21,7 @@ use Rattle.motions.specs.declared.parts.Ending.{Ending}
 -- one thing of a motion that ended
 abbrev pub Has : (Ending → Type 0) → Motion → Type 0
 Has P (motion.Ended x) = P x
-Has P (motion.Fault k) = Unit {0}
+Has P (motion.Fault k) = Always
 
 pub record EndFits (x : End) : Type 0 where
   pub class : x .class ≤ 6

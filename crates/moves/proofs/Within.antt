@@ -4,6 +4,7 @@ use mathlib.Core.List.{List}
 use mathlib.Core.Path.{_≡_}
 use Prim.Native.Nat.{ℕ, zero, suc, _+_, _≤_}
 use native.Mathlib.Omega.{arith}
+use Rattle.lists.specs.Pick.{Always}
 use Rattle.tape.specs.Pass.{passed}
 use Rattle.tape.specs.declared.Met.{Met}
 use Rattle.tape.specs.declared.Met.the-variants as met
@@ -21,7 +22,7 @@ abbrev pub SoughtIn : Bool → ℕ → ℕ → Sought → Type 0
 SoughtIn reverse p e (sought-as.Record n q) = RecordIn reverse e n q × Onward reverse p e q
 SoughtIn reverse p e (sought-as.Mark q) = Onward reverse p e q
 SoughtIn reverse p e (sought-as.Nothing q) = q ≤ e
-SoughtIn reverse p e (sought-as.Bad k) = Unit {0}
+SoughtIn reverse p e (sought-as.Bad k) = Always
 
 -- from further back the same is known
 from-before : {reverse : Bool} {p e q : ℕ} (f : Sought) → Onward reverse p e q → SoughtIn reverse q e f → SoughtIn reverse p e f

@@ -4,7 +4,7 @@ use mathlib.Core.Bool.{Bool, true, false, false≢true, true≢false}
 use mathlib.Core.List.{List}
 use Prim.Native.Nat.{ℕ, _+_, _-_, _≤_, _<_}
 use native.Mathlib.Omega.{arith}
-use Rattle.lists.specs.Pick.{pick}
+use Rattle.lists.specs.Pick.{Always, pick}
 use Rattle.tape.specs.Numbers.{piecesOf, recordLimit}
 use Rattle.tape.specs.Pass.{ahead, beyond, passed}
 use Rattle.tape.specs.declared.Met.{Met}
@@ -49,7 +49,7 @@ PassIn reverse p e (met.Record n q) = RecordIn reverse e n q × Onward reverse p
 PassIn reverse p e (met.Mark q) = Onward reverse p e q
 PassIn reverse p e (met.Gap q) = Onward reverse p e q
 PassIn reverse p e met.Nothing = ahead reverse p e ≡ 0
-PassIn reverse p e (met.Bad k) = Unit {0}
+PassIn reverse p e (met.Bad k) = Always
 
 by-outcome : (s : List ℕ) (reverse : Bool) (p e : ℕ) (m : Met) → p ≤ e → Outcome s reverse p e m → PassIn reverse p e m
 by-outcome s reverse p e m h (at-end z y) = rw y z

@@ -3,6 +3,7 @@ use mathlib.Core.Path.{_≡_}
 use mathlib.Core.List.{List, [], _∷_, _++_}
 use Prim.Native.Nat.{ℕ, suc, _+_, _*_, _≤_}
 use lib.ListN.{length, take, drop}
+use Rattle.lists.specs.Pick.{Always}
 use Rattle.tape.specs.Numbers.{blockBytes, dataBytes, piecesOf, recordLimit}
 use Rattle.tape.specs.Layout.{blockOf, gapKind, markKind, pieceKind}
 
@@ -14,8 +15,8 @@ pub data Object : Type 0 where
 -- "Records: 1 to 16,384 bytes."
 abbrev pub Allowed : Object → Type 0
 Allowed (record-of d) = (1 ≤ length d) × (length d ≤ recordLimit)
-Allowed mark = Unit {0}
-Allowed gap = Unit {0}
+Allowed mark = Always
+Allowed gap = Always
 
 pub data AllAllowed : List Object → Type 0 where
   none : AllAllowed []

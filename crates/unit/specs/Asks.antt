@@ -1,6 +1,7 @@
 -- "A step is a TSDB or TSSR write, host store, operator act or advance" (01, Calls): what can be asked of the unit.
 use mathlib.Core.List.{List}
 use Prim.Native.Nat.{ℕ, _<_}
+use Rattle.lists.specs.Pick.{Always}
 use Rattle.state.specs.declared.act.Act.{Act}
 
 pub data Ask : Type 0 where
@@ -13,7 +14,7 @@ pub data Ask : Type 0 where
 -- a word of TSDB has 16 bits
 abbrev pub Asked : Ask → Type 0
 Asked (write-tsdb word) = word < 65536
-Asked write-tssr = Unit {0}
-Asked (operate a) = Unit {0}
-Asked (host-store place bytes) = Unit {0}
-Asked advance = Unit {0}
+Asked write-tssr = Always
+Asked (operate a) = Always
+Asked (host-store place bytes) = Always
+Asked advance = Always
