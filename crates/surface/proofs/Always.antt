@@ -1,29 +1,22 @@
 -- What always holds of the bytes that a host holds, from a mount on.
-use mathlib.Core.List.{List}
+use mathlib.Core.List.{List, [], _∷_}
 use mathlib.Core.Path.{_≡_, sym, ap, subst, _∙_}
 use Prim.Native.Nat.{ℕ}
-use lib.ListN.{length, take}
-use Rattle.journal.specs.Worlds.{World}
-use Rattle.sessions.specs.Session.{Done, Ran, one-end, standing, strike}
-use Rattle.sessions.specs.Calling.{Call, Kept, entryAt, journalOf, lengthOf, onCall}
-use Rattle.sessions.proofs.Calls.{Good, Now, always-good, calls, journal-is, never-was, one-each}
-use Rattle.sessions.proofs.Room.{Exactly, Steps, room-exactly}
-use Rattle.ts11.specs.Block.{sessionIn}
-use Rattle.ts11.proofs.Blocks.{same-block}
-use Rattle.surface.specs.Hosting.{Host, Hosted, Line, givenOn, worldIn}
+use lib.ListN.{length}
+use Rattle.worlds.specs.Worlds.{World}
+use Rattle.worlds.specs.Passes.{Fit}
+use Rattle.sessions.specs.Session.{Done, Ran, back, standing}
+use Rattle.sessions.specs.Calling.{Call, Noted, entryAt, worldFrom}
+use Rattle.sessions.specs.Good.{Exactly, Formed, Good, Steppable}
+use Rattle.sessions.proofs.Calls.{always-good, calls, never-was, one-each}
+use Rattle.sessions.proofs.Room.{room-exactly}
+use Rattle.sessions.proofs.Striking.{one-end}
+use Rattle.ts11.specs.Given.{Host, backGiven, worldIn}
+use Rattle.surface.specs.Hosting.{AtMoment, Begins, Entries, GoodHost, Hosted, Line, Returned, Unchanged, first, given}
+use Rattle.surface.proofs.Goes.{world-bytes}
 use Rattle.surface.proofs.Runs.{given-is}
-use Rattle.surface.proofs.Hosts.{Begins, Follows, first, host-ran}
-
--- the lines of a host's session that stand: each step back is struck together with the step that it removed
-abbrev pub stands : {h₀ h : Host} {d : List Line} → Begins h₀ → Hosted h₀ d h → List (Done (calls (length (h₀ .journal))))
-stands {h₀} s r = strike (calls (length (h₀ .journal))) (host-ran s r .log)
-
--- the used journal is k entries and nothing else
-pub record Entries (h : Host) (k : ℕ) : Type 0 where
-  pub kept : List Kept
-  pub count : length kept ≡ k
-  pub bytes : take (sessionIn (h .block) .used) (h .journal) ≡ journalOf kept
-  pub used : sessionIn (h .block) .used ≡ lengthOf kept
+use Rattle.surface.proofs.Following.{Follows, stands}
+use Rattle.surface.proofs.Hosts.{back-empty, back-one, host-ran}
 
 module _ {h₀ h : Host} {d : List Line} (s : Begins h₀) (r : Hosted h₀ d h) where
   abbrev n : ℕ
@@ -33,39 +26,45 @@ module _ {h₀ h : Host} {d : List Line} (s : Begins h₀) (r : Hosted h₀ d h)
   follows = host-ran s r
 
   -- no check refuses, the reel is well formed, and the position is 0 or just after an object
-  pub host-good : Good n (worldIn h)
-  host-good = subst (Good n) (follows .world) (always-good n (s .fresh) (follows .ran))
+  pub host-good : GoodHost h
+  host-good =
+      let good : Good n (follows .moment) = always-good n (s .fresh) (follows .ran) in
+      record {
+        fit = subst (λ (i : ℕ). Fit i (worldIn h)) (sym (follows .here .long)) (subst (Fit n) (follows .here .world) (good .fit));
+        formed = subst (λ (w : World). Formed (w .core .reel) (w .core .unit .tape)) (follows .here .world) (good .formed);
+      }
 
   -- one entry for each step that stands
-  pub host-journal : Entries h (standing (calls n) (stands s r))
+  pub host-journal : Entries h (standing (calls n) (stands follows))
   host-journal =
-      let is = journal-is n (s .fresh) (follows .ran) in
       record {
-        kept = follows .state .entries;
+        noted = follows .moment .entries;
         count = one-each n (s .fresh) (follows .ran);
-        bytes = ap (λ (w : World). w .journal) (sym (follows .world)) ∙ is .bytes;
-        used = ap (λ (w : World). w .session .used) (sym (follows .world)) ∙ is .used;
+        used = ap (λ (w : World). w .ledger .used) (sym (follows .here .world));
+        bytes = ap (λ (w : World). w .ledger .bytes) (sym (follows .here .world));
       }
 
   -- a step is refused for room exactly when its entry doesn't fit
-  pub host-room : (c : Call) → Steps c (worldIn h) → Exactly (worldIn h) (entryAt c (worldIn h)) (givenOn c h)
+  pub host-room : (c : Call) → Steppable c (worldIn h .core) → Exactly (worldIn h) (entryAt c (worldIn h .core)) (given c h)
   host-room c x =
-      let is : givenOn c h ≡ onCall n c (worldIn h) = given-is c (h .block) (h .memory) (h .reel) (h .journal) (follows .block) ∙ ap (λ (i : ℕ). onCall i c (worldIn h)) (follows .long) in
-      subst (Exactly (worldIn h) (entryAt c (worldIn h))) (sym is) (room-exactly n c (worldIn h) (host-good .fit) x)
+      subst (Exactly (worldIn h) (entryAt c (worldIn h .core))) (sym (given-is c h (follows .here .block))) (room-exactly (length (h .journal)) c (worldIn h) (host-good .fit) x)
+
+  -- a step back leads where the model's leads, to the moment before the newest step that stands; where none stands it returns 6 and changes nothing
+  module _ {h′ : Host} {k : ℕ} (g : Returned h (backGiven h) k h′) where
+    pub host-back : {e : Noted} {es : List Noted} → follows .moment .entries ≡ e ∷ es → (k ≡ 0) × AtMoment n (back (calls n) (follows .moment)) h′
+    host-back = back-one follows (s .fresh) g
+
+    pub host-none : follows .moment .entries ≡ [] → (k ≡ 6) × Unchanged h h′
+    host-none q =
+        let z = back-empty follows (s .fresh) g q in
+        (z .0, world-bytes (follows .here .block) (z .1 .block) (sym (z .1 .world) ∙ follows .here .world))
 
 -- what was undone never was, byte for byte: two runs whose steps that stand are the same end in the same block, memory, reel and used journal
-pub same-bytes : {h₀ h h₂ : Host} {d d₂ : List Line} (s : Begins h₀) (r : Hosted h₀ d h) (r₂ : Hosted h₀ d₂ h₂) → stands s r ≡ stands s r₂
-    → (h .block ≡ h₂ .block) × (h .memory ≡ h₂ .memory) × (h .reel ≡ h₂ .reel) × (take (sessionIn (h .block) .used) (h .journal) ≡ take (sessionIn (h₂ .block) .used) (h₂ .journal))
+pub same-bytes : {h₀ h h₂ : Host} {d d₂ : List Line} (s : Begins h₀) (r : Hosted h₀ d h) (r₂ : Hosted h₀ d₂ h₂) → stands (host-ran s r) ≡ stands (host-ran s r₂) → Unchanged h h₂
 same-bytes {h₀} {h} {h₂} s r r₂ e =
     let n : ℕ = length (h₀ .journal) in
     let f = host-ran s r in
     let g = host-ran s r₂ in
-    let last : Ran (calls n) (first h₀) (stands s r₂) (f .state) = subst (λ (l : List (Done (calls n))). Ran (calls n) (first h₀) l (f .state)) e (never-was n (s .fresh) (f .ran)) in
-    let same : worldIn h ≡ worldIn h₂ = sym (f .world) ∙ ap (λ (x : Now). x .world) (one-end (calls n) last (never-was n (s .fresh) (g .ran))) ∙ g .world in
-    let b = f .block in
-    let c = g .block in (
-      same-block (h .block) (h₂ .block) (b .long) (b .bytes) (b .right) (c .long) (c .bytes) (c .right) (ap (λ (w : World). w .session) same),
-      ap (λ (w : World). w .memory) same,
-      ap (λ (w : World). w .reel) same,
-      ap (λ (w : World). w .journal) same,
-    )
+    let last : Ran (calls n) (first h₀) (stands g) (f .moment) = subst (λ (l : List (Done (calls n))). Ran (calls n) (first h₀) l (f .moment)) e (never-was n (s .fresh) (f .ran)) in
+    let same : g .moment ≡ f .moment = one-end (calls n) (never-was n (s .fresh) (g .ran)) last in
+    world-bytes (f .here .block) (g .here .block) (sym (g .here .world) ∙ ap (worldFrom n) same ∙ f .here .world)

@@ -2,32 +2,24 @@
 use mathlib.Core.List.{List}
 use mathlib.Core.Path.{_≡_, refl, sym, ap, subst, _∙_}
 use Prim.Native.Nat.{ℕ}
-use lib.ListN.{take}
 use Rattle.commands.specs.declared.plans.Answer.{Answer}
 use Rattle.commands.specs.declared.plans.Answer.the-variants as answer
+use Rattle.entries.specs.Entries.{usedIn}
 use Rattle.entries.specs.Numbers.{Small}
-use Rattle.journal.specs.declared.Session.{Session}
-use Rattle.journal.specs.Worlds.{Answered, World, worldOf}
+use Rattle.worlds.specs.declared.Session.{Session}
+use Rattle.worlds.specs.Worlds.{Answered, World, sessionOf}
 use Rattle.sessions.specs.Session.{stepped}
 use Rattle.sessions.specs.Calling.{stepKind}
-use Rattle.ts11.specs.Block.{blockOf, entryWith, sessionIn}
-use Rattle.ts11.specs.Given.{Gives, blockAfter, handed, opened}
-use Rattle.ts11.proofs.Blocks.{block-back, block-is, block-own, bytes-block}
-use Rattle.ts11.proofs.Written.{length-block}
-use Rattle.surface.specs.Hosting.{Block}
-use Rattle.surface.proofs.Fits.{looked-none, refused-none}
-
--- the block of any session
-pub is-block : (s : Session) → Block (blockOf s)
-is-block s = record { long = length-block s; bytes = bytes-block s; right = block-is s }
-
-pub own-block : (b : List ℕ) → Block b → blockOf (sessionIn b) ≡ b
-own-block b k = block-own b (k .long) (k .bytes) (k .right)
+use Rattle.sessions.proofs.Taken.{looked-none, refused-none}
+use Rattle.ts11.specs.Block.{Block, blockOf, entryWith, sessionIn}
+use Rattle.ts11.specs.Given.{Gives, Host, blockAfter, opened, worldIn}
+use Rattle.ts11.proofs.Blocks.{block-back, block-is, block-own, same-block}
+use Rattle.surface.specs.Hosting.{Unchanged}
 
 -- a right block is no refusal
-pub opens : (b : List ℕ) (w : World) (x : Answered) → Block b → opened b w x ≡ x
+pub opens : (h : Host) (x : Answered) → Block (h .block) → opened h x ≡ x
 unfolding opened
-opens b w x k = rw (k .right)
+opens h x k = rw (k .right)
 
 -- the block after an answer: that of the new session after a step, and the same where the session is the same
 pub block-stepped : (b : List ℕ) (a : Answer) (s : Session) → stepKind a ≡ stepped → blockAfter b a s ≡ blockOf s
@@ -39,28 +31,43 @@ block-stepped b (answer.BadBlock n) s k = refused-none k
 
 pub block-same : (b : List ℕ) (a : Answer) → Block b → blockAfter b a (sessionIn b) ≡ b
 unfolding blockAfter
-block-same b (answer.Done i) k = own-block b k
+block-same b (answer.Done i) k = block-own b k
 block-same b answer.Idle k = refl
 block-same b (answer.Refused n) k = refl
 block-same b (answer.BadBlock n) k = refl
 
 -- a call took a step, to a session whose numbers have four bytes, or it left the world w
 pub data Went (w : World) (x : Answered) : Type 0 where
-  went : stepKind (x .answer) ≡ stepped → Small (entryWith (x .world .session)) → Went w x
+  went : stepKind (x .answer) ≡ stepped → Small (entryWith (sessionOf (x .world))) → Went w x
   stayed : x .world ≡ w → Went w x
 
-module _ {b b′ m′ r′ j′ : List ℕ} {x : Answered} {n : ℕ} (k : Block b) (g : Gives b x n b′ m′ r′ j′) where
-  -- the buffers of the world after it, with the session s that the block is read as
-  buffers : (s : Session) → s ≡ x .world .session → worldOf s m′ r′ j′ ≡ x .world
-  buffers s e = λ i. record { session = e i; memory = g .memory i; reel = g .reel i; journal = (ap (λ (z : Session). take (z .used) j′) e ∙ g .journal) i }
+module _ {h h′ : Host} {x : Answered} {n : ℕ} (k : Block (h .block)) (g : Gives h x n h′) where
+  -- the buffers of the world after it, with the session that the block is read as
+  buffers : sessionIn (h′ .block) ≡ sessionOf (x .world) → worldIn h′ ≡ x .world
+  buffers e =
+      let journal : usedIn (sessionIn (h′ .block) .used) (h′ .journal) ≡ x .world .ledger .bytes = ap (λ (s : Session). usedIn (s .used) (h′ .journal)) e ∙ g .journal in
+      λ i. record {
+        core = record { unit = e i .unit; memory = g .memory i; reel = g .reel i };
+        ledger = record { used = e i .used; length = e i .journal; bytes = journal i };
+      }
 
-  pub leaves : (m r j : List ℕ) → Went (handed b m r j) x → Block b′ × (handed b′ m′ r′ j′ ≡ x .world)
-  leaves m r j (went step small) =
-      let is : b′ ≡ blockOf (x .world .session) = g .state ∙ block-stepped b (x .answer) (x .world .session) step in (
-        subst Block (sym is) (is-block (x .world .session)),
-        buffers (sessionIn b′) (ap sessionIn is ∙ block-back (x .world .session) small),
-      )
-  leaves m r j (stayed e) =
-      let old : x .world .session ≡ sessionIn b = ap (λ (z : World). z .session) e in
-      let is : b′ ≡ b = g .state ∙ ap (blockAfter b (x .answer)) old ∙ block-same b (x .answer) k in
-      (subst Block (sym is) k, buffers (sessionIn b′) (ap sessionIn is ∙ sym old))
+  pub leaves : Went (worldIn h) x → Block (h′ .block) × (worldIn h′ ≡ x .world)
+  leaves (went step small) =
+      let s : Session = sessionOf (x .world) in
+      let is : h′ .block ≡ blockOf s = g .state ∙ block-stepped (h .block) (x .answer) s step in
+      (subst Block (sym is) (block-is s), buffers (ap sessionIn is ∙ block-back s small))
+  leaves (stayed e) =
+      let old : sessionOf (x .world) ≡ sessionIn (h .block) = ap sessionOf e in
+      let is : h′ .block ≡ h .block = g .state ∙ ap (blockAfter (h .block) (x .answer)) old ∙ block-same (h .block) (x .answer) k in
+      (subst Block (sym is) k, buffers (ap sessionIn is ∙ sym old))
+
+-- two blocks of one world are one: a host that holds the world of another holds its bytes
+pub world-bytes : {h h′ : Host} → Block (h .block) → Block (h′ .block) → worldIn h′ ≡ worldIn h → Unchanged h h′
+world-bytes {h} {h′} b c e =
+    let same : h′ .block ≡ h .block = same-block (h′ .block) (h .block) c b (ap sessionOf e) in
+    record {
+      block = same;
+      memory = ap (λ (w : World). w .core .memory) e;
+      reel = ap (λ (w : World). w .core .reel) e;
+      journal = ap (λ (y : List ℕ). usedIn (sessionIn y .used) (h′ .journal)) (sym same) ∙ ap (λ (w : World). w .ledger .bytes) e;
+    }

@@ -3,161 +3,89 @@ use mathlib.Core.List.{List, [], _∷_}
 use mathlib.Core.Path.{_≡_, refl, sym, ap, _∙_}
 use Prim.Native.Nat.{ℕ}
 use lib.ListN.{length}
-use Rattle.lists.specs.Words.{Bytes}
 use Rattle.commands.specs.Answers.{numberOf}
-use Rattle.journal.specs.Worlds.{Answered, World}
-use Rattle.journal.specs.Calls.{backOn, refusedAs}
-use Rattle.sessions.specs.Session.{Done, Kind, Ran, after, and-did, and-not, and-saw, and-undid, backFrom, did, looked, not, refused, saw, start, stepped, undid}
-use Rattle.sessions.specs.Calling.{Call, Kept, Said, onCall}
-use Rattle.sessions.proofs.Calls.{Fresh, Now, back-done, back-none, calls, kindNow}
-use Rattle.sessions.proofs.Stays.{stays}
-use Rattle.surface.specs.Hosting.{Block, Holds, Host, Hosted, Line, and-back, and-made, back, backGivenOn, begun, givenOn, made, worldIn}
-use Rattle.surface.proofs.Fits.{looked-none, refused-none}
+use Rattle.worlds.specs.Worlds.{Answered, World}
+use Rattle.worlds.specs.Calls.{backOn}
+use Rattle.sessions.specs.Session.{Kind, after, and-did, and-not, and-saw, does, looked, refused, start, stepped, undid}
+use Rattle.sessions.specs.Session as session
+use Rattle.sessions.specs.Calling.{Call, Noted, onCall, worldFrom}
+use Rattle.sessions.specs.Good.{Fresh}
+use Rattle.sessions.proofs.Calls.{Here, back-does, back-none, calls, does-that, kindNow}
+use Rattle.sessions.proofs.Striking.{goes-back}
+use Rattle.ts11.specs.Given.{Host, backGiven, worldIn}
+use Rattle.surface.specs.Hosting.{AtMoment, Begins, Hosted, Line, Returned, and-back, and-made, back, begun, first, given, made}
 use Rattle.surface.proofs.Runs.{given-is, runs-as}
 use Rattle.surface.proofs.Backs.{back-as, back-is}
+use Rattle.surface.proofs.Following.{Follows, a-back, a-look, a-refusal, a-step, no-back, none}
 
-abbrev pub first : Host → Now
-first h = record { world = worldIn h; entries = [] }
+module _ {n : ℕ} {s₀ : Here} {d : List Line} {h : Host} (f : Follows n s₀ d h) where
+  abbrev was : World
+  was = worldFrom n (f .moment)
 
--- what a host holds when a session begins
-pub record Begins (h : Host) : Type 0 where
-  pub block : Block (h .block)
-  pub bytes : Bytes (h .journal)
-  pub fresh : Fresh (length (h .journal)) (first h)
+  module _ {h′ : Host} {k : ℕ} (c : Call) (g : Returned h (given c h) k h′) where
+    same : onCall (length (h .journal)) c (worldIn h) ≡ onCall n c was
+    same = ap (λ (i : ℕ). onCall i c (worldIn h)) (f .here .long) ∙ ap (onCall n c) (sym (f .here .world))
 
-module _ (n : ℕ) where
-  -- the host's lines and the session's, newest first: each call with the number of its answer. A step back returns 0, or 6, and then the
-  -- session has no line of it.
-  pub data Logs : List Line → List (Done (calls n)) → Type 0 where
-    none : Logs [] []
-    a-step : {d : List Line} {l : List (Done (calls n))} {c : Call} {a : Said} {k : ℕ} → Logs d l → k ≡ numberOf (a .answer) → Logs (made c k ∷ d) (did c a ∷ l)
-    a-look : {d : List Line} {l : List (Done (calls n))} {c : Call} {a : Said} {k : ℕ} → Logs d l → k ≡ numberOf (a .answer) → Logs (made c k ∷ d) (saw c a ∷ l)
-    a-refusal : {d : List Line} {l : List (Done (calls n))} {c : Call} {a : Said} {k : ℕ} → Logs d l → k ≡ numberOf (a .answer) → Logs (made c k ∷ d) (not c a ∷ l)
-    a-back : {d : List Line} {l : List (Done (calls n))} {k : ℕ} → Logs d l → k ≡ 0 → Logs (back k ∷ d) (undid ∷ l)
-    no-back : {d : List Line} {l : List (Done (calls n))} {k : ℕ} → Logs d l → k ≡ 6 → Logs (back k ∷ d) l
+    number : k ≡ numberOf (onCall n c was .answer)
+    number = g .gives .answer ∙ ap (λ (x : Answered). numberOf (x .answer)) (given-is c h (f .here .block) ∙ same)
 
-  -- the log d led a host to h as a session of the model leads from its beginning s₀
-  pub record Follows (s₀ : Now) (d : List Line) (h : Host) : Type 0 where
-    pub log : List (Done (calls n))
-    pub state : Now
-    pub ran : Ran (calls n) s₀ log state
-    pub lines : Logs d log
-    pub world : state .world ≡ worldIn h
-    pub block : Block (h .block)
-    pub bytes : Bytes (h .journal)
-    pub long : length (h .journal) ≡ n
+    pub call-at : AtMoment n (does (calls n) c (f .moment)) h′
+    call-at =
+        let z = runs-as c h (f .here .block) (g .gives) in
+        record {
+          world = does-that n c (f .moment) ∙ sym (z .1 ∙ ap (λ (x : Answered). x .world) same);
+          block = z .0;
+          bytes = g .bytes;
+          long = g .long ∙ f .here .long;
+        }
 
-  module _ {s₀ : Now} {d : List Line} {h : Host} (f : Follows s₀ d h) where
-    abbrev was : World
-    was = f .state .world
+    made-by : (z : Kind) → kindNow n c (f .moment) ≡ z → AtMoment n (after (calls n) z c (f .moment)) h′ → Follows n s₀ (made c k ∷ d) h′
+    made-by stepped t a = record { log = _; moment = after (calls n) stepped c (f .moment); ran = and-did (f .ran) t refl refl; lines = a-step (f .lines) number; here = a }
+    made-by refused t a = record { log = _; moment = f .moment; ran = and-not (f .ran) t refl; lines = a-refusal (f .lines) number; here = a }
+    made-by looked t a = record { log = _; moment = f .moment; ran = and-saw (f .ran) t refl; lines = a-look (f .lines) number; here = a }
 
-    module _ {h′ : Host} {k : ℕ} (c : Call) (g : Holds h (givenOn c h) k h′) where
-      does : givenOn c h ≡ onCall n c was
-      does =
-          given-is c (h .block) (h .memory) (h .reel) (h .journal) (f .block)
-          ∙ ap (λ (i : ℕ). onCall i c (worldIn h)) (f .long)
-          ∙ ap (onCall n c) (sym (f .world))
+  module _ {h′ : Host} {k : ℕ} (fresh : Fresh n s₀) (g : Returned h (backGiven h) k h′) where
+    same-back : backOn (worldIn h) (length (h .journal)) ≡ backOn was n
+    same-back = ap (backOn (worldIn h)) (f .here .long) ∙ ap (λ (w : World). backOn w n) (sym (f .here .world))
 
-      number : k ≡ numberOf (onCall n c was .answer)
-      number = g .gives .answer ∙ ap (λ (x : Answered). numberOf (x .answer)) does
-
-      there : Block (h′ .block) × (onCall n c was .world ≡ worldIn h′)
-      there =
-          let z = runs-as c (h .block) (h .memory) (h .reel) (h .journal) (f .block) (g .gives) in
-          let e : onCall (length (h .journal)) c (worldIn h) .world ≡ onCall n c was .world = ap (λ (x : Answered). x .world) (ap (λ (i : ℕ). onCall i c (worldIn h)) (f .long) ∙ ap (onCall n c) (sym (f .world))) in
-          (z .0, sym (z .1 ∙ e))
-
-      made-by : (z : Kind) → kindNow n c (f .state) ≡ z → Follows s₀ (made c k ∷ d) h′
-      made-by stepped t =
+    -- a step back that answers x, and leaves the world of the moment s
+    back-at : (x : Answered) (s : Here) → backOn was n ≡ x → worldFrom n s ≡ x .world → (k ≡ numberOf (x .answer)) × AtMoment n s h′
+    back-at x s e w =
+        let z = back-as h (f .here .block) (f .here .bytes) (g .gives) in
+        let is = same-back ∙ e in (
+          g .gives .answer ∙ ap (λ (y : Answered). numberOf (y .answer)) (back-is h (f .here .block) ∙ is),
           record {
-            log = _;
-            state = after (calls n) stepped c (f .state);
-            ran = and-did (f .ran) t refl refl;
-            lines = a-step (f .lines) number;
-            world = there .1;
-            block = there .0;
+            world = w ∙ sym (z .1 ∙ ap (λ (y : Answered). y .world) is);
+            block = z .0;
             bytes = g .bytes;
-            long = g .long ∙ f .long;
-          }
-      made-by refused t =
-          record {
-            log = _;
-            state = f .state;
-            ran = and-not (f .ran) t refl;
-            lines = a-refusal (f .lines) number;
-            world = sym (stays n c was (λ s. refused-none (sym t ∙ s))) ∙ there .1;
-            block = there .0;
-            bytes = g .bytes;
-            long = g .long ∙ f .long;
-          }
-      made-by looked t =
-          record {
-            log = _;
-            state = f .state;
-            ran = and-saw (f .ran) t refl;
-            lines = a-look (f .lines) number;
-            world = sym (stays n c was (λ s. looked-none (sym t ∙ s))) ∙ there .1;
-            block = there .0;
-            bytes = g .bytes;
-            long = g .long ∙ f .long;
-          }
+            long = g .long ∙ f .here .long;
+          },
+        )
 
-    module _ {h′ : Host} {k : ℕ} (fresh : Fresh n s₀) (g : Holds h (backGivenOn h) k h′) where
-      same-back : backOn (worldIn h) (length (h .journal)) ≡ backOn was n
-      same-back = ap (backOn (worldIn h)) (f .long) ∙ ap (λ (w : World). backOn w n) (sym (f .world))
+    -- it leads where the model's leads
+    pub back-one : {e : Noted} {es : List Noted} → f .moment .entries ≡ e ∷ es → (k ≡ 0) × AtMoment n (session.back (calls n) (f .moment)) h′
+    unfolding numberOf
+    back-one q = back-at _ _ (back-does n fresh (f .ran) q) refl
 
-      number-back : k ≡ numberOf (backOn was n .answer)
-      number-back =
-          g .gives .answer
-          ∙ ap (λ (x : Answered). numberOf (x .answer)) (back-is (h .block) (h .memory) (h .reel) (h .journal) (f .block) (f .bytes) ∙ same-back)
+    -- and where no entry stands it is refused with 6
+    pub back-empty : f .moment .entries ≡ [] → (k ≡ 6) × AtMoment n (f .moment) h′
+    unfolding numberOf
+    back-empty q = back-at _ _ (back-none n fresh (f .ran) q) refl
 
-      there-back : Block (h′ .block) × (backOn was n .world ≡ worldIn h′)
-      there-back =
-          let z = back-as (h .block) (h .memory) (h .reel) (h .journal) (f .block) (f .bytes) (g .gives) in
-          (z .0, sym (z .1 ∙ ap (λ (x : Answered). x .world) same-back))
-
-      back-by : (es : List Kept) → f .state .entries ≡ es → Follows s₀ (back k ∷ d) h′
-      unfolding numberOf
-      back-by [] q =
-          let none : backOn was n ≡ refusedAs 6 was = back-none n fresh (f .ran) q in
-          record {
-            log = f .log;
-            state = f .state;
-            ran = f .ran;
-            lines = no-back (f .lines) (number-back ∙ ap (λ (x : Answered). numberOf (x .answer)) none);
-            world = sym (ap (λ (x : Answered). x .world) none) ∙ there-back .1;
-            block = there-back .0;
-            bytes = g .bytes;
-            long = g .long ∙ f .long;
-          }
-      back-by (e ∷ es) q =
-          record {
-            log = undid ∷ f .log;
-            state = backFrom (calls n) (e ∷ es) was;
-            ran = and-undid (f .ran) q refl;
-            lines = a-back (f .lines) (number-back ∙ ap numberOf (back-done n fresh (f .ran) q));
-            world = there-back .1;
-            block = there-back .0;
-            bytes = g .bytes;
-            long = g .long ∙ f .long;
-          }
+    back-by : (es : List Noted) → f .moment .entries ≡ es → Follows n s₀ (back k ∷ d) h′
+    back-by [] q =
+        let z = back-empty q in
+        record { log = f .log; moment = f .moment; ran = f .ran; lines = no-back (f .lines) (z .0); here = z .1 }
+    back-by (e ∷ es) q =
+        let z = back-one q in
+        record { log = undid ∷ f .log; moment = session.back (calls n) (f .moment); ran = goes-back (calls n) q (f .ran); lines = a-back (f .lines) (z .0); here = z .1 }
 
 -- a host's run is a session
 pub host-ran : {h₀ h : Host} {d : List Line} → Begins h₀ → Hosted h₀ d h → Follows (length (h₀ .journal)) (first h₀) d h
-host-ran {h₀} s begun =
-    record {
-      log = [];
-      state = first h₀;
-      ran = start;
-      lines = none;
-      world = refl;
-      block = s .block;
-      bytes = s .bytes;
-      long = refl;
-    }
+host-ran {h₀} s begun = record { log = []; moment = first h₀; ran = start; lines = none; here = s .here }
 host-ran {h₀} s (and-made c r g) =
     let f = host-ran s r in
-    made-by (length (h₀ .journal)) f c g (kindNow (length (h₀ .journal)) c (f .state)) refl
-host-ran {h₀} s (and-back r g) =
+    made-by f c g (kindNow (length (h₀ .journal)) c (f .moment)) refl (call-at f c g)
+host-ran s (and-back r g) =
     let f = host-ran s r in
-    back-by (length (h₀ .journal)) f (s .fresh) g (f .state .entries) refl
+    back-by f (s .fresh) g (f .moment .entries) refl

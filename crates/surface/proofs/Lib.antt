@@ -1,14 +1,14 @@
 -- The theorems of the exported calls.
-pub mod Names
 pub mod Fits
 pub mod Goes
-pub mod Readings
+pub mod Names
 pub mod Runs
 pub mod Backs
 pub mod Undone
 pub mod Refused
 pub mod Rounds
 pub mod Unique
+pub mod Following
 pub mod Hosts
 pub mod Mounted
 pub mod Always

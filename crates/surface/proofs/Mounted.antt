@@ -6,39 +6,43 @@ use Prim.Native.Nat.{ℕ}
 use native.Mathlib.Omega.{arith}
 use borrow.Author.Tests.{eqb-false}
 use lib.Dec.{eqb, ltb}
-use lib.ListN.{length, take}
+use lib.ListN.{length}
 use Rattle.lists.specs.Words.{Bytes}
 use Rattle.lists.proofs.Cases.{by-test}
 use Rattle.tape.specs.Sweep.{sweptBelow}
 use Rattle.tape.specs.declared.Swept.{Swept}
 use Rattle.tape.specs.declared.Swept.the-variants as swept
+use Rattle.state.specs.declared.Unit.{Unit}
 use Rattle.commands.specs.Answers.{numberOf}
 use Rattle.commands.specs.declared.plans.Answer.the-variants as answer
-use Rattle.unit.specs.Calls.{mountRefusal}
-use Rattle.journal.specs.declared.Session.{Session}
-use Rattle.journal.specs.Worlds.{World}
-use Rattle.journal.specs.Refusals.{journalLimit}
-use Rattle.journal.specs.Calls.{mountOn, mountSweptOn}
-use Rattle.sessions.specs.Calling.{stepKind}
-use Rattle.sessions.proofs.Calls.{Fresh}
-use Rattle.sessions.proofs.Mounting.{mountWorld, mounted, mounted-fit}
-use Rattle.ts11.specs.Block.{blockOf, sessionIn}
-use Rattle.ts11.specs.Given.{Mounts, handed}
-use Rattle.ts11.proofs.Blocks.{block-back}
-use Rattle.surface.specs.Hosting.{Block}
+use Rattle.unit.specs.Cores.{Core}
+use Rattle.unit.specs.Mounts.{mountCall, mountRefusal, mountSwept}
+use Rattle.entries.specs.Entries.{usedIn}
+use Rattle.worlds.specs.declared.Session.{Session}
+use Rattle.worlds.specs.Worlds.{sessionOf}
+use Rattle.worlds.specs.Refusals.{journalLimit}
+use Rattle.worlds.specs.Calls.{mountOn, mountedBy, session}
+use Rattle.sessions.specs.Session.{Moment}
+use Rattle.sessions.specs.Calling.{Noted, journalOf, ledgerOf, lengthOf, stepKind, worldFrom}
+use Rattle.sessions.specs.Good.{Fresh}
+use Rattle.sessions.proofs.Mounting.{mount-session, mountMoment, mounted, mounted-fit}
+use Rattle.ts11.specs.Block.{Block, blockOf, sessionIn}
+use Rattle.ts11.specs.Given.{Host, Mounts, holding, worldIn}
+use Rattle.ts11.proofs.Blocks.{block-back, block-is}
+use Rattle.surface.specs.Hosting.{Begins, first}
 use Rattle.surface.proofs.Fits.{small-fit}
-use Rattle.surface.proofs.Goes.{block-stepped, is-block}
-use Rattle.surface.proofs.Hosts.{Begins}
+use Rattle.surface.proofs.Goes.{block-stepped}
 
 module _ (old : Session) (memory : ℕ) (r : List ℕ) (journal e : ℕ) (online locked : Bool) where
-  swept-zero : (new : Session) (x : Swept) → numberOf (mountSweptOn old new x .answer) ≡ 0 → mountSweptOn old new x .answer ≡ answer.Done false
-  unfolding mountSweptOn numberOf
+  swept-zero : (new : Unit) (x : Swept) → numberOf (mountedBy old journal (mountSwept (old .unit) new x .unit) (mountSwept (old .unit) new x .answer) .answer) ≡ 0
+      → mountedBy old journal (mountSwept (old .unit) new x .unit) (mountSwept (old .unit) new x .answer) .answer ≡ answer.Done false
+  unfolding mountSwept mountedBy numberOf
   swept-zero new swept.Whole h = refl
   swept-zero new (swept.Bad k) h = absurd (omega arith)
 
   -- of a mount's answers only "done" has the number 0
-  pub mount-zero : numberOf (mountOn old memory r journal e online locked .answer) ≡ 0 → mountOn old memory r journal e online locked .answer ≡ answer.Done false
-  unfolding mountOn numberOf
+  mount-zero : numberOf (mountOn old memory r journal e online locked .answer) ≡ 0 → mountOn old memory r journal e online locked .answer ≡ answer.Done false
+  unfolding mountOn mountCall numberOf
   mount-zero h =
       let n : ℕ = mountRefusal memory (length r) e in
       by-test (eqb n 0)
@@ -47,29 +51,58 @@ module _ (old : Session) (memory : ℕ) (r : List ℕ) (journal e : ℕ) (online
       (λ v. rw (t, v) (swept-zero _ (sweptBelow r e) (rw (t, v) at h))))
       (λ t. let z : n ≡ 0 = rw t at h in absurd (eqb-false n 0 t z))
 
-module _ (b m r j : List ℕ) (e : ℕ) (online locked : Bool) {b′ : List ℕ} {k : ℕ} (all : Bytes r) (g : Mounts b (mountOn (sessionIn b) (length m) r (length j) e online locked) 0 b′ k) where
-  abbrev new : Session
-  new = mountOn (sessionIn b) (length m) r (length j) e online locked .session
+module _ (h : Host) (e : ℕ) (online locked : Bool) {b′ : List ℕ} {k : ℕ} (all : Bytes (h .reel)) (g : Mounts (h .block) (mountOn (sessionIn (h .block)) (length (h .memory)) (h .reel) (length (h .journal)) e online locked) 0 b′ k) where
+  abbrev n : ℕ
+  n = length (h .journal)
 
-  done : mountOn (sessionIn b) (length m) r (length j) e online locked .answer ≡ answer.Done false
-  done = mount-zero (sessionIn b) (length m) r (length j) e online locked (sym (g .answer))
+  abbrev old : Session
+  old = sessionIn (h .block)
+
+  abbrev new : Session
+  new = mountOn old (length (h .memory)) (h .reel) n e online locked .session
+
+  abbrev after : Host
+  after = holding b′ (h .memory) (h .reel) (h .journal)
+
+  abbrev moment : Moment Core Noted
+  moment = mountMoment old (h .memory) (h .reel) n e online locked
+
+  done : mountOn old (length (h .memory)) (h .reel) n e online locked .answer ≡ answer.Done false
+  done = mount-zero old (length (h .memory)) (h .reel) n e online locked (sym (g .answer))
 
   its-block : b′ ≡ blockOf new
   unfolding stepKind
-  its-block = g .state ∙ block-stepped b (mountOn (sessionIn b) (length m) r (length j) e online locked .answer) new (ap stepKind done)
+  its-block = g .state ∙ block-stepped (h .block) (mountOn old (length (h .memory)) (h .reel) n e online locked .answer) new (ap stepKind done)
 
-  its-world : mountWorld (sessionIn b) m r (length j) e online locked ≡ handed b′ m r j
-  its-world =
-      let fit = mounted-fit (sessionIn b) m r (length j) e online locked done in
-      let is : sessionIn b′ ≡ new = ap sessionIn its-block ∙ block-back new (small-fit (length j) (mountWorld (sessionIn b) m r (length j) e online locked) fit) in
-      let none : new .used ≡ 0 = sym (fit .kept) in
-      let empty : take (sessionIn b′ .used) j ≡ [] = ap (λ (i : ℕ). take i j) (ap (λ (s : Session). s .used) is ∙ none) in
-      λ i. record { session = sym is i; memory = m; reel = r; journal = sym empty i }
+  -- the session of the moment that a mount leaves
+  new-is : sessionOf (worldFrom n moment) ≡ new
+  unfolding lengthOf
+  new-is =
+      let is = mount-session old (h .memory) (h .reel) n e online locked done in
+      ap (λ (s : Session). session (s .unit) 0 n) is ∙ sym is
 
-  pub mounted-host : Bytes j → Begins (record { block = b′; memory = m; reel = r; journal = j })
+  read-as : sessionOf (worldFrom n moment) ≡ sessionIn b′
+  read-as =
+      sym (block-back (sessionOf (worldFrom n moment)) (small-fit n (worldFrom n moment) (mounted-fit old (h .memory) (h .reel) n e online locked done)))
+      ∙ ap sessionIn (ap blockOf new-is ∙ sym its-block)
+
+  its-moment : moment ≡ first after
+  its-moment = λ i. record { core = record { unit = read-as i .unit; memory = h .memory; reel = h .reel }; entries = [] }
+
+  -- the journal is empty
+  its-ledger : ledgerOf n [] ≡ worldIn after .ledger
+  unfolding usedIn lengthOf journalOf
+  its-ledger = λ i. record { used = read-as i .used; length = read-as i .journal; bytes = usedIn (read-as i .used) (h .journal) }
+
+  pub mounted-host : Bytes (h .journal) → Begins after
   mounted-host bytes =
       record {
-        block = subst Block (sym its-block) (is-block new);
-        bytes = bytes;
-        fresh = subst (λ (w : World). Fresh (length j) (record { world = w; entries = [] })) its-world (mounted (sessionIn b) m r (length j) e online locked all done);
+        fresh = subst (Fresh n) its-moment (mounted old (h .memory) (h .reel) n e online locked done all);
+        here =
+            record {
+              world = λ i. record { core = worldIn after .core; ledger = its-ledger i };
+              block = subst Block (sym its-block) (block-is new);
+              bytes = bytes;
+              long = refl;
+            };
       }

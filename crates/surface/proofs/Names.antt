@@ -1,29 +1,36 @@
--- Each exported call that takes buffers is the session's call of its name.
+-- Each exported call is the session's call of its name.
 use mathlib.Core.Bool.{Bool}
-use mathlib.Core.List.{List}
-use mathlib.Core.Path.{_≡_, refl}
-use Prim.Native.Nat.{ℕ, _<_}
-use Rattle.sessions.specs.Calling.{advance, host-store, onCall, operate, write-tsdb, write-tssr}
-use Rattle.ts11.specs.Given.{actOf, advanceGiven, hostGiven, operateGiven, tsdbGiven, tssrGiven}
+use mathlib.Core.Path.{_≡_, refl, sym, ap, _∙_}
+use Prim.Native.Nat.{ℕ}
+use Rattle.commands.specs.Answers.{numberOf}
+use Rattle.unit.specs.Asks.{Ask, Asked}
+use Rattle.worlds.specs.Calls.{registerOn}
+use Rattle.worlds.specs.declared.RegisterRead.{RegisterRead}
+use Rattle.sessions.specs.Calling.{onCall, read-register, step, wordOf}
+use Rattle.ts11.specs.Block.{Block, sessionIn}
+use Rattle.ts11.specs.Given.{Gives, Host, Reads, opened, registerGiven, registerOf, stepGiven, worldIn}
 use Rattle.surface.specs.Hosting.{given}
+use Rattle.surface.proofs.Goes.{block-same}
 
-module _ (b m r j : List ℕ) where
-  pub given-tsdb : (word : ℕ) (h : word < 65536) → given (write-tsdb word h) b m r j ≡ tsdbGiven b m r j word
-  unfolding given onCall tsdbGiven
-  given-tsdb word h = refl
+-- a TSDB or TSSR write, operator act, host store or advance
+pub given-step : (a : Ask) (h : Asked a) (x : Host) → given (step a h) x ≡ stepGiven a x
+unfolding given onCall stepGiven
+given-step a h x = refl
 
-  pub given-tssr : given write-tssr b m r j ≡ tssrGiven b m r j
-  unfolding given onCall tssrGiven
-  given-tssr = refl
-
-  pub given-operate : (lock on : Bool) → given (operate (actOf lock on)) b m r j ≡ operateGiven b m r j lock on
-  unfolding given onCall operateGiven
-  given-operate lock on = refl
-
-  pub given-host : (place : ℕ) (bytes : List ℕ) → given (host-store place bytes) b m r j ≡ hostGiven b m r j place bytes
-  unfolding given onCall hostGiven
-  given-host place bytes = refl
-
-  pub given-advance : given advance b m r j ≡ advanceGiven b m r j
-  unfolding given onCall advanceGiven
-  given-advance = refl
+-- reading a register: its number and word, and nothing else changes
+pub given-register : (h : Host) (tssr : Bool) {n w : ℕ} → Block (h .block) → Reads (registerGiven (h .block) tssr) n w
+    → Gives h (given (read-register (registerOf tssr)) h) n h × (w ≡ wordOf (read-register (registerOf tssr)) (worldIn h))
+unfolding given onCall opened registerGiven wordOf
+given-register h tssr k x =
+    let y : RegisterRead = registerOn (sessionIn (h .block)) (registerOf tssr) in
+    let z : registerGiven (h .block) tssr ≡ y = rw (k .right) in (
+      rw (k .right)
+          (record {
+            answer = x .answer ∙ ap (λ (i : RegisterRead). numberOf (i .answer)) z;
+            state = sym (block-same (h .block) (y .answer) k);
+            memory = refl;
+            reel = refl;
+            journal = refl;
+          }),
+      x .word ∙ ap (λ (i : RegisterRead). i .word) z,
+    )

@@ -1,45 +1,38 @@
 -- One exported call is one call of the session, from any block.
-use mathlib.Core.List.{List}
 use mathlib.Core.Path.{_≡_, refl, sym, subst, _∙_}
 use Prim.Native.Nat.{ℕ}
 use lib.ListN.{length}
-use Rattle.journal.specs.Worlds.{Answered, World}
+use Rattle.worlds.specs.Worlds.{Answered}
+use Rattle.worlds.specs.Passes.{Fit}
 use Rattle.sessions.specs.Session.{Kind, looked, refused, stepped}
-use Rattle.sessions.specs.Calling.{Call, entryAt, kindOf, onCall}
-use Rattle.sessions.proofs.Undone.{Fit}
-use Rattle.sessions.proofs.Stays.{stays}
-use Rattle.sessions.proofs.Advancing.{advance-sound}
-use Rattle.sessions.proofs.Taken.{Taken, taken, taken-fit}
-use Rattle.ts11.specs.Given.{Gives, handed}
-use Rattle.surface.specs.Hosting.{Block, given}
-use Rattle.surface.proofs.Fits.{fit-handed, looked-none, refused-none, small-fit, sound-step, step-done}
+use Rattle.sessions.specs.Calling.{Call, kindOf, onCall}
+use Rattle.sessions.proofs.Taken.{looked-none, refused-none, sound-step, stays, step-done, step-fit}
+use Rattle.ts11.specs.Block.{Block}
+use Rattle.ts11.specs.Given.{Gives, Host, worldIn}
+use Rattle.surface.specs.Hosting.{given}
+use Rattle.surface.proofs.Fits.{fit-in, small-fit}
 use Rattle.surface.proofs.Goes.{Went, leaves, opens, stayed, went}
 
-module _ (c : Call) (b m r j : List ℕ) (k : Block b) where
-  abbrev before : World
-  before = handed b m r j
+module _ (c : Call) (h : Host) (k : Block (h .block)) where
+  abbrev n : ℕ
+  n = length (h .journal)
+
+  abbrev does : Answered
+  does = onCall n c (worldIn h)
 
   -- what the exported call gives is what the session's call does
-  pub given-is : given c b m r j ≡ onCall (length j) c before
+  pub given-is : given c h ≡ does
   unfolding given
-  given-is = opens b before (onCall (length j) c before) k
+  given-is = opens h does k
 
   -- a step is taken from a fit world only
-  pub fit-before : kindOf c (onCall (length j) c before .answer) ≡ stepped → Fit (length j) before
-  fit-before t = fit-handed b m r j (k .bytes) (sound-step (length j) before c t)
+  pub fit-before : kindOf c (does .answer) ≡ stepped → Fit n (worldIn h)
+  fit-before t = fit-in h (k .bytes) (sound-step n (worldIn h) c t)
 
-  pub step-taken : kindOf c (onCall (length j) c before .answer) ≡ stepped → Taken before (onCall (length j) c before .world) (entryAt c before)
-  step-taken t = taken advance-sound (length j) c before (fit-before t) t
+  call-went-by : (z : Kind) → kindOf c (does .answer) ≡ z → Went (worldIn h) does
+  call-went-by stepped t = went (step-done c (does .answer) t) (small-fit n (does .world) (step-fit n (worldIn h) (fit-before t) c t))
+  call-went-by refused t = stayed (stays n c (worldIn h) (λ s. refused-none (sym t ∙ s)))
+  call-went-by looked t = stayed (stays n c (worldIn h) (λ s. looked-none (sym t ∙ s)))
 
-  call-went-by : (z : Kind) → kindOf c (onCall (length j) c before .answer) ≡ z → Went before (onCall (length j) c before)
-  call-went-by stepped t =
-      went (step-done c (onCall (length j) c before .answer) t)
-      (small-fit (length j) (onCall (length j) c before .world) (taken-fit (length j) before (onCall (length j) c before .world) (entryAt c before) (fit-before t) (step-taken t)))
-  call-went-by refused t = stayed (stays (length j) c before (λ s. refused-none (sym t ∙ s)))
-  call-went-by looked t = stayed (stays (length j) c before (λ s. looked-none (sym t ∙ s)))
-
-  pub call-went : Went before (onCall (length j) c before)
-  call-went = call-went-by (kindOf c (onCall (length j) c before .answer)) refl
-
-  pub runs-as : {n : ℕ} {b′ m′ r′ j′ : List ℕ} → Gives b (given c b m r j) n b′ m′ r′ j′ → Block b′ × (handed b′ m′ r′ j′ ≡ onCall (length j) c before .world)
-  runs-as {n} {b′} {m′} {r′} {j′} g = leaves k (subst (λ (x : Answered). Gives b x n b′ m′ r′ j′) given-is g) m r j call-went
+  pub runs-as : {i : ℕ} {h′ : Host} → Gives h (given c h) i h′ → Block (h′ .block) × (worldIn h′ ≡ does .world)
+  runs-as {i} {h′} g = leaves k (subst (λ (x : Answered). Gives h x i h′) given-is g) (call-went-by (kindOf c (does .answer)) refl)

@@ -1,43 +1,48 @@
 -- The step back after a step gives back the bytes of state, memory and reel, from any block, be it of a state that no session ever had.
 use mathlib.Core.Bool.{false}
-use mathlib.Core.List.{List}
-use mathlib.Core.Path.{_≡_, sym, ap, subst, _∙_}
+use mathlib.Core.Path.{_≡_, refl, sym, ap, subst, _∙_}
 use Prim.Native.Nat.{ℕ}
-use lib.ListN.{length, take}
+use lib.ListN.{length}
 use Rattle.commands.specs.Answers.{numberOf}
 use Rattle.commands.specs.declared.plans.Answer.the-variants as answer
-use Rattle.journal.specs.Worlds.{Answered, World, answered}
-use Rattle.journal.specs.Calls.{backOn}
+use Rattle.worlds.specs.Worlds.{Answered, World, answered}
+use Rattle.worlds.specs.Calls.{backOn}
 use Rattle.sessions.specs.Session.{stepped}
-use Rattle.sessions.specs.Calling.{Call, entryAt, kindOf, onCall}
-use Rattle.sessions.proofs.Taken.{taken-undone}
-use Rattle.ts11.specs.Block.{sessionIn}
-use Rattle.ts11.specs.Given.{Gives, backGiven, blockAfter, handed}
-use Rattle.surface.specs.Hosting.{Block, given}
-use Rattle.surface.proofs.Goes.{opens, own-block}
-use Rattle.surface.proofs.Runs.{fit-before, given-is, runs-as, step-taken}
+use Rattle.sessions.specs.Calling.{Call, kindOf, onCall, stepKind}
+use Rattle.sessions.proofs.Taken.{step-undone}
+use Rattle.ts11.specs.Block.{Block}
+use Rattle.ts11.specs.Given.{Gives, Host, backGiven, worldIn}
+use Rattle.ts11.proofs.Blocks.{small-in}
+use Rattle.surface.specs.Hosting.{Unchanged, given}
+use Rattle.surface.proofs.Goes.{leaves, went, world-bytes}
+use Rattle.surface.proofs.Backs.{back-is}
+use Rattle.surface.proofs.Runs.{fit-before, given-is, runs-as}
 
--- the step back's outcome where it brings back the world of the block b
-pub brought : (b m r j : List ℕ) {b′ b″ m″ r″ j″ : List ℕ} {n : ℕ} → Block b → Gives b′ (answered (answer.Done false) (handed b m r j)) n b″ m″ r″ j″
-    → (n ≡ 0) × (b″ ≡ b) × (m″ ≡ m) × (r″ ≡ r) × (take (sessionIn b .used) j″ ≡ take (sessionIn b .used) j)
-unfolding numberOf blockAfter
-brought b m r j k g = (g .answer, g .state ∙ own-block b k, g .memory, g .reel, g .journal)
+module _ (c : Call) (h : Host) (k : Block (h .block)) (t : kindOf c (given c h .answer) ≡ stepped) where
+  abbrev n : ℕ
+  n = length (h .journal)
 
-module _ (c : Call) (b m r j : List ℕ) (k : Block b) (t : kindOf c (given c b m r j .answer) ≡ stepped) {n : ℕ} {b′ m′ r′ j′ : List ℕ} (long : length j′ ≡ length j) (g : Gives b (given c b m r j) n b′ m′ r′ j′) where
-  abbrev before : World
-  before = handed b m r j
+  its-kind : kindOf c (onCall n c (worldIn h) .answer) ≡ stepped
+  its-kind = ap (λ (x : Answered). kindOf c (x .answer)) (sym (given-is c h k)) ∙ t
 
-  its-kind : kindOf c (onCall (length j) c before .answer) ≡ stepped
-  its-kind = ap (λ (x : Answered). kindOf c (x .answer)) (sym (given-is c b m r j k)) ∙ t
+  -- a step back from the world that the step left
+  module _ {h′ h″ : Host} {i : ℕ} (b : Block (h′ .block)) (long : length (h′ .journal) ≡ n) (there : worldIn h′ ≡ onCall n c (worldIn h) .world) (g : Gives h′ (backGiven h′) i h″) where
+    back-gives : backGiven h′ ≡ answered (answer.Done false) (worldIn h)
+    back-gives =
+        back-is h′ b
+        ∙ ap (backOn (worldIn h′)) long
+        ∙ ap (λ (w : World). backOn w n) there
+        ∙ step-undone n (worldIn h) (fit-before c h k its-kind) c its-kind
 
-  back-gives : backGiven b′ m′ r′ j′ ≡ answered (answer.Done false) before
-  unfolding backGiven
-  back-gives =
-      let there = runs-as c b m r j k g in
-      opens b′ (handed b′ m′ r′ j′) (backOn (handed b′ m′ r′ j′) (length j′)) (there .0)
-      ∙ ap (λ (w : World). backOn w (length j′)) (there .1)
-      ∙ ap (backOn (onCall (length j) c before .world)) long
-      ∙ taken-undone (length j) before (onCall (length j) c before .world) (entryAt c before) (fit-before c b m r j k its-kind) (step-taken c b m r j k its-kind)
+    pub world-undone : (i ≡ 0) × Block (h″ .block) × (worldIn h″ ≡ worldIn h)
+    unfolding numberOf stepKind
+    world-undone =
+        let brought : Gives h′ (answered (answer.Done false) (worldIn h)) i h″ = subst (λ (x : Answered). Gives h′ x i h″) back-gives g in
+        let z = leaves b brought (went refl (small-in (h .block) (k .bytes))) in
+        (brought .answer, z .0, z .1)
 
-  pub undone-bytes : {n″ : ℕ} {b″ m″ r″ j″ : List ℕ} → Gives b′ (backGiven b′ m′ r′ j′) n″ b″ m″ r″ j″ → (n″ ≡ 0) × (b″ ≡ b) × (m″ ≡ m) × (r″ ≡ r) × (take (sessionIn b .used) j″ ≡ take (sessionIn b .used) j)
-  undone-bytes {n″} {b″} {m″} {r″} {j″} z = brought b m r j k (subst (λ (x : Answered). Gives b′ x n″ b″ m″ r″ j″) back-gives z)
+  pub undone-bytes : {h′ h″ : Host} {i j : ℕ} → length (h′ .journal) ≡ n → Gives h (given c h) i h′ → Gives h′ (backGiven h′) j h″ → (j ≡ 0) × Unchanged h h″
+  undone-bytes long g u =
+      let there = runs-as c h k g in
+      let z = world-undone (there .0) long (there .1) u in
+      (z .0, world-bytes k (z .1) (z .2))

@@ -1,47 +1,37 @@
 -- A host of the exported calls: it holds the state's block and three buffers, and hands them to one call after another.
-use mathlib.Core.Bool.{true}
 use mathlib.Core.List.{List, [], _∷_}
 use mathlib.Core.Path.{_≡_}
 use Prim.Native.Nat.{ℕ}
 use lib.ListN.{length}
 use Rattle.lists.specs.Words.{Bytes}
-use Rattle.journal.specs.Worlds.{Answered, World}
-use Rattle.sessions.specs.Session.{stepped}
-use Rattle.sessions.specs.Calling.{Call, kindOf, onCall}
-use Rattle.ts11.specs.Block.{isBlock}
-use Rattle.ts11.specs.Given.{Gives, backGiven, handed, opened}
+use Rattle.unit.specs.Cores.{Core}
+use Rattle.entries.specs.Entries.{usedIn}
+use Rattle.worlds.specs.Worlds.{Answered}
+use Rattle.worlds.specs.Passes.{Fit}
+use Rattle.sessions.specs.Session.{Moment, stepped}
+use Rattle.sessions.specs.Calling.{Call, Noted, journalOf, kindOf, lengthOf, onCall, worldFrom}
+use Rattle.sessions.specs.Good.{Formed, Fresh}
+use Rattle.ts11.specs.Block.{Block, sessionIn}
+use Rattle.ts11.specs.Given.{Gives, Host, backGiven, opened, worldIn}
 
--- the exported calls that take buffers, by the names of the session's calls: what call c gives for the block b and the buffers
-unfoldable pub given : Call → (b m r j : List ℕ) → Answered
-given c b m r j = opened b (handed b m r j) (onCall (length j) c (handed b m r j))
+-- the exported calls that take buffers, by the names of the session's calls
+unfoldable pub given : Call → Host → Answered
+given c h = opened h (onCall (length (h .journal)) c (worldIn h))
 
--- bytes that are some session's block
-pub record Block (b : List ℕ) : Type 0 where
-  pub long : length b ≡ 128
-  pub bytes : Bytes b
-  pub right : isBlock b ≡ true
+-- h and h′ hold the same bytes, and of their journals the same first `used`
+pub record Alike (used : ℕ) (h h′ : Host) : Type 0 where
+  pub block : h′ .block ≡ h .block
+  pub memory : h′ .memory ≡ h .memory
+  pub reel : h′ .reel ≡ h .reel
+  pub journal : usedIn used (h′ .journal) ≡ usedIn used (h .journal)
 
--- all that a host holds
-pub record Host : Type 0 where
-  pub block : List ℕ
-  pub memory : List ℕ
-  pub reel : List ℕ
-  pub journal : List ℕ
-
--- the world of the session that it holds
-abbrev pub worldIn : Host → World
-worldIn h = handed (h .block) (h .memory) (h .reel) (h .journal)
-
--- what a call and a step back give for it
-abbrev pub givenOn : Call → Host → Answered
-givenOn c h = given c (h .block) (h .memory) (h .reel) (h .journal)
-
-abbrev pub backGivenOn : Host → Answered
-backGivenOn h = backGiven (h .block) (h .memory) (h .reel) (h .journal)
+-- h′ holds all that h holds. "Journal bytes outside the used part are not promised." (01)
+abbrev pub Unchanged : Host → Host → Type 0
+Unchanged h h′ = Alike (sessionIn (h .block) .used) h h′
 
 -- h′ is what the host holds when a call that gives x on h has returned k: a journal of the same length, and bytes
-pub record Holds (h : Host) (x : Answered) (k : ℕ) (h′ : Host) : Type 0 where
-  pub gives : Gives (h .block) x k (h′ .block) (h′ .memory) (h′ .reel) (h′ .journal)
+pub record Returned (h : Host) (x : Answered) (k : ℕ) (h′ : Host) : Type 0 where
+  pub gives : Gives h x k h′
   pub long : length (h′ .journal) ≡ length (h .journal)
   pub bytes : Bytes (h′ .journal)
 
@@ -53,14 +43,42 @@ pub data Line : Type 0 where
 -- the calls of the log, newest first, led from h₀ to h
 pub data Hosted (h₀ : Host) : List Line → Host → Type 0 where
   begun : Hosted h₀ [] h₀
-  and-made : {l : List Line} {h h′ : Host} {k : ℕ} (c : Call) → Hosted h₀ l h → Holds h (givenOn c h) k h′ → Hosted h₀ (made c k ∷ l) h′
-  and-back : {l : List Line} {h h′ : Host} {k : ℕ} → Hosted h₀ l h → Holds h (backGivenOn h) k h′ → Hosted h₀ (back k ∷ l) h′
+  and-made : {l : List Line} {h h′ : Host} {k : ℕ} (c : Call) → Hosted h₀ l h → Returned h (given c h) k h′ → Hosted h₀ (made c k ∷ l) h′
+  and-back : {l : List Line} {h h′ : Host} {k : ℕ} → Hosted h₀ l h → Returned h (backGiven h) k h′ → Hosted h₀ (back k ∷ l) h′
 
 -- calls led from h to h′, and every step among them was undone
 pub data Round : Host → Host → Type 0 where
   still : {h : Host} → Round h h
   and-none : {h h₁ h₂ : Host} {k : ℕ} (c : Call)
-      → Round h h₁ → Holds h₁ (givenOn c h₁) k h₂ → (kindOf c (givenOn c h₁ .answer) ≡ stepped → ⊥) → Round h h₂
+      → Round h h₁ → Returned h₁ (given c h₁) k h₂ → (kindOf c (given c h₁ .answer) ≡ stepped → ⊥) → Round h h₂
   and-undone : {h h₁ h₂ h₃ h₄ : Host} {k l : ℕ} (c : Call)
-      → Round h h₁ → Holds h₁ (givenOn c h₁) k h₂ → kindOf c (givenOn c h₁ .answer) ≡ stepped
-      → Round h₂ h₃ → Holds h₃ (backGivenOn h₃) l h₄ → Round h h₄
+      → Round h h₁ → Returned h₁ (given c h₁) k h₂ → kindOf c (given c h₁ .answer) ≡ stepped
+      → Round h₂ h₃ → Returned h₃ (backGiven h₃) l h₄ → Round h h₄
+
+-- the host h is at the moment s of a session with a journal of n bytes: it holds that moment's world, as some session's block
+pub record AtMoment (n : ℕ) (s : Moment Core Noted) (h : Host) : Type 0 where
+  pub world : worldFrom n s ≡ worldIn h
+  pub block : Block (h .block)
+  pub bytes : Bytes (h .journal)
+  pub long : length (h .journal) ≡ n
+
+-- the moment that h holds, with no entry
+abbrev pub first : Host → Moment Core Noted
+first h = record { core = worldIn h .core; entries = [] }
+
+-- what a host holds when a session begins
+pub record Begins (h : Host) : Type 0 where
+  pub fresh : Fresh (length (h .journal)) (first h)
+  pub here : AtMoment (length (h .journal)) (first h) h
+
+-- no check refuses; "the reel is well formed, the position is 0 or just after an object"
+pub record GoodHost (h : Host) : Type 0 where
+  pub fit : Fit (length (h .journal)) (worldIn h)
+  pub formed : Formed (h .reel) (sessionIn (h .block) .unit .tape)
+
+-- "the journal holds one entry per step taken and still standing": the used journal is k entries and nothing else
+pub record Entries (h : Host) (k : ℕ) : Type 0 where
+  pub noted : List Noted
+  pub count : length noted ≡ k
+  pub used : sessionIn (h .block) .used ≡ lengthOf noted
+  pub bytes : usedIn (sessionIn (h .block) .used) (h .journal) ≡ journalOf noted

@@ -3,9 +3,8 @@
 //
 //   a session's block is read as that session                     block-back, block-is      crates/ts11/proofs/Blocks.antt
 //   a block's bytes are those of the session it is read as        block-own, same-block
-//   each exported call is the session's call of its name          given-tsdb, given-tssr, given-operate, given-host, given-advance
+//   each exported call is the session's call of its name          given-step, given-register
 //                                                                                           proofs/Names.antt
-//                                                                 given-register            proofs/Readings.antt
 //   one exported call is one call of the session, from any block  runs-as                   proofs/Runs.antt
 //   and so is a step back                                         back-as                   proofs/Backs.antt
 //   the step back after a step gives back the bytes before it     undone-bytes              proofs/Undone.antt
@@ -17,5 +16,6 @@
 //   a host's calls are a session of the model                     host-ran                  proofs/Hosts.antt
 //   what holds of every session holds of those bytes              host-good, host-journal, host-room, same-bytes
 //                                                                                           proofs/Always.antt
+//   a step back leads where the session's leads                   host-back, host-none
 //
-// specs/Hosting.antt says what a host holds and what its calls are.
+// specs/Hosting.antt says what a host holds and what its calls are; proofs/Following.antt what it is for a host's log to follow a session's.

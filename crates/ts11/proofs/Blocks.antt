@@ -2,36 +2,47 @@
 -- is read as.
 use mathlib.Core.Path.{_≡_, refl, sym, ap, ap₂, _∙_}
 use mathlib.Core.Bool.{Bool, true, false, _&&_, not, true≢false}
-use mathlib.Core.List.{List, [], _∷_, _++_, append-nil}
+use mathlib.Core.List.{List, [], _∷_, _++_}
 use Prim.Native.Nat.{ℕ, zero, suc, _+_, _*_, _/_, _%_, _<_, _≤_}
+use native.Mathlib.Nat.{add-zero}
 use native.Mathlib.Omega.{arith}
 use borrow.Author.Tests.{eqb-true, ltb-true}
 use lib.Dec.{eqb, ltb}
-use lib.ListN.{drop, getD, length, length-drop}
-use lib.Seq.{drop-cons, getD-drop}
+use lib.ListN.{drop, drop-of-length-le, getD, length, length-drop}
+use lib.Seq.{drop-at, drop-cons, drop-drop, getD-drop}
 use Rattle.lists.specs.Words.{Bytes, wordAt}
+use Rattle.lists.proofs.Bytes.{bytes-append}
 use Rattle.lists.proofs.Sums.{word-whole}
-use Rattle.entries.specs.Numbers.{Small, bit, entryOf, isSet, nth, numberLimit, numbersOf, unitOf}
-use Rattle.entries.specs.Bytes.{headBytes, headNumbers, numberAt, numberBytes}
-use Rattle.entries.proofs.Back.{length-numbers, numbers-small}
-use Rattle.entries.proofs.HeadBytes.{bytes-head, head-back, head-entry}
+use Rattle.entries.specs.Numbers.{Small, bit, entryOf, isSet, nth, numberLimit, numbersOf, touchedOf, unitOf}
+use Rattle.entries.specs.Bytes.{headBytes, headCount, headLength, headNumbers, numberAt, numberBytes}
+use Rattle.entries.proofs.Back.{entry-back, length-numbers, numbers-small}
+use Rattle.entries.proofs.HeadBytes.{bytes-head, head-back}
+use Rattle.entries.proofs.Joined.{head-long}
 use Rattle.entries.proofs.Turns.{length-read}
-use Rattle.journal.specs.declared.Session.{Session}
-use Rattle.ts11.specs.Block.{blockOf, entryWith, flagsRight, isBlock, restZero, sessionIn, sessionWith}
+use Rattle.worlds.specs.declared.Session.{Session}
+use Rattle.ts11.specs.Block.{Block, blockOf, entryWith, flagsRight, isBlock, restZero, sessionIn, sessionWith}
+use Rattle.ts11.proofs.Written.{length-block}
 
-pub bytes-block : (s : Session) → Bytes (blockOf s)
+bytes-zero : Bytes (numberBytes 0)
+bytes-zero zero = omega arith
+bytes-zero (suc zero) = omega arith
+bytes-zero (suc (suc zero)) = omega arith
+bytes-zero (suc (suc (suc zero))) = omega arith
+bytes-zero (suc (suc (suc (suc i)))) = omega arith
+
+bytes-block : (s : Session) → Bytes (blockOf s)
 unfolding blockOf
-bytes-block s = bytes-head (numbersOf (entryWith s)) (numbers-small (entryWith s))
+bytes-block s = bytes-append (headBytes (numbersOf (entryWith s))) (numberBytes 0) (bytes-head (numbersOf (entryWith s)) (numbers-small (entryWith s))) bytes-zero
+
+-- the numbers in a session's block
+numbers-in : (s : Session) → headNumbers headCount (blockOf s) ≡ numbersOf (entryWith s)
+unfolding blockOf
+numbers-in s = rw (← length-numbers (entryWith s)) (head-back (numbersOf (entryWith s)) (numberBytes 0))
 
 -- what a session's block is read as
 pub block-back : (s : Session) → Small (entryWith s) → sessionIn (blockOf s) ≡ s
-unfolding sessionIn blockOf sessionWith entryWith
-block-back s h = ap sessionWith (head-entry (entryWith s) h)
-
--- the numbers in a session's block
-numbers-in : (s : Session) → headNumbers 32 (blockOf s) ≡ numbersOf (entryWith s)
-unfolding blockOf
-numbers-in s = rw (← length-numbers (entryWith s), ← append-nil (headBytes (numbersOf (entryWith s))), head-back (numbersOf (entryWith s)) [])
+unfolding sessionIn sessionWith entryWith
+block-back s h = rw (numbers-in s, entry-back (entryWith s) h)
 
 a-flag : (b : Bool) → ltb (bit b) 2 ≡ true
 a-flag true = refl
@@ -45,9 +56,24 @@ rest-of : (s : Session) → restZero (numbersOf (entryWith s)) ≡ true
 unfolding restZero numbersOf entryWith
 rest-of s = refl
 
-pub block-is : (s : Session) → isBlock (blockOf s) ≡ true
+-- the number at p is the first of what stands from p on
+number-first : (b : List ℕ) (p : ℕ) → numberAt (drop p b) 0 ≡ numberAt b p
+number-first b p =
+    let e : p + 2 + 1 ≡ p + 3 = omega arith in
+    rw (getD-drop p b 0 0, getD-drop p b 1 0, getD-drop p b 2 0, getD-drop p b 3 0, add-zero p, e)
+
+last-of : (s : Session) → numberAt (blockOf s) headLength ≡ 0
+unfolding blockOf
+last-of s =
+    sym (number-first (headBytes (numbersOf (entryWith s)) ++ numberBytes 0) headLength)
+    ∙ ap (λ (x : List ℕ). numberAt x 0) (drop-at (headBytes (numbersOf (entryWith s))) (numberBytes 0) headLength (head-long (entryWith s)))
+
+block-right : (s : Session) → isBlock (blockOf s) ≡ true
 unfolding isBlock
-block-is s = rw (numbers-in s, flags-of s, rest-of s)
+block-right s = rw (numbers-in s, flags-of s, rest-of s, last-of s)
+
+pub block-is : (s : Session) → Block (blockOf s)
+block-is s = record { long = length-block s; bytes = bytes-block s; right = block-right s }
 
 -- numbers read from bytes have at most four bytes
 number-small : (b : List ℕ) → Bytes b → numberAt b 0 < numberLimit
@@ -62,10 +88,10 @@ read-small zero b h i = omega arith
 read-small (suc k) b h zero = number-small b h
 read-small (suc k) b h (suc i) = read-small k (drop 4 b) (bytes-drop 4 b h) i
 
-pub small-entry : (b : List ℕ) → Bytes b → Small (entryOf (headNumbers 32 b))
-unfolding entryOf unitOf
+pub small-entry : (b : List ℕ) → Bytes b → Small (entryOf (headNumbers headCount b))
+unfolding entryOf unitOf touchedOf
 small-entry b h =
-    let s = read-small 32 b h in
+    let s = read-small headCount b h in
     record {
       position = s 0;
       end = s 1;
@@ -111,6 +137,10 @@ four-first b h =
     sym (drop-cons b 0 0 (omega arith) ∙ ap (λ (x : List ℕ). getD b 0 0 ∷ x) (drop-cons b 1 0 (omega arith)
     ∙ ap (λ (x : List ℕ). getD b 1 0 ∷ x) (drop-cons b 2 0 (omega arith) ∙ ap (λ (x : List ℕ). getD b 2 0 ∷ x) (drop-cons b 3 0 (omega arith)))))
 
+four-last : (b : List ℕ) → length b ≡ 4 → getD b 0 0 ∷ getD b 1 0 ∷ getD b 2 0 ∷ getD b 3 0 ∷ [] ≡ b
+four-last b h =
+    ap (λ (x : List ℕ). getD b 0 0 ∷ getD b 1 0 ∷ getD b 2 0 ∷ getD b 3 0 ∷ x) (sym (drop-of-length-le b {i = 4} (omega arith))) ∙ four-first b (omega arith)
+
 number-parts : (x y : ℕ) → x < 65536 → y < 65536 → ((x + 65536 * y) % 65536 ≡ x) × ((x + 65536 * y) / 65536 ≡ y)
 number-parts x y h k = (omega arith, omega arith)
 
@@ -119,16 +149,14 @@ number-bytes b h =
     let n = number-parts (wordAt b 0) (wordAt b 2) (omega (arith, h 0, h 1)) (omega (arith, h 2, h 3)) in
     rw (n .0, n .1) (ap₂ (λ (x y : List ℕ). x ++ y) (word-whole (getD b 0 0) (getD b 1 0) (h 0) (h 1)) (word-whole (getD b 2 0) (getD b 3 0) (h 2) (h 3)))
 
-no-bytes : (b : List ℕ) → length b ≡ 0 → [] ≡ b
-no-bytes [] h = refl
-no-bytes (x ∷ b) h = absurd (omega arith)
-
-pub bytes-back : (k : ℕ) (b : List ℕ) → Bytes b → length b ≡ 4 * k → headBytes (headNumbers k b) ≡ b
+bytes-back : (k : ℕ) (b : List ℕ) → Bytes b → 4 * k ≤ length b → headBytes (headNumbers k b) ++ drop (4 * k) b ≡ b
 unfolding headBytes headNumbers
-bytes-back zero b h l = no-bytes b (omega arith)
+bytes-back zero b h l = refl
 bytes-back (suc k) b h l =
-    let rest : headBytes (headNumbers k (drop 4 b)) ≡ drop 4 b = bytes-back k (drop 4 b) (bytes-drop 4 b h) (omega (arith, length-drop 4 b)) in
-    ap (λ (x : List ℕ). x ++ headBytes (headNumbers k (drop 4 b))) (number-bytes b h)
+    let rest : headBytes (headNumbers k (drop 4 b)) ++ drop (4 * k) (drop 4 b) ≡ drop 4 b = bytes-back k (drop 4 b) (bytes-drop 4 b h) (omega (arith, length-drop 4 b)) in
+    let e : 4 * suc k ≡ 4 + 4 * k = omega arith in
+    let past : drop (4 * suc k) b ≡ drop (4 * k) (drop 4 b) = ap (λ (i : ℕ). drop i b) e ∙ sym (drop-drop (4 * k) 4 b) in
+    ap₂ (λ (x y : List ℕ). x ++ headBytes (headNumbers k (drop 4 b)) ++ y) (number-bytes b h) past
     ∙ ap (λ (x : List ℕ). getD b 0 0 ∷ getD b 1 0 ∷ getD b 2 0 ∷ getD b 3 0 ∷ x) rest
     ∙ four-first b (omega arith)
 
@@ -192,18 +220,17 @@ record Rest (n : List ℕ) : Type 0 where
   swb : Unused n 23
   message : Unused n 24 × Unused n 25
   reel : Unused n 26 × Unused n 27
-  free : Unused n 28 × Unused n 29 × Unused n 30 × Unused n 31
+  free : Unused n 28 × Unused n 29 × Unused n 30
 
 rest-told : (n : List ℕ) → restZero n ≡ true → Rest n
 unfolding restZero
 rest-told n h =
     let f : ℕ → Bool = λ i. eqb (nth n i) 0 in
-    let free : Bool = f 28 && (f 29 && (f 30 && f 31)) in
+    let free : Bool = f 28 && (f 29 && f 30) in
     let p = three (f 23) (f 24) (f 25 && (f 26 && (f 27 && free))) h in
     let q = three (f 25) (f 26) (f 27 && free) (p .2) in
-    let r = three (f 27) (f 28) (f 29 && (f 30 && f 31)) (q .2) in
-    let s = three (f 29) (f 30) (f 31) (r .2) in
-    record { swb = p .0; message = (p .1, q .0); reel = (q .1, r .0); free = (r .1, s .0, s .1, s .2) }
+    let r = both (f 27) free (q .2) in
+    record { swb = p .0; message = (p .1, q .0); reel = (q .1, r .0); free = three (f 28) (f 29) (f 30) (r .1) }
 
 -- a flag is 0 or 1, and a number with no use is 0
 flag-back : (n : ℕ) → ltb n 2 ≡ true → bit (not (eqb n 0)) ≡ n
@@ -224,8 +251,8 @@ module _ (n : List ℕ) (small : (i : ℕ) → getD n i 0 < numberLimit) (f : Fl
   unused : (k : ℕ) → Unused n k → 0 ≡ nth n k
   unused k t = sym (eqb-true (nth n k) 0 t)
 
-  each-own : numbersOf (entryWith (sessionWith (entryOf n))) ≡ elements (nth n) 0 32
-  unfolding numbersOf entryWith sessionWith entryOf unitOf
+  each-own : numbersOf (entryWith (sessionWith (entryOf n))) ≡ elements (nth n) 0 headCount
+  unfolding numbersOf entryWith sessionWith entryOf unitOf touchedOf
   each-own =
       let a = f .registers in
       let b = f .panel in
@@ -235,19 +262,23 @@ module _ (n : List ℕ) (small : (i : ℕ) → getD n i 0 < numberLimit) (f : Fl
       ∷ flag 8 (b .0) i ∷ flag 9 (b .1) i ∷ flag 10 (b .2) i ∷ flag 11 (c .0) i ∷ flag 12 (c .1) i ∷ flag 13 (c .2) i
       ∷ number 14 i ∷ number 15 i ∷ flag 16 (d .0) i ∷ flag 17 (d .1) i ∷ flag 18 (d .2) i ∷ number 19 i ∷ number 20 i ∷ number 21 i ∷ number 22 i
       ∷ unused 23 (r .swb) i ∷ unused 24 (r .message .0) i ∷ unused 25 (r .message .1) i ∷ unused 26 (r .reel .0) i ∷ unused 27 (r .reel .1) i
-      ∷ unused 28 (r .free .0) i ∷ unused 29 (r .free .1) i ∷ unused 30 (r .free .2) i ∷ unused 31 (r .free .3) i ∷ []
+      ∷ unused 28 (r .free .0) i ∷ unused 29 (r .free .1) i ∷ unused 30 (r .free .2) i ∷ []
 
-  numbers-own : length n ≡ 32 → numbersOf (entryWith (sessionWith (entryOf n))) ≡ n
+  numbers-own : length n ≡ headCount → numbersOf (entryWith (sessionWith (entryOf n))) ≡ n
   numbers-own long = each-own ∙ ap (elements (nth n) 0) (sym long) ∙ all-elements n
 
 -- a block's bytes are those of the session that it is read as
-pub block-own : (b : List ℕ) → length b ≡ 128 → Bytes b → isBlock b ≡ true → blockOf (sessionIn b) ≡ b
+pub block-own : (b : List ℕ) → Block b → blockOf (sessionIn b) ≡ b
 unfolding blockOf sessionIn isBlock
-block-own b long bytes right =
-    let n : List ℕ = headNumbers 32 b in
-    let t = both (flagsRight n) (restZero n) right in
-    ap headBytes (numbers-own n (read-small 32 b bytes) (flags-told n (t .0)) (rest-told n (t .1)) (length-read 32 b)) ∙ bytes-back 32 b bytes long
+block-own b k =
+    let n : List ℕ = headNumbers headCount b in
+    let last : List ℕ = drop headLength b in
+    let t = three (flagsRight n) (restZero n) (eqb (numberAt b headLength) 0) (k .right) in
+    let zero-last : 0 ≡ numberAt last 0 = sym (number-first b headLength ∙ eqb-true (numberAt b headLength) 0 (t .2)) in
+    let tail : numberBytes 0 ≡ last = ap (λ (x : ℕ). numberBytes x) zero-last ∙ number-bytes last (bytes-drop headLength b (k .bytes)) ∙ four-last last (length-drop headLength b ∙ omega (arith, k .long)) in
+    ap₂ (λ (x y : List ℕ). headBytes x ++ y) (numbers-own n (read-small headCount b (k .bytes)) (flags-told n (t .0)) (rest-told n (t .1)) (length-read headCount b)) tail
+    ∙ bytes-back headCount b (k .bytes) (omega (arith, k .long))
 
 -- so two blocks that are read as one session are one
-pub same-block : (b c : List ℕ) → length b ≡ 128 → Bytes b → isBlock b ≡ true → length c ≡ 128 → Bytes c → isBlock c ≡ true → sessionIn b ≡ sessionIn c → b ≡ c
-same-block b c l x t m y u e = sym (block-own b l x t) ∙ ap blockOf e ∙ block-own c m y u
+pub same-block : (b c : List ℕ) → Block b → Block c → sessionIn b ≡ sessionIn c → b ≡ c
+same-block b c h k e = sym (block-own b h) ∙ ap blockOf e ∙ block-own c k

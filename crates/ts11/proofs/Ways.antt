@@ -3,19 +3,19 @@ use mathlib.Core.Path.{_≡_, refl, sym, ap, subst, _∙_}
 use mathlib.Core.Bool.{Bool, true, false, not}
 use mathlib.Core.List.{List}
 use Prim.Native.Nat.{ℕ}
-use lib.ListN.{length, take}
-use Rattle.state.specs.declared.act.Act.{Act}
+use lib.ListN.{length}
 use Rattle.commands.specs.Answers.{numberOf}
 use Rattle.commands.specs.declared.plans.Answer.{Answer}
-use Rattle.commands.specs.declared.plans.Answer.the-variants as answer
-use Rattle.unit.specs.declared.calls.Register.{Register}
-use Rattle.journal.specs.Worlds.{Answered, Leaves, World, worldOf}
-use Rattle.journal.specs.Calls.{operateOn, registerOn}
-use Rattle.journal.specs.declared.Session.{Session}
-use Rattle.journal.specs.declared.calls.Outcome.{Outcome}
-use Rattle.journal.specs.declared.calls.Reading.{Reading}
+use Rattle.unit.specs.Asks.{Ask}
+use Rattle.unit.specs.declared.registers.Register.{Register}
+use Rattle.entries.specs.Entries.{usedIn}
+use Rattle.worlds.specs.Worlds.{Answered, Leaves, World, sessionOf, worldOf}
+use Rattle.worlds.specs.Calls.{backOn, registerOn, stepOn}
+use Rattle.worlds.specs.declared.Session.{Session}
+use Rattle.worlds.specs.declared.Outcome.{Outcome}
+use Rattle.worlds.specs.declared.RegisterRead.{RegisterRead}
 use Rattle.ts11.specs.Block.{isBlock, sessionIn}
-use Rattle.ts11.specs.Given.{Gives, Mounts, Reads, Tells, blockAfter, faultIn, handed, interruptIn, isStep, opened, registerGiven, registerOf}
+use Rattle.ts11.specs.Given.{Gives, Host, Mounts, Reads, Tells, backGiven, blockAfter, faultIn, holding, interruptIn, isStep, opened, registerGiven, registerOf, stepGiven, worldIn}
 
 -- the test `!right`, as it comes out
 no-block : (right : Bool) → not right ≡ true → right ≡ false
@@ -26,57 +26,83 @@ a-block : (right : Bool) → not right ≡ false → right ≡ true
 a-block true t = refl
 a-block false t = sym t
 
-module _ (b m r j : List ℕ) (right : Bool) (told : right ≡ isBlock b) where
+module _ (h : Host) (right : Bool) (told : right ≡ isBlock (h .block)) where
   -- no session's block
-  pub stops : (x : Answered) → not right ≡ true → Gives b (opened b (handed b m r j) x) 1 b m r j
-  unfolding opened numberOf blockAfter
-  stops x t = rw (← told, no-block right t) (record { answer = refl; state = refl; memory = refl; reel = refl; journal = refl })
+  module _ (t : not right ≡ true) where
+    stops : (x : Answered) → Gives h (opened h x) 1 h
+    unfolding opened numberOf blockAfter
+    stops x = rw (← told, no-block right t) (record { answer = refl; state = refl; memory = refl; reel = refl; journal = refl })
 
-  pub stops-told : (x : Answered) → not right ≡ true → Tells (opened b (handed b m r j) x) false false 0
-  unfolding opened isStep interruptIn faultIn
-  stops-told x t = rw (← told, no-block right t) (record { stepped = refl; interrupt = refl; fault = refl })
+    pub step-stops : (a : Ask) → Gives h (stepGiven a h) 1 h
+    unfolding stepGiven
+    step-stops a = stops (stepOn (worldIn h) (length (h .journal)) a)
+
+    pub back-stops : Gives h (backGiven h) 1 h
+    unfolding backGiven
+    back-stops = stops (backOn (worldIn h) (length (h .journal)))
+
+    pub stops-told : (a : Ask) → Tells (stepGiven a h) false false 0
+    unfolding stepGiven opened isStep interruptIn faultIn
+    stops-told a = rw (← told, no-block right t) (record { stepped = refl; interrupt = refl; fault = refl })
 
   -- the call f was made with the session that the block is read as
-  module _ (f : World → ℕ → Answered) (s : Session) (o : Outcome) (m′ r′ j′ : List ℕ) (t : not right ≡ false) (read : s ≡ sessionIn b) (left : Leaves (f (worldOf s m r j) (length j)) o m′ r′ j′) where
-    there : Leaves (f (handed b m r j) (length j)) o m′ r′ j′
-    there = subst (λ (x : Session). Leaves (f (worldOf x m r j) (length j)) o m′ r′ j′) read left
+  module _ (s : Session) (o : Outcome) (m′ r′ j′ : List ℕ) (t : not right ≡ false) (read : s ≡ sessionIn (h .block)) where
+    module _ (f : World → ℕ → Answered) (left : Leaves (f (worldOf s (h .memory) (h .reel) (h .journal)) (length (h .journal))) o m′ r′ j′) where
+      abbrev answers : Answered
+      answers = f (worldIn h) (length (h .journal))
 
-    pub goes : (n : ℕ) (b′ : List ℕ) → n ≡ numberOf (o .answer) → b′ ≡ blockAfter b (o .answer) (o .session) → Gives b (opened b (handed b m r j) (f (handed b m r j) (length j))) n b′ m′ r′ j′
-    unfolding opened
-    goes n b′ p q =
-        rw (← told, a-block right t)
-        (record {
-          answer = p ∙ ap numberOf (there .answer);
-          state = q ∙ ap (λ (a : Answer). blockAfter b a (o .session)) (there .answer) ∙ ap (blockAfter b (f (handed b m r j) (length j) .answer)) (there .session);
-          memory = there .memory;
-          reel = there .reel;
-          journal = ap (λ (x : Session). take (x .used) j′) (sym (there .session)) ∙ there .journal;
-        })
+      there : Leaves answers o m′ r′ j′
+      there = subst (λ (x : Session). Leaves (f (worldOf x (h .memory) (h .reel) (h .journal)) (length (h .journal))) o m′ r′ j′) read left
 
-    pub goes-told : (p i : Bool) (k : ℕ) → p ≡ isStep (o .answer) → i ≡ interruptIn (o .answer) → k ≡ faultIn (o .answer) → Tells (opened b (handed b m r j) (f (handed b m r j) (length j))) p i k
-    unfolding opened
-    goes-told p i k x y z =
-        rw (← told, a-block right t)
-        (record {
-          stepped = x ∙ ap isStep (there .answer);
-          interrupt = y ∙ ap interruptIn (there .answer);
-          fault = z ∙ ap faultIn (there .answer);
-        })
+      goes : {n : ℕ} {b′ : List ℕ} → n ≡ numberOf (o .answer) → b′ ≡ blockAfter (h .block) (o .answer) (o .session) → Gives h (opened h answers) n (holding b′ m′ r′ j′)
+      unfolding opened
+      goes p q =
+          rw (← told, a-block right t)
+          (record {
+            answer = p ∙ ap numberOf (there .answer);
+            state = q ∙ ap (λ (a : Answer). blockAfter (h .block) a (o .session)) (there .answer) ∙ ap (λ (w : World). blockAfter (h .block) (answers .answer) (sessionOf w)) (there .world);
+            memory = ap (λ (w : World). w .core .memory) (there .world);
+            reel = ap (λ (w : World). w .core .reel) (there .world);
+            journal = ap (λ (w : World). usedIn (w .ledger .used) j′) (sym (there .world)) ∙ ap (λ (w : World). w .ledger .bytes) (there .world);
+          })
 
--- the act, by the name that the definition gives it
-pub acted : (s : Session) (m r j m′ r′ j′ : List ℕ) (n : ℕ) (o : Outcome) (a c : Act) → a ≡ c → Leaves (operateOn (worldOf s m r j) n a) o m′ r′ j′ → Leaves (operateOn (worldOf s m r j) n c) o m′ r′ j′
-acted s m r j m′ r′ j′ n o a c e h = subst (λ (x : Act). Leaves (operateOn (worldOf s m r j) n x) o m′ r′ j′) e h
+      goes-told : {p i : Bool} {k : ℕ} → p ≡ isStep (o .answer) → i ≡ interruptIn (o .answer) → k ≡ faultIn (o .answer) → Tells (opened h answers) p i k
+      unfolding opened
+      goes-told x y z =
+          rw (← told, a-block right t)
+          (record {
+            stepped = x ∙ ap isStep (there .answer);
+            interrupt = y ∙ ap interruptIn (there .answer);
+            fault = z ∙ ap faultIn (there .answer);
+          })
+
+    module _ (a : Ask) (left : Leaves (stepOn (worldOf s (h .memory) (h .reel) (h .journal)) (length (h .journal)) a) o m′ r′ j′) where
+      pub step-goes : {n : ℕ} {b′ : List ℕ} → n ≡ numberOf (o .answer) → b′ ≡ blockAfter (h .block) (o .answer) (o .session) → Gives h (stepGiven a h) n (holding b′ m′ r′ j′)
+      unfolding stepGiven
+      step-goes p q = goes (λ w n. stepOn w n a) left p q
+
+      pub step-told : {p i : Bool} {k : ℕ} → p ≡ isStep (o .answer) → i ≡ interruptIn (o .answer) → k ≡ faultIn (o .answer) → Tells (stepGiven a h) p i k
+      unfolding stepGiven
+      step-told x y z = goes-told (λ w n. stepOn w n a) left x y z
+
+    pub back-goes : Leaves (backOn (worldOf s (h .memory) (h .reel) (h .journal)) (length (h .journal))) o m′ r′ j′ → {n : ℕ} {b′ : List ℕ} → n ≡ numberOf (o .answer) → b′ ≡ blockAfter (h .block) (o .answer) (o .session) → Gives h (backGiven h) n (holding b′ m′ r′ j′)
+    unfolding backGiven
+    back-goes left p q = goes backOn left p q
+
+-- what was asked, by the name that the definition gives it
+pub asked : (w : World) (n : ℕ) (o : Outcome) (m r j : List ℕ) (a c : Ask) → a ≡ c → Leaves (stepOn w n a) o m r j → Leaves (stepOn w n c) o m r j
+asked w n o m r j a c e h = subst (λ (x : Ask). Leaves (stepOn w n x) o m r j) e h
 
 -- a register, read from no session's block and from one
 pub unread : (b : List ℕ) (right tssr : Bool) → right ≡ isBlock b → not right ≡ true → Reads (registerGiven b tssr) 1 0
 unfolding registerGiven numberOf
 unread b right tssr told t = rw (← told, no-block right t) (record { answer = refl; word = refl })
 
-pub was-read : (b : List ℕ) (right tssr : Bool) (s : Session) (x : Reading) (g : Register) (n : ℕ) → right ≡ isBlock b → not right ≡ false → s ≡ sessionIn b → g ≡ registerOf tssr → x ≡ registerOn s g → n ≡ numberOf (x .answer) → Reads (registerGiven b tssr) n (x .word)
+pub was-read : (b : List ℕ) (right tssr : Bool) (s : Session) (x : RegisterRead) (g : Register) (n : ℕ) → right ≡ isBlock b → not right ≡ false → s ≡ sessionIn b → g ≡ registerOf tssr → x ≡ registerOn s g → n ≡ numberOf (x .answer) → Reads (registerGiven b tssr) n (x .word)
 unfolding registerGiven
 was-read b right tssr s x g n told t read which is p =
     let there : x ≡ registerOn (sessionIn b) (registerOf tssr) = is ∙ ap (λ (z : Session). registerOn z g) read ∙ ap (registerOn (sessionIn b)) which in
-    rw (← told, a-block right t) (record { answer = p ∙ ap (λ (z : Reading). numberOf (z .answer)) there; word = ap (λ (z : Reading). z .word) there })
+    rw (← told, a-block right t) (record { answer = p ∙ ap (λ (z : RegisterRead). numberOf (z .answer)) there; word = ap (λ (z : RegisterRead). z .word) there })
 
 -- a mount made with the session that the block is read as
 pub mounts : (f : Session → Outcome) (b b′ : List ℕ) (s : Session) (o : Outcome) (n k : ℕ) → s ≡ sessionIn b → o ≡ f s → n ≡ numberOf (o .answer) → b′ ≡ blockAfter b (o .answer) (o .session) → k ≡ faultIn (o .answer) → Mounts b (f (sessionIn b)) n b′ k

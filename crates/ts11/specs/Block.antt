@@ -1,9 +1,12 @@
 -- The state's block: 32 numbers of four bytes, low byte first: the 31 of a journal entry's head, and a 0. The used journal and the mount's
 -- journal length stand where an entry has its data's place and length, and the numbers after them are 0.
-use mathlib.Core.Bool.{Bool, false, _&&_}
+use mathlib.Core.Bool.{Bool, true, false, _&&_}
 use mathlib.Core.List.{List, _++_}
+use mathlib.Core.Path.{_≡_}
 use Prim.Native.Nat.{ℕ}
 use lib.Dec.{eqb, ltb}
+use lib.ListN.{length}
+use Rattle.lists.specs.Words.{Bytes}
 use Rattle.entries.specs.Numbers.{entryOf, nth, numbersOf}
 use Rattle.entries.specs.Bytes.{headBytes, headCount, headLength, headNumbers, numberAt, numberBytes}
 use Rattle.entries.specs.declared.Entry.{Entry}
@@ -58,3 +61,12 @@ restZero n =
 -- the bytes are some session's block: the laws `block-own` and `block-is` say that this is so exactly when they are the block of what they are read as
 unfoldable pub isBlock : List ℕ → Bool
 isBlock b = flagsRight (headNumbers headCount b) && (restZero (headNumbers headCount b) && eqb (numberAt b headLength) 0)
+
+-- so many bytes, and some session's block
+abbrev pub stateLength : ℕ
+stateLength = 128
+
+pub record Block (b : List ℕ) : Type 0 where
+  pub long : length b ≡ stateLength
+  pub bytes : Bytes b
+  pub right : isBlock b ≡ true

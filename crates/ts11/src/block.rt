@@ -13,8 +13,6 @@ use touched::Touched;
 use worlds::Outcome;
 use worlds::Session;
 ghost use mathlib.Core.Path.{_≡_};
-ghost use mathlib.Core.Bool.{_&&_};
-ghost use lib.ListN.{length};
 ghost use Rattle.commands.specs.Answers.{numberOf};
 ghost use Rattle.ts11.specs.Block.{entryWith, flagsRight, isBlock, restZero, sessionIn, sessionWith};
 ghost use Rattle.ts11.specs.Given.{blockAfter};

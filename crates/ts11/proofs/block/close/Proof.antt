@@ -3,16 +3,12 @@ use mathlib.Core.Path.{_≡_, refl}
 use lib.ListN.{length}
 use denote.Ref.{now}
 use Rattle.commands.specs.Answers.{numberOf}
+use Rattle.ts11.specs.Block.{stateLength}
 use Rattle.ts11.specs.Given.{blockAfter}
 use Rattle.ts11.proofs.Written.{written}
 use borrow.Author.Needs.{needs}
 use Rattle.ts11.proofs.block.close.Statement.{statement}
 use Rattle.ts11.proofs.block.close.Tie as tie
-use Rattle.ts11.proofs.block.close.Reads as reads
-use Rattle.ts11.proofs.block.close.Lts as lts
-use Rattle.entries.proofs.put_head.Reads as put-head-reads
-use Rattle.entries.proofs.numbers_of.Reads as numbers-of-reads
-use Rattle.ts11.proofs.block.entry_with.Reads as entry-with-reads
 
 enum-told : tie.Need-enum-told
 enum-told c = search needs
@@ -26,6 +22,9 @@ numbers-of-requires c κs = search needs
 put-head-requires : tie.Need-put-head-requires
 put-head-requires c κs = search needs
 
+put-number-requires : tie.Need-put-number-requires
+put-number-requires c κs = search needs
+
 enum-told-2 : tie.Need-enum-told-2
 enum-told-2 c = search needs
 
@@ -37,7 +36,7 @@ enum-told-3 c = search needs
 
 returns : tie.Need-returns
 unfolding numberOf blockAfter
-returns c = let l : length (now (c .before .before .before .before .before .before .before .args .b)) ≡ 128 = search needs in rw (c .before .before .before .before .before .enum-told .given .1) (refl, written _ _ _ _ _ l (c .before .before .entry-with .ensures) (c .before .numbers-of .ensures) (c .put-head .ensures))
+returns c = let l : length (now (c .before .before .before .before .before .before .before .before .before .args .b)) ≡ stateLength = search needs in rw (c .before .before .before .before .before .before .before .enum-told .given .1) (refl, written _ _ _ _ _ _ l (c .before .before .before .before .entry-with .ensures) (c .before .before .before .numbers-of .ensures) (c .before .before .put-head .ensures) (c .put-number .ensures))
 
 returns-2 : tie.Need-returns-2
 unfolding numberOf blockAfter
@@ -59,6 +58,7 @@ close-spec =
     entry-with-requires
     numbers-of-requires
     put-head-requires
+    put-number-requires
     enum-told-2
     enum-known-answer
     enum-told-3

@@ -1,11 +1,8 @@
 -- `entry_with` meets its contract.
 use Rattle.ts11.specs.Block.{entryWith}
 use borrow.Author.Needs.{needs}
-use native.Mathlib.Omega.{arith}
 use Rattle.ts11.proofs.block.entry_with.Statement.{statement}
 use Rattle.ts11.proofs.block.entry_with.Tie as tie
-use Rattle.ts11.proofs.block.entry_with.Reads as reads
-use Rattle.ts11.proofs.block.entry_with.Lts as lts
 
 returns : tie.Need-returns
 unfolding entryWith

@@ -3,8 +3,6 @@ use Rattle.ts11.specs.Block.{flagsRight}
 use borrow.Author.Needs.{needs}
 use Rattle.ts11.proofs.block.flags_right.Statement.{statement}
 use Rattle.ts11.proofs.block.flags_right.Tie as tie
-use Rattle.ts11.proofs.block.flags_right.Reads as reads
-use Rattle.ts11.proofs.block.flags_right.Lts as lts
 
 array-read-registers : tie.Need-array-read-registers
 array-read-registers c = search needs

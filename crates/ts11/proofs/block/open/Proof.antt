@@ -3,13 +3,6 @@ use Rattle.ts11.specs.Block.{isBlock, sessionIn}
 use borrow.Author.Needs.{needs}
 use Rattle.ts11.proofs.block.open.Statement.{statement}
 use Rattle.ts11.proofs.block.open.Tie as tie
-use Rattle.ts11.proofs.block.open.Reads as reads
-use Rattle.ts11.proofs.block.open.Lts as lts
-use Rattle.entries.proofs.head_at.Reads as head-at-reads
-use Rattle.entries.proofs.entry_of.Reads as entry-of-reads
-use Rattle.ts11.proofs.block.flags_right.Reads as flags-right-reads
-use Rattle.ts11.proofs.block.rest_zero.Reads as rest-zero-reads
-use Rattle.ts11.proofs.block.session_with.Reads as session-with-reads
 
 head-at-requires : tie.Need-head-at-requires
 head-at-requires c κs = search needs
@@ -26,9 +19,12 @@ flags-right-requires c κs = search needs
 rest-zero-requires : tie.Need-rest-zero-requires
 rest-zero-requires c κs = search needs
 
+number-at-requires : tie.Need-number-at-requires
+number-at-requires c κs = search needs
+
 returns : tie.Need-returns
 unfolding isBlock sessionIn
-returns c = (rw (c .rest-zero .ensures, c .before .flags-right .ensures, c .before .before .before .before .head-at .ensures), rw (c .before .before .session-with .ensures, c .before .before .before .entry-of .ensures, c .before .before .before .before .head-at .ensures))
+returns c = (rw (c .number-at .ensures, c .before .before .rest-zero .ensures, c .before .before .before .flags-right .ensures, c .before .before .before .before .before .before .head-at .ensures), rw (c .before .before .before .before .session-with .ensures, c .before .before .before .before .before .entry-of .ensures, c .before .before .before .before .before .before .head-at .ensures))
 
 pub open-spec : {M : Type 1} → statement M
 open-spec =
@@ -39,4 +35,5 @@ open-spec =
     session-with-requires
     flags-right-requires
     rest-zero-requires
+    number-at-requires
     returns)

@@ -3,8 +3,6 @@ use Rattle.ts11.specs.Block.{restZero}
 use borrow.Author.Needs.{needs}
 use Rattle.ts11.proofs.block.rest_zero.Statement.{statement}
 use Rattle.ts11.proofs.block.rest_zero.Tie as tie
-use Rattle.ts11.proofs.block.rest_zero.Reads as reads
-use Rattle.ts11.proofs.block.rest_zero.Lts as lts
 
 array-read-free : tie.Need-array-read-free
 array-read-free c = search needs
@@ -14,9 +12,6 @@ array-read-free-2 c = search needs
 
 array-read-free-3 : tie.Need-array-read-free-3
 array-read-free-3 c = search needs
-
-array-read-free-4 : tie.Need-array-read-free-4
-array-read-free-4 c = search needs
 
 array-read-result : tie.Need-array-read-result
 array-read-result c = search needs
@@ -44,7 +39,6 @@ rest-zero-spec =
     array-read-free
     array-read-free-2
     array-read-free-3
-    array-read-free-4
     array-read-result
     array-read-result-2
     array-read-result-3

@@ -1,11 +1,8 @@
 -- `session_with` meets its contract.
 use Rattle.ts11.specs.Block.{sessionWith}
 use borrow.Author.Needs.{needs}
-use native.Mathlib.Omega.{arith}
 use Rattle.ts11.proofs.block.session_with.Statement.{statement}
 use Rattle.ts11.proofs.block.session_with.Tie as tie
-use Rattle.ts11.proofs.block.session_with.Reads as reads
-use Rattle.ts11.proofs.block.session_with.Lts as lts
 
 returns : tie.Need-returns
 unfolding sessionWith

@@ -1,11 +1,8 @@
 -- `act_of` meets its contract, act by act.
 use Rattle.ts11.specs.Given.{actOf}
 use borrow.Author.Needs.{needs}
-use native.Mathlib.Omega.{arith}
 use Rattle.ts11.proofs.calls.act_of.Statement.{statement}
 use Rattle.ts11.proofs.calls.act_of.Tie as tie
-use Rattle.ts11.proofs.calls.act_of.Reads as reads
-use Rattle.ts11.proofs.calls.act_of.Lts as lts
 
 returns : tie.Need-returns
 unfolding actOf

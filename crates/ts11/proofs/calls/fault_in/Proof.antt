@@ -3,8 +3,6 @@ use Rattle.ts11.specs.Given.{faultIn}
 use borrow.Author.Needs.{needs}
 use Rattle.ts11.proofs.calls.fault_in.Statement.{statement}
 use Rattle.ts11.proofs.calls.fault_in.Tie as tie
-use Rattle.ts11.proofs.calls.fault_in.Reads as reads
-use Rattle.ts11.proofs.calls.fault_in.Lts as lts
 
 enum-known-a : tie.Need-enum-known-a
 enum-known-a c = search needs

@@ -3,8 +3,6 @@ use Rattle.ts11.specs.Given.{interruptIn}
 use borrow.Author.Needs.{needs}
 use Rattle.ts11.proofs.calls.interrupts.Statement.{statement}
 use Rattle.ts11.proofs.calls.interrupts.Tie as tie
-use Rattle.ts11.proofs.calls.interrupts.Reads as reads
-use Rattle.ts11.proofs.calls.interrupts.Lts as lts
 
 enum-known-a : tie.Need-enum-known-a
 enum-known-a c = search needs

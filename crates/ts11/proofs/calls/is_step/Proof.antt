@@ -3,8 +3,6 @@ use Rattle.ts11.specs.Given.{isStep}
 use borrow.Author.Needs.{needs}
 use Rattle.ts11.proofs.calls.is_step.Statement.{statement}
 use Rattle.ts11.proofs.calls.is_step.Tie as tie
-use Rattle.ts11.proofs.calls.is_step.Reads as reads
-use Rattle.ts11.proofs.calls.is_step.Lts as lts
 
 enum-told : tie.Need-enum-told
 enum-told c = search needs

@@ -3,8 +3,6 @@ use Rattle.commands.specs.Answers.{numberOf}
 use borrow.Author.Needs.{needs}
 use Rattle.ts11.proofs.calls.number_in.Statement.{statement}
 use Rattle.ts11.proofs.calls.number_in.Tie as tie
-use Rattle.ts11.proofs.calls.number_in.Reads as reads
-use Rattle.ts11.proofs.calls.number_in.Lts as lts
 
 enum-told : tie.Need-enum-told
 enum-told c = search needs

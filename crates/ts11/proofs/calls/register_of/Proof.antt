@@ -1,11 +1,8 @@
 -- `register_of` meets its contract.
 use Rattle.ts11.specs.Given.{registerOf}
 use borrow.Author.Needs.{needs}
-use native.Mathlib.Omega.{arith}
 use Rattle.ts11.proofs.calls.register_of.Statement.{statement}
 use Rattle.ts11.proofs.calls.register_of.Tie as tie
-use Rattle.ts11.proofs.calls.register_of.Reads as reads
-use Rattle.ts11.proofs.calls.register_of.Lts as lts
 
 returns : tie.Need-returns
 unfolding registerOf

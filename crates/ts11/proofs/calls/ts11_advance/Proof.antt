@@ -1,7 +1,5 @@
 -- `ts11_advance` meets its contract: as the other calls, and its answer is told beside its number.
-use Rattle.ts11.proofs.Ways.{goes, goes-told, stops, stops-told}
-use Rattle.ts11.specs.Given.{advanceGiven}
-use Rattle.journal.specs.Calls.{advanceOn}
+use Rattle.ts11.proofs.Ways.{step-goes, step-stops, step-told, stops-told}
 use borrow.Author.Needs.{needs}
 use Rattle.ts11.proofs.calls.ts11_advance.Statement.{statement}
 use Rattle.ts11.proofs.calls.ts11_advance.Tie as tie
@@ -10,8 +8,7 @@ open-requires : tie.Need-open-requires
 open-requires c κs = search needs
 
 returns : tie.Need-returns
-unfolding advanceGiven
-returns c = (stops _ _ _ _ _ (c .before .before .«open» .ensures .0) _ (c .if1 .taken), stops-told _ _ _ _ _ (c .before .before .«open» .ensures .0) _ (c .if1 .taken))
+returns c = (step-stops _ _ (c .before .before .«open» .ensures .0) (c .if1 .taken) _, stops-told _ _ (c .before .before .«open» .ensures .0) (c .if1 .taken) _)
 
 advance-requires : tie.Need-advance-requires
 advance-requires c κs = search needs
@@ -38,8 +35,7 @@ same-length-3 : tie.Need-same-length-3
 same-length-3 c = search needs
 
 returns-2 : tie.Need-returns-2
-unfolding advanceGiven
-returns-2 c = (goes _ _ _ _ _ (c .before .before .before .before .before .before .before .before .before .before .before .before .before .before .before .before .before .before .«open» .ensures .0) advanceOn _ _ _ _ _ (c .before .before .before .before .before .before .before .before .before .before .before .before .before .before .before .before .if1 .left) (c .before .before .before .before .before .before .before .before .before .before .before .before .before .before .before .before .before .before .«open» .ensures .1) (c .before .before .before .before .before .before .before .before .before .before .before .advance .ensures) _ _ (c .close .ensures .0) (c .close .ensures .1), goes-told _ _ _ _ _ (c .before .before .before .before .before .before .before .before .before .before .before .before .before .before .before .before .before .before .«open» .ensures .0) advanceOn _ _ _ _ _ (c .before .before .before .before .before .before .before .before .before .before .before .before .before .before .before .before .if1 .left) (c .before .before .before .before .before .before .before .before .before .before .before .before .before .before .before .before .before .before .«open» .ensures .1) (c .before .before .before .before .before .before .before .before .before .before .before .advance .ensures) _ _ _ (c .before .before .before .before .is-step .ensures) (c .before .before .before .interrupts .ensures) (c .before .before .fault-in .ensures))
+returns-2 c = (step-goes _ _ (c .before .before .before .before .before .before .before .before .before .before .before .before .before .before .before .before .before .before .«open» .ensures .0) _ _ _ _ _ (c .before .before .before .before .before .before .before .before .before .before .before .before .before .before .before .before .if1 .left) (c .before .before .before .before .before .before .before .before .before .before .before .before .before .before .before .before .before .before .«open» .ensures .1) _ (c .before .before .before .before .before .before .before .before .before .before .before .advance .ensures) (c .close .ensures .0) (c .close .ensures .1), step-told _ _ (c .before .before .before .before .before .before .before .before .before .before .before .before .before .before .before .before .before .before .«open» .ensures .0) _ _ _ _ _ (c .before .before .before .before .before .before .before .before .before .before .before .before .before .before .before .before .if1 .left) (c .before .before .before .before .before .before .before .before .before .before .before .before .before .before .before .before .before .before .«open» .ensures .1) _ (c .before .before .before .before .before .before .before .before .before .before .before .advance .ensures) (c .before .before .before .before .is-step .ensures) (c .before .before .before .interrupts .ensures) (c .before .before .fault-in .ensures))
 
 pub ts11-advance-spec : {M : Type 1} → statement M
 ts11-advance-spec =

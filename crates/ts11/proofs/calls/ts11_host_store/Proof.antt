@@ -1,10 +1,5 @@
 -- `ts11_host_store` meets its contract: refused with 1 where the bytes are no session's block, else what the journal's call leaves.
-use Rattle.ts11.proofs.Ways.{goes, stops}
-use Rattle.ts11.specs.Given.{hostGiven}
-use Prim.Native.Nat.{ℕ}
-use Rattle.journal.specs.Worlds.{World}
-use denote.Ref.{now}
-use Rattle.journal.specs.Calls.{hostOn}
+use Rattle.ts11.proofs.Ways.{step-goes, step-stops}
 use borrow.Author.Needs.{needs}
 use Rattle.ts11.proofs.calls.ts11_host_store.Statement.{statement}
 use Rattle.ts11.proofs.calls.ts11_host_store.Tie as tie
@@ -13,8 +8,7 @@ open-requires : tie.Need-open-requires
 open-requires c κs = search needs
 
 returns : tie.Need-returns
-unfolding hostGiven
-returns c = stops _ _ _ _ _ (c .before .before .«open» .ensures .0) _ (c .if1 .taken)
+returns c = step-stops _ _ (c .before .before .«open» .ensures .0) (c .if1 .taken) _
 
 host-store-requires : tie.Need-host-store-requires
 host-store-requires c κs = search needs
@@ -29,8 +23,7 @@ same-length-2 : tie.Need-same-length-2
 same-length-2 c = search needs
 
 returns-2 : tie.Need-returns-2
-unfolding hostGiven
-returns-2 c = goes _ _ _ _ _ (c .before .before .before .before .before .before .before .before .before .before .before .«open» .ensures .0) (λ (w : World) (n : ℕ). hostOn w n (c .before .before .before .before .before .before .before .before .before .before .before .before .before .before .before .before .before .args .place) (now (c .before .before .before .before .before .before .before .before .before .before .before .before .before .before .before .before .before .args .bytes))) _ _ _ _ _ (c .before .before .before .before .before .before .before .before .before .if1 .left) (c .before .before .before .before .before .before .before .before .before .before .before .«open» .ensures .1) (c .before .before .before .before .before .host-store .ensures) _ _ (c .close .ensures .0) (c .close .ensures .1)
+returns-2 c = step-goes _ _ (c .before .before .before .before .before .before .before .before .before .before .before .«open» .ensures .0) _ _ _ _ _ (c .before .before .before .before .before .before .before .before .before .if1 .left) (c .before .before .before .before .before .before .before .before .before .before .before .«open» .ensures .1) _ (c .before .before .before .before .before .host-store .ensures) (c .close .ensures .0) (c .close .ensures .1)
 
 pub ts11-host-store-spec : {M : Type 1} → statement M
 ts11-host-store-spec =

@@ -1,8 +1,8 @@
 -- `ts11_mount` meets its contract: what the journal's mount hands back is written, or nothing is.
-use Rattle.ts11.proofs.Ways.{mounts}
 use denote.Ref.{now}
-use Rattle.journal.specs.Calls.{mountOn}
-use Rattle.journal.specs.declared.Session.{Session}
+use Rattle.worlds.specs.Calls.{mountOn}
+use Rattle.worlds.specs.declared.Session.{Session}
+use Rattle.ts11.proofs.Ways.{mounts}
 use borrow.Author.Needs.{needs}
 use Rattle.ts11.proofs.calls.ts11_mount.Statement.{statement}
 use Rattle.ts11.proofs.calls.ts11_mount.Tie as tie
@@ -20,7 +20,7 @@ close-requires : tie.Need-close-requires
 close-requires c κs = search needs
 
 returns : tie.Need-returns
-returns c = mounts (λ (s : Session). mountOn s (c .before .before .before .before .before .before .before .before .args .memory-length) (now (c .before .before .before .before .before .before .before .before .args .reel)) (c .before .before .before .before .before .before .before .before .args .journal-length) (c .before .before .before .before .before .before .before .before .args .end) (c .before .before .before .before .before .before .before .before .args .online) (c .before .before .before .before .before .before .before .before .args .locked)) _ _ _ _ _ _ (c .before .before .before .before .before .«open» .ensures .1) (c .before .before .before .mount .ensures) (c .close .ensures .0) (c .close .ensures .1) (c .before .before .fault-in .ensures)
+returns c = let a = c .before .before .before .before .before .before .before .before .args in mounts (λ (s : Session). mountOn s (a .memory-length) (now (a .reel)) (a .journal-length) (a .end) (a .online) (a .locked)) _ _ _ _ _ _ (c .before .before .before .before .before .«open» .ensures .1) (c .before .before .before .mount .ensures) (c .close .ensures .0) (c .close .ensures .1) (c .before .before .fault-in .ensures)
 
 pub ts11-mount-spec : {M : Type 1} → statement M
 ts11-mount-spec =

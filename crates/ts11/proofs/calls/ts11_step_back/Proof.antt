@@ -1,7 +1,5 @@
 -- `ts11_step_back` meets its contract: refused with 1 where the bytes are no session's block, else what the journal's call leaves.
-use Rattle.ts11.proofs.Ways.{goes, stops}
-use Rattle.ts11.specs.Given.{backGiven}
-use Rattle.journal.specs.Calls.{backOn}
+use Rattle.ts11.proofs.Ways.{back-goes, back-stops}
 use borrow.Author.Needs.{needs}
 use Rattle.ts11.proofs.calls.ts11_step_back.Statement.{statement}
 use Rattle.ts11.proofs.calls.ts11_step_back.Tie as tie
@@ -10,8 +8,7 @@ open-requires : tie.Need-open-requires
 open-requires c κs = search needs
 
 returns : tie.Need-returns
-unfolding backGiven
-returns c = stops _ _ _ _ _ (c .before .before .«open» .ensures .0) _ (c .if1 .taken)
+returns c = back-stops _ _ (c .before .before .«open» .ensures .0) (c .if1 .taken)
 
 step-back-requires : tie.Need-step-back-requires
 step-back-requires c κs = search needs
@@ -26,8 +23,7 @@ same-length-2 : tie.Need-same-length-2
 same-length-2 c = search needs
 
 returns-2 : tie.Need-returns-2
-unfolding backGiven
-returns-2 c = goes _ _ _ _ _ (c .before .before .before .before .before .before .before .before .before .before .before .«open» .ensures .0) backOn _ _ _ _ _ (c .before .before .before .before .before .before .before .before .before .if1 .left) (c .before .before .before .before .before .before .before .before .before .before .before .«open» .ensures .1) (c .before .before .before .before .before .step-back .ensures) _ _ (c .close .ensures .0) (c .close .ensures .1)
+returns-2 c = back-goes _ _ (c .before .before .before .before .before .before .before .before .before .before .before .«open» .ensures .0) _ _ _ _ _ (c .before .before .before .before .before .before .before .before .before .if1 .left) (c .before .before .before .before .before .before .before .before .before .before .before .«open» .ensures .1) (c .before .before .before .before .before .step-back .ensures) (c .close .ensures .0) (c .close .ensures .1)
 
 pub ts11-step-back-spec : {M : Type 1} → statement M
 ts11-step-back-spec =
