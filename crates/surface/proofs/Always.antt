@@ -7,7 +7,8 @@ use Rattle.worlds.specs.Worlds.{World}
 use Rattle.worlds.specs.Passes.{Fit}
 use Rattle.sessions.specs.Session.{Done, Ran, back, standing}
 use Rattle.sessions.specs.Calling.{Call, Noted, entryAt, worldFrom}
-use Rattle.sessions.specs.Good.{Exactly, Formed, Good, Steppable}
+use Rattle.kept.specs.Formed.{Formed}
+use Rattle.sessions.specs.Good.{Exactly, Good, Steppable}
 use Rattle.sessions.proofs.Calls.{always-good, calls, never-was, one-each}
 use Rattle.sessions.proofs.Room.{room-exactly}
 use Rattle.sessions.proofs.Striking.{one-end}

@@ -1,11 +1,11 @@
--- A step taken had passed the checks. So the world before it is fit, whatever block the host handed over: a block's numbers have four bytes.
+-- A step taken had passed the checks. So the world before it is fit, whatever block the host handed over.
 use mathlib.Core.Path.{_≡_}
 use Prim.Native.Nat.{ℕ, _≤_}
 use native.Mathlib.Omega.{arith}
 use lib.ListN.{length}
 use lib.Seq.{length-take-le}
 use Rattle.lists.specs.Words.{Bytes}
-use Rattle.state.specs.Legal.{Held, Legal}
+use Rattle.state.specs.Legal.{Legal}
 use Rattle.entries.specs.Entries.{usedIn}
 use Rattle.entries.specs.Numbers.{Small}
 use Rattle.worlds.specs.declared.Session.{Session}
@@ -15,32 +15,27 @@ use Rattle.worlds.specs.Refusals.{checked, journalLimit}
 use Rattle.worlds.proofs.Passing.{passed}
 use Rattle.ts11.specs.Block.{entryWith, sessionIn}
 use Rattle.ts11.specs.Given.{Host, worldIn}
-use Rattle.ts11.proofs.Blocks.{small-in}
 
 -- a block's world that the checks let pass
-pub fit-in : (h : Host) → Bytes (h .block) → checked (sessionIn (h .block)) (length (h .memory)) (length (h .reel)) (length (h .journal)) ≡ 0 → Fit (length (h .journal)) (worldIn h)
-unfolding entryWith usedIn
-fit-in h bytes sound =
+pub fit-in : (h : Host) → checked (sessionIn (h .block)) (length (h .memory)) (length (h .reel)) (length (h .journal)) ≡ 0 → Fit (length (h .journal)) (worldIn h)
+unfolding usedIn
+fit-in h sound =
     let s : Session = sessionIn (h .block) in
     let p = passed s (length (h .memory)) (length (h .reel)) (length (h .journal)) sound in
-    let small = small-in (h .block) bytes in
     record {
       sound = sound;
       whole = length-take-le (s .used) (h .journal) (omega (arith, p .used, p .journal-is));
-      held = record { address = small .address; extent = small .length };
     }
 
 -- a session that the checks let pass has numbers of four bytes
-pub small-legal : (s : Session) → Legal (s .unit) → Held (s .unit) → s .used ≤ s .journal → s .journal ≤ journalLimit → Small (entryWith s)
+pub small-legal : (s : Session) → Legal (s .unit) → s .used ≤ s .journal → s .journal ≤ journalLimit → Small (entryWith s)
 unfolding entryWith
-small-legal s l held used limit =
+small-legal s l used limit =
     record {
       position = omega (arith, l .place, l .capacity, l .blocks-most);
       end = omega (arith, l .capacity, l .blocks-most);
       pointer = omega (arith, l .pointer);
       class = omega (arith, l .class);
-      address = held .address;
-      length = held .extent;
       memory = omega (arith, l .memory-most);
       blocks = omega (arith, l .blocks-most);
       data-at = omega arith;
@@ -54,4 +49,4 @@ small-legal s l held used limit =
 pub small-fit : (n : ℕ) (w : World) → Fit n w → Small (entryWith (sessionOf w))
 small-fit n w fit =
     let p = passed (sessionOf w) (length (w .core .memory)) (length (w .core .reel)) n (fit .sound) in
-    small-legal (sessionOf w) (p .legal) (fit .held) (p .used) (p .limit)
+    small-legal (sessionOf w) (p .legal) (p .used) (p .limit)

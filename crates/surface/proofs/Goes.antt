@@ -2,6 +2,7 @@
 use mathlib.Core.List.{List}
 use mathlib.Core.Path.{_≡_, refl, sym, ap, subst, _∙_}
 use Prim.Native.Nat.{ℕ}
+use Rattle.lists.specs.Words.{Bytes}
 use Rattle.commands.specs.declared.plans.Answer.{Answer}
 use Rattle.commands.specs.declared.plans.Answer.the-variants as answer
 use Rattle.entries.specs.Entries.{usedIn}
@@ -41,7 +42,7 @@ pub data Went (w : World) (x : Answered) : Type 0 where
   went : stepKind (x .answer) ≡ stepped → Small (entryWith (sessionOf (x .world))) → Went w x
   stayed : x .world ≡ w → Went w x
 
-module _ {h h′ : Host} {x : Answered} {n : ℕ} (k : Block (h .block)) (g : Gives h x n h′) where
+module _ {h h′ : Host} {x : Answered} {n : ℕ} (k : Block (h .block)) (g : Gives h x n h′) (bytes : Bytes (h′ .block)) where
   -- the buffers of the world after it, with the session that the block is read as
   buffers : sessionIn (h′ .block) ≡ sessionOf (x .world) → worldIn h′ ≡ x .world
   buffers e =
@@ -55,7 +56,7 @@ module _ {h h′ : Host} {x : Answered} {n : ℕ} (k : Block (h .block)) (g : Gi
   leaves (went step small) =
       let s : Session = sessionOf (x .world) in
       let is : h′ .block ≡ blockOf s = g .state ∙ block-stepped (h .block) (x .answer) s step in
-      (subst Block (sym is) (block-is s), buffers (ap sessionIn is ∙ block-back s small))
+      (subst Block (sym is) (block-is s (subst Bytes is bytes)), buffers (ap sessionIn is ∙ block-back s small))
   leaves (stayed e) =
       let old : sessionOf (x .world) ≡ sessionIn (h .block) = ap sessionOf e in
       let is : h′ .block ≡ h .block = g .state ∙ ap (blockAfter (h .block) (x .answer)) old ∙ block-same (h .block) (x .answer) k in

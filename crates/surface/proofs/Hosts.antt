@@ -31,11 +31,10 @@ module _ {n : ℕ} {s₀ : Here} {d : List Line} {h : Host} (f : Follows n s₀ 
 
     pub call-at : AtMoment n (does (calls n) c (f .moment)) h′
     call-at =
-        let z = runs-as c h (f .here .block) (g .gives) in
+        let z = runs-as c h (f .here .block) g in
         record {
           world = does-that n c (f .moment) ∙ sym (z .1 ∙ ap (λ (x : Answered). x .world) same);
           block = z .0;
-          bytes = g .bytes;
           long = g .long ∙ f .here .long;
         }
 
@@ -51,13 +50,12 @@ module _ {n : ℕ} {s₀ : Here} {d : List Line} {h : Host} (f : Follows n s₀ 
     -- a step back that answers x, and leaves the world of the moment s
     back-at : (x : Answered) (s : Here) → backOn was n ≡ x → worldFrom n s ≡ x .world → (k ≡ numberOf (x .answer)) × AtMoment n s h′
     back-at x s e w =
-        let z = back-as h (f .here .block) (f .here .bytes) (g .gives) in
+        let z = back-as h (f .here .block) g in
         let is = same-back ∙ e in (
           g .gives .answer ∙ ap (λ (y : Answered). numberOf (y .answer)) (back-is h (f .here .block) ∙ is),
           record {
             world = w ∙ sym (z .1 ∙ ap (λ (y : Answered). y .world) is);
             block = z .0;
-            bytes = g .bytes;
             long = g .long ∙ f .here .long;
           },
         )

@@ -94,15 +94,14 @@ module _ (h : Host) (e : ℕ) (online locked : Bool) {b′ : List ℕ} {k : ℕ}
   unfolding usedIn lengthOf journalOf
   its-ledger = λ i. record { used = read-as i .used; length = read-as i .journal; bytes = usedIn (read-as i .used) (h .journal) }
 
-  pub mounted-host : Bytes (h .journal) → Begins after
+  pub mounted-host : Bytes b′ → Begins after
   mounted-host bytes =
       record {
         fresh = subst (Fresh n) its-moment (mounted old (h .memory) (h .reel) n e online locked done all);
         here =
             record {
               world = λ i. record { core = worldIn after .core; ledger = its-ledger i };
-              block = subst Block (sym its-block) (block-is new);
-              bytes = bytes;
+              block = subst Block (sym its-block) (block-is new (subst Bytes its-block bytes));
               long = refl;
             };
       }

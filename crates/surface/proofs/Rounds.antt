@@ -25,7 +25,7 @@ joined x y = record { block = y .block; world = y .world ∙ x .world; long = y 
 module _ (c : Call) (h : Host) (b : Block (h .block)) {h₁ : Host} {k : ℕ} (g : Returned h (given c h) k h₁) where
   none-same : (kindOf c (given c h .answer) ≡ stepped → ⊥) → Same h h₁
   none-same t =
-      let z = runs-as c h b (g .gives) in
+      let z = runs-as c h b g in
       let kind = ap (λ (x : Answered). kindOf c (x .answer)) (given-is c h b) in
       record {
         block = z .0;
@@ -35,8 +35,8 @@ module _ (c : Call) (h : Host) (b : Block (h .block)) {h₁ : Host} {k : ℕ} (g
 
   undone-same : {h₂ h₃ : Host} {l : ℕ} → kindOf c (given c h .answer) ≡ stepped → Same h₁ h₂ → Returned h₂ (backGiven h₂) l h₃ → Same h h₃
   undone-same t s u =
-      let z = runs-as c h b (g .gives) in
-      let x = world-undone c h b t (s .block) (s .long ∙ g .long) (s .world ∙ z .1) (u .gives) in
+      let z = runs-as c h b g in
+      let x = world-undone c h b t (s .block) (s .long ∙ g .long) (s .world ∙ z .1) u in
       record { block = x .1; world = x .2; long = u .long ∙ s .long ∙ g .long }
 
 round-same : {h h′ : Host} → Block (h .block) → Round h h′ → Same h h′
@@ -46,7 +46,7 @@ round-same b (and-none {h₁ = h₁} c r g t) =
     joined x (none-same c h₁ (x .block) g t)
 round-same b (and-undone {h₁ = h₁} c r g t q u) =
     let x = round-same b r in
-    let z = runs-as c h₁ (x .block) (g .gives) in
+    let z = runs-as c h₁ (x .block) g in
     joined x (undone-same c h₁ (x .block) g t (round-same (z .0) q) u)
 
 pub round-bytes : {h h′ : Host} → Block (h .block) → Round h h′ → Unchanged h h′

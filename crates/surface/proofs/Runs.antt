@@ -9,7 +9,7 @@ use Rattle.sessions.specs.Calling.{Call, kindOf, onCall}
 use Rattle.sessions.proofs.Taken.{looked-none, refused-none, sound-step, stays, step-done, step-fit}
 use Rattle.ts11.specs.Block.{Block}
 use Rattle.ts11.specs.Given.{Gives, Host, worldIn}
-use Rattle.surface.specs.Hosting.{given}
+use Rattle.surface.specs.Hosting.{Returned, given}
 use Rattle.surface.proofs.Fits.{fit-in, small-fit}
 use Rattle.surface.proofs.Goes.{Went, leaves, opens, stayed, went}
 
@@ -27,12 +27,12 @@ module _ (c : Call) (h : Host) (k : Block (h .block)) where
 
   -- a step is taken from a fit world only
   pub fit-before : kindOf c (does .answer) ≡ stepped → Fit n (worldIn h)
-  fit-before t = fit-in h (k .bytes) (sound-step n (worldIn h) c t)
+  fit-before t = fit-in h (sound-step n (worldIn h) c t)
 
   call-went-by : (z : Kind) → kindOf c (does .answer) ≡ z → Went (worldIn h) does
   call-went-by stepped t = went (step-done c (does .answer) t) (small-fit n (does .world) (step-fit n (worldIn h) (fit-before t) c t))
   call-went-by refused t = stayed (stays n c (worldIn h) (λ s. refused-none (sym t ∙ s)))
   call-went-by looked t = stayed (stays n c (worldIn h) (λ s. looked-none (sym t ∙ s)))
 
-  pub runs-as : {i : ℕ} {h′ : Host} → Gives h (given c h) i h′ → Block (h′ .block) × (worldIn h′ ≡ does .world)
-  runs-as {i} {h′} g = leaves k (subst (λ (x : Answered). Gives h x i h′) given-is g) (call-went-by (kindOf c (does .answer)) refl)
+  pub runs-as : {i : ℕ} {h′ : Host} → Returned h (given c h) i h′ → Block (h′ .block) × (worldIn h′ ≡ does .world)
+  runs-as {i} {h′} g = leaves k (subst (λ (x : Answered). Gives h x i h′) given-is (g .gives)) (g .bytes) (call-went-by (kindOf c (does .answer)) refl)

@@ -13,7 +13,7 @@ use Rattle.sessions.proofs.Taken.{step-undone}
 use Rattle.ts11.specs.Block.{Block}
 use Rattle.ts11.specs.Given.{Gives, Host, backGiven, worldIn}
 use Rattle.ts11.proofs.Blocks.{small-in}
-use Rattle.surface.specs.Hosting.{Unchanged, given}
+use Rattle.surface.specs.Hosting.{Returned, Unchanged, given}
 use Rattle.surface.proofs.Goes.{leaves, went, world-bytes}
 use Rattle.surface.proofs.Backs.{back-is}
 use Rattle.surface.proofs.Runs.{fit-before, given-is, runs-as}
@@ -26,7 +26,7 @@ module _ (c : Call) (h : Host) (k : Block (h .block)) (t : kindOf c (given c h .
   its-kind = ap (λ (x : Answered). kindOf c (x .answer)) (sym (given-is c h k)) ∙ t
 
   -- a step back from the world that the step left
-  module _ {h′ h″ : Host} {i : ℕ} (b : Block (h′ .block)) (long : length (h′ .journal) ≡ n) (there : worldIn h′ ≡ onCall n c (worldIn h) .world) (g : Gives h′ (backGiven h′) i h″) where
+  module _ {h′ h″ : Host} {i : ℕ} (b : Block (h′ .block)) (long : length (h′ .journal) ≡ n) (there : worldIn h′ ≡ onCall n c (worldIn h) .world) (g : Returned h′ (backGiven h′) i h″) where
     back-gives : backGiven h′ ≡ answered (answer.Done false) (worldIn h)
     back-gives =
         back-is h′ b
@@ -37,12 +37,12 @@ module _ (c : Call) (h : Host) (k : Block (h .block)) (t : kindOf c (given c h .
     pub world-undone : (i ≡ 0) × Block (h″ .block) × (worldIn h″ ≡ worldIn h)
     unfolding numberOf stepKind
     world-undone =
-        let brought : Gives h′ (answered (answer.Done false) (worldIn h)) i h″ = subst (λ (x : Answered). Gives h′ x i h″) back-gives g in
-        let z = leaves b brought (went refl (small-in (h .block) (k .bytes))) in
+        let brought : Gives h′ (answered (answer.Done false) (worldIn h)) i h″ = subst (λ (x : Answered). Gives h′ x i h″) back-gives (g .gives) in
+        let z = leaves b brought (g .bytes) (went refl (small-in (h .block) (k .bytes))) in
         (brought .answer, z .0, z .1)
 
-  pub undone-bytes : {h′ h″ : Host} {i j : ℕ} → length (h′ .journal) ≡ n → Gives h (given c h) i h′ → Gives h′ (backGiven h′) j h″ → (j ≡ 0) × Unchanged h h″
-  undone-bytes long g u =
+  pub undone-bytes : {h′ h″ : Host} {i j : ℕ} → Returned h (given c h) i h′ → Returned h′ (backGiven h′) j h″ → (j ≡ 0) × Unchanged h h″
+  undone-bytes g u =
       let there = runs-as c h k g in
-      let z = world-undone (there .0) long (there .1) u in
+      let z = world-undone (there .0) (g .long) (there .1) u in
       (z .0, world-bytes k (z .1) (z .2))

@@ -10,7 +10,8 @@ use Rattle.worlds.specs.Worlds.{Answered}
 use Rattle.worlds.specs.Passes.{Fit}
 use Rattle.sessions.specs.Session.{Moment, stepped}
 use Rattle.sessions.specs.Calling.{Call, Noted, journalOf, kindOf, lengthOf, onCall, worldFrom}
-use Rattle.sessions.specs.Good.{Formed, Fresh}
+use Rattle.kept.specs.Formed.{Formed}
+use Rattle.sessions.specs.Good.{Fresh}
 use Rattle.ts11.specs.Block.{Block, sessionIn}
 use Rattle.ts11.specs.Given.{Gives, Host, backGiven, opened, worldIn}
 
@@ -29,11 +30,11 @@ pub record Alike (used : ℕ) (h h′ : Host) : Type 0 where
 abbrev pub Unchanged : Host → Host → Type 0
 Unchanged h h′ = Alike (sessionIn (h .block) .used) h h′
 
--- h′ is what the host holds when a call that gives x on h has returned k: a journal of the same length, and bytes
+-- h′ is what the host holds when a call that gives x on h has returned k: a journal of the same length, and a state that is bytes
 pub record Returned (h : Host) (x : Answered) (k : ℕ) (h′ : Host) : Type 0 where
   pub gives : Gives h x k h′
   pub long : length (h′ .journal) ≡ length (h .journal)
-  pub bytes : Bytes (h′ .journal)
+  pub bytes : Bytes (h′ .block)
 
 -- what a host did, and the number that it was returned
 pub data Line : Type 0 where
@@ -59,7 +60,6 @@ pub data Round : Host → Host → Type 0 where
 pub record AtMoment (n : ℕ) (s : Moment Core Noted) (h : Host) : Type 0 where
   pub world : worldFrom n s ≡ worldIn h
   pub block : Block (h .block)
-  pub bytes : Bytes (h .journal)
   pub long : length (h .journal) ≡ n
 
 -- the moment that h holds, with no entry

@@ -11,28 +11,16 @@ use lib.Dec.{eqb, ltb}
 use lib.ListN.{drop, drop-of-length-le, getD, length, length-drop}
 use lib.Seq.{drop-at, drop-cons, drop-drop, getD-drop}
 use Rattle.lists.specs.Words.{Bytes, wordAt}
-use Rattle.lists.proofs.Bytes.{bytes-append}
 use Rattle.lists.proofs.Sums.{word-whole}
 use Rattle.entries.specs.Numbers.{Small, bit, entryOf, isSet, nth, numberLimit, numbersOf, touchedOf, unitOf}
 use Rattle.entries.specs.Bytes.{headBytes, headCount, headLength, headNumbers, numberAt, numberBytes}
-use Rattle.entries.proofs.Back.{entry-back, length-numbers, numbers-small}
-use Rattle.entries.proofs.HeadBytes.{bytes-head, head-back}
+use Rattle.entries.proofs.Back.{entry-back, length-numbers}
+use Rattle.entries.proofs.HeadBytes.{head-back}
 use Rattle.entries.proofs.Joined.{head-long}
 use Rattle.entries.proofs.Turns.{length-read}
 use Rattle.worlds.specs.declared.Session.{Session}
 use Rattle.ts11.specs.Block.{Block, blockOf, entryWith, flagsRight, isBlock, restZero, sessionIn, sessionWith}
 use Rattle.ts11.proofs.Written.{length-block}
-
-bytes-zero : Bytes (numberBytes 0)
-bytes-zero zero = omega arith
-bytes-zero (suc zero) = omega arith
-bytes-zero (suc (suc zero)) = omega arith
-bytes-zero (suc (suc (suc zero))) = omega arith
-bytes-zero (suc (suc (suc (suc i)))) = omega arith
-
-bytes-block : (s : Session) → Bytes (blockOf s)
-unfolding blockOf
-bytes-block s = bytes-append (headBytes (numbersOf (entryWith s))) (numberBytes 0) (bytes-head (numbersOf (entryWith s)) (numbers-small (entryWith s))) bytes-zero
 
 -- the numbers in a session's block
 numbers-in : (s : Session) → headNumbers headCount (blockOf s) ≡ numbersOf (entryWith s)
@@ -72,8 +60,9 @@ block-right : (s : Session) → isBlock (blockOf s) ≡ true
 unfolding isBlock
 block-right s = rw (numbers-in s, flags-of s, rest-of s, last-of s)
 
-pub block-is : (s : Session) → Block (blockOf s)
-block-is s = record { long = length-block s; bytes = bytes-block s; right = block-right s }
+-- and it is a block, if it is bytes at all, as whatever stands in a lent slice is
+pub block-is : (s : Session) → Bytes (blockOf s) → Block (blockOf s)
+block-is s h = record { long = length-block s; bytes = h; right = block-right s }
 
 -- numbers read from bytes have at most four bytes
 number-small : (b : List ℕ) → Bytes b → numberAt b 0 < numberLimit
@@ -97,8 +86,6 @@ small-entry b h =
       end = s 1;
       pointer = s 2;
       class = s 3;
-      address = s 14;
-      length = s 15;
       memory = s 19;
       blocks = s 20;
       data-at = s 21;
@@ -119,8 +106,6 @@ small-in b h =
       end = s .end;
       pointer = s .pointer;
       class = s .class;
-      address = s .address;
-      length = s .length;
       memory = s .memory;
       blocks = s .blocks;
       data-at = s .data-at;
@@ -260,7 +245,7 @@ module _ (n : List ℕ) (small : (i : ℕ) → getD n i 0 < numberLimit) (f : Fl
       let d = f .characteristics in
       λ i. number 0 i ∷ number 1 i ∷ number 2 i ∷ number 3 i ∷ flag 4 (a .0) i ∷ flag 5 (a .1) i ∷ flag 6 (a .2) i ∷ flag 7 (a .3) i
       ∷ flag 8 (b .0) i ∷ flag 9 (b .1) i ∷ flag 10 (b .2) i ∷ flag 11 (c .0) i ∷ flag 12 (c .1) i ∷ flag 13 (c .2) i
-      ∷ number 14 i ∷ number 15 i ∷ flag 16 (d .0) i ∷ flag 17 (d .1) i ∷ flag 18 (d .2) i ∷ number 19 i ∷ number 20 i ∷ number 21 i ∷ number 22 i
+      ∷ nth n 14 ∷ nth n 15 ∷ flag 16 (d .0) i ∷ flag 17 (d .1) i ∷ flag 18 (d .2) i ∷ number 19 i ∷ number 20 i ∷ number 21 i ∷ number 22 i
       ∷ unused 23 (r .swb) i ∷ unused 24 (r .message .0) i ∷ unused 25 (r .message .1) i ∷ unused 26 (r .reel .0) i ∷ unused 27 (r .reel .1) i
       ∷ unused 28 (r .free .0) i ∷ unused 29 (r .free .1) i ∷ unused 30 (r .free .2) i ∷ []
 
