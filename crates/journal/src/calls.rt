@@ -106,7 +106,7 @@ pub fn advance(s: Session, mem: &mut [u8], reel: &mut [u8], jrnl: &mut [u8]) -> 
         return refused(s, n);
     }
     let u = s.unit;
-    let p = unit::plan(u, mem, reel);
+    let p = unit::plan_advance(u, mem, reel);
     let answer = p.answer;
     match answer {
         Answer::Done(_) => step(s, p, mem, reel, jrnl),

@@ -10,9 +10,9 @@ use entries::entry_length;
 use entries::newest_entry;
 use state::Unit;
 use touched::nothing;
-use unit::carry;
 use unit::host_touched;
 use unit::put_host;
+use unit::store;
 use unit::touched_by;
 use worlds::Outcome;
 use worlds::Session;
@@ -47,7 +47,7 @@ pub fn step(s: Session, p: Plan, mem: &mut [u8], reel: &mut [u8], jrnl: &mut [u8
         return refused(s, 9);
     }
     enter(jrnl, s.used, e, mem, reel);
-    carry(p, mem, reel);
+    store(p, mem, reel);
     let answer = p.answer;
     let next = p.unit;
     Outcome {

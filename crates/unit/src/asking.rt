@@ -4,29 +4,16 @@ use lists::scatter;
 use motions::Moved;
 use motions::laid_blocks;
 use motions::moved_bytes;
-use state::Unit;
 use touched::Touched;
 ghost use mathlib.Core.Path.{_≡_};
 ghost use Prim.Native.Nat.{_+_, _≤_, _<_, _%_};
 ghost use lib.ListN.{length};
 ghost use lib.Seq.{sets};
-ghost use Rattle.tape.specs.Numbers.{capacityLimit};
-ghost use Rattle.signals.specs.Numbers.{pointerLimit};
-ghost use Rattle.storing.specs.Stored.{Storable, StoredPlan};
-ghost use Rattle.advance.specs.Steps.{advanced};
 ghost use Rattle.unit.specs.Touching.{hostTouched, movedPlace, touchedBy};
 ghost use Rattle.unit.specs.Steps.{storeWrong};
 
 // "Host store: 0 to 65,535 bytes."
 pub const HOST_LIMIT: usize = 65535;
-
-// What an advance is about to do.
-pub fn plan(u: Unit, mem: &[u8], reel: &[u8]) -> Plan
-    requires { ⌜ (u .tape .end ≤ capacityLimit) × (u .registers .pointer < pointerLimit) ⌝ }
-    ensures { λ r. ⌜ r ≡ advanced u (now (mem .entry)) (now (reel .entry)) ⌝ }
-{
-    advance::plan_advance(u, mem, reel)
-}
 
 // Where a Read's bytes go, of its buffer.
 fn moved_place(m: Moved) -> usize
@@ -71,14 +58,6 @@ pub fn touched_by(p: Plan) -> Touched
         reel_at: l.at,
         reel_blocks,
     }
-}
-
-// The plan's blocks, data and message are stored.
-pub fn carry(p: Plan, mem: &mut [u8], reel: &mut [u8])
-    requires { ⌜ Storable p (length (now mem)) (length (now reel)) ⌝ }
-    ensures { λ _. ⌜ StoredPlan p (now (mem .entry)) (now (reel .entry)) (now (mem .exit)) (now (reel .exit)) ⌝ }
-{
-    storing::store(p, mem, reel)
 }
 
 // Refusal 5: too long, or past the end of memory. A difference and no sum: the place may be made up.

@@ -3,10 +3,9 @@ mod asking;
 mod mounting;
 mod registers;
 
+pub use advance::plan_advance;
 pub use asking::HOST_LIMIT;
-pub use asking::carry;
 pub use asking::host_touched;
-pub use asking::plan;
 pub use asking::put_host;
 pub use asking::store_wrong;
 pub use asking::touched_by;
@@ -15,3 +14,4 @@ pub use mounting::mount;
 pub use mounting::mount_refusal;
 pub use registers::Register;
 pub use registers::register_word;
+pub use storing::store;

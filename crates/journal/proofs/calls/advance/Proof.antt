@@ -20,8 +20,8 @@ returns : tie.Need-returns
 unfolding stepOn
 returns c = guarded-stops _ _ _ _ _ _ _ (c .before .before .check .ensures) (c .before .if1 .taken) (c .refused .ensures .0) (c .refused .ensures .1)
 
-plan-requires : tie.Need-plan-requires
-plan-requires c κs =
+plan-advance-requires : tie.Need-plan-advance-requires
+plan-advance-requires c κs =
     let s = c .before .before .before .before .before .before .before .before in
     plannable (worldOf (s .args .s) (s .args .mem .now) (s .args .reel .now) (s .args .jrnl .now)) _ (passed _ _ _ _ (sym (c .before .before .before .before .check .ensures) ∙ c .before .before .before .if1 .left))
 
@@ -31,7 +31,7 @@ enum-told c = search needs
 step-requires : tie.Need-step-requires
 step-requires c κs =
     let s = c .before .before .before .before .before .before .before .before .before .before .before .before .before .before in
-    advance-ready _ _ (s .args .mem .now) (s .args .reel .now) _ _ (c .before .before .before .before .before .before .before .before .before .before .check .ensures) (c .before .before .before .before .before .before .before .before .before .if1 .left) (c .before .before .before .before .before .plan .ensures)
+    advance-ready _ _ (s .args .mem .now) (s .args .reel .now) _ _ (c .before .before .before .before .before .before .before .before .before .before .check .ensures) (c .before .before .before .before .before .before .before .before .before .if1 .left) (c .before .before .before .before .before .plan-advance .ensures)
 
 enum-told-2 : tie.Need-enum-told-2
 enum-told-2 c = search needs
@@ -53,7 +53,7 @@ same-length-3 c = search needs
 
 returns-2 : tie.Need-returns-2
 unfolding stepOn
-returns-2 c = guarded-goes _ _ _ _ _ _ _ _ _ _ (c .before .before .before .before .before .before .before .before .before .before .before .before .before .before .before .before .before .check .ensures) (c .before .before .before .before .before .before .before .before .before .before .before .before .before .before .before .before .if1 .left) (advance-takes _ _ _ _ _ (c .before .before .before .before .before .before .before .before .before .before .before .before .plan .ensures) _ _ _ _ _ (c .before .before .before .before .before .before .before .before .before .before .enum-told .given .1) (c .before .before .before .before .before .before .step .ensures))
+returns-2 c = guarded-goes _ _ _ _ _ _ _ _ _ _ (c .before .before .before .before .before .before .before .before .before .before .before .before .before .before .before .before .before .check .ensures) (c .before .before .before .before .before .before .before .before .before .before .before .before .before .before .before .before .if1 .left) (advance-takes _ _ _ _ _ (c .before .before .before .before .before .before .before .before .before .before .before .before .plan-advance .ensures) _ _ _ _ _ (c .before .before .before .before .before .before .before .before .before .before .enum-told .given .1) (c .before .before .before .before .before .before .step .ensures))
 
 same-length-4 : tie.Need-same-length-4
 same-length-4 c = search needs
@@ -63,7 +63,7 @@ same-length-5 c = search needs
 
 returns-3 : tie.Need-returns-3
 unfolding stepOn takenBy
-returns-3 c = guarded-goes _ _ _ _ _ _ _ _ _ _ (c .before .before .before .before .before .before .before .check .ensures) (c .before .before .before .before .before .before .if1 .left) (advance-rests _ _ _ _ _ (c .before .before .plan .ensures) _ (c .enum-told2 .given .1) refl)
+returns-3 c = guarded-goes _ _ _ _ _ _ _ _ _ _ (c .before .before .before .before .before .before .before .check .ensures) (c .before .before .before .before .before .before .if1 .left) (advance-rests _ _ _ _ _ (c .before .before .plan-advance .ensures) _ (c .enum-told2 .given .1) refl)
 
 same-length-6 : tie.Need-same-length-6
 same-length-6 c = search needs
@@ -73,7 +73,7 @@ same-length-7 c = search needs
 
 returns-4 : tie.Need-returns-4
 unfolding stepOn takenBy
-returns-4 c = guarded-goes _ _ _ _ _ _ _ _ _ _ (c .before .before .before .before .before .before .before .check .ensures) (c .before .before .before .before .before .before .if1 .left) (advance-rests _ _ _ _ _ (c .before .before .plan .ensures) _ (c .enum-told3 .given .1) refl)
+returns-4 c = guarded-goes _ _ _ _ _ _ _ _ _ _ (c .before .before .before .before .before .before .before .check .ensures) (c .before .before .before .before .before .before .if1 .left) (advance-rests _ _ _ _ _ (c .before .before .plan-advance .ensures) _ (c .enum-told3 .given .1) refl)
 
 same-length-8 : tie.Need-same-length-8
 same-length-8 c = search needs
@@ -83,7 +83,7 @@ same-length-9 c = search needs
 
 returns-5 : tie.Need-returns-5
 unfolding stepOn takenBy
-returns-5 c = guarded-goes _ _ _ _ _ _ _ _ _ _ (c .before .before .before .before .before .before .before .check .ensures) (c .before .before .before .before .before .before .if1 .left) (advance-rests _ _ _ _ _ (c .before .before .plan .ensures) _ (c .enum-told4 .given .1) refl)
+returns-5 c = guarded-goes _ _ _ _ _ _ _ _ _ _ (c .before .before .before .before .before .before .before .check .ensures) (c .before .before .before .before .before .before .if1 .left) (advance-rests _ _ _ _ _ (c .before .before .plan-advance .ensures) _ (c .enum-told4 .given .1) refl)
 
 pub advance-spec : {M : Type 1} → statement M
 advance-spec =
@@ -92,7 +92,7 @@ advance-spec =
     check-requires
     refused-requires
     returns
-    plan-requires
+    plan-advance-requires
     enum-told
     step-requires
     enum-told-2

@@ -34,8 +34,8 @@ enter-requires c κs =
       step-in (s .args .s) (s .args .mem .now) (s .args .reel .now) _ (s .pre .sound) (s .args .p) _ (c .before .before .before .before .before .before .touched-by .ensures) (s .pre .storable),
     )
 
-carry-requires : tie.Need-carry-requires
-carry-requires c κs = search needs
+store-requires : tie.Need-store-requires
+store-requires c κs = search needs
 
 add-t13 : tie.Need-add-t13
 add-t13 c = search needs
@@ -53,7 +53,7 @@ returns-2 : tie.Need-returns-2
 returns-2 c =
     let s = c .before .before .before .before .before .before .before .before .before .before .before .before .before .before .before .before .before .before .before .before .before .before .before in
     let w = worldOf (s .args .s) (s .args .mem .now) (s .args .reel .now) (s .args .jrnl .now) in
-    taken-goes _ _ _ _ _ _ _ (step-entry _ _ _ (c .before .before .before .before .before .before .before .before .before .before .before .before .before .before .before .before .before .before .touched-by .ensures)) (c .before .before .before .before .before .before .before .before .before .before .before .before .before .before .before .before .before .entry-length .ensures) _ _ _ _ _ (c .before .before .before .before .before .before .before .before .before .before .before .before .before .before .before .if1 .left) (room w _ (passed _ _ _ _ (s .pre .sound .right)) _ _ (c .before .before .before .before .before .before .before .before .before .before .before .before .before .before .before .before .before .entry-length .ensures) (c .before .before .before .before .before .before .before .before .before .before .before .before .before .before .before .if1 .left)) (c .before .before .before .before .before .before .before .before .before .before .before .enter .ensures) (step-after _ _ _ _ (c .before .before .before .before .before .before .carry .ensures))
+    taken-goes _ _ _ _ _ _ _ (step-entry _ _ _ (c .before .before .before .before .before .before .before .before .before .before .before .before .before .before .before .before .before .before .touched-by .ensures)) (c .before .before .before .before .before .before .before .before .before .before .before .before .before .before .before .before .before .entry-length .ensures) _ _ _ _ _ (c .before .before .before .before .before .before .before .before .before .before .before .before .before .before .before .if1 .left) (room w _ (passed _ _ _ _ (s .pre .sound .right)) _ _ (c .before .before .before .before .before .before .before .before .before .before .before .before .before .before .before .before .before .entry-length .ensures) (c .before .before .before .before .before .before .before .before .before .before .before .before .before .before .before .if1 .left)) (c .before .before .before .before .before .before .before .before .before .before .before .enter .ensures) (step-after _ _ _ _ (c .before .before .before .before .before .before .store .ensures))
 
 pub step-spec : {M : Type 1} → statement M
 step-spec =
@@ -65,7 +65,7 @@ step-spec =
     refused-requires
     returns
     enter-requires
-    carry-requires
+    store-requires
     add-t13
     same-length
     same-length-2
