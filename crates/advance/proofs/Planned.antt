@@ -2,9 +2,8 @@
 use mathlib.Core.List.{List}
 use mathlib.Core.Logic.{inl}
 use mathlib.Core.Path.{_≡_, refl}
-use Prim.Native.Nat.{ℕ, _*_}
+use Prim.Native.Nat.{ℕ}
 use lib.ListN.{length}
-use Rattle.tape.specs.Numbers.{blockBytes}
 use Rattle.signals.specs.Codes.{commandOf}
 use Rattle.signals.specs.Message.{messageOf}
 use Rattle.state.specs.Legal.{Legal}
@@ -15,7 +14,7 @@ use Rattle.commands.proofs.Every.{Stands, Tells, every-carried}
 use Rattle.advance.specs.Steps.{advanced}
 use Rattle.advance.proofs.Carrying.{carried-sound}
 use Rattle.advance.proofs.Sound.{resting-fits, same-lengths, still-sound, told-sound, untold-sound}
-use Rattle.advance.proofs.Walk.{Alike, Carries, Rejects, Untold, advanced-all, alike-legal}
+use Rattle.advance.proofs.Walk.{Carries, Rejects, Untold, advanced-all, alike-legal}
 pub use Rattle.advance.proofs.Sound.{SoundPlan}
 
 module _ (u : Unit) (m s : List ℕ) where
@@ -48,9 +47,3 @@ module _ (u : Unit) (m s : List ℕ) where
 pub advanced-sound : (u : Unit) (m s : List ℕ) → Legal u → length m ≡ u .lengths .memory → SoundPlan u (advanced u m s)
 advanced-sound u m s l e =
     advanced-all u m s (SoundPlan u) (sound-rejects u m s l e) (sound-untold u m s l e) (sound-carries u m s l e) (still-sound u l _)
-
-pub advanced-legal : (u : Unit) (m s : List ℕ) → Legal u → length m ≡ u .lengths .memory → length s ≡ blockBytes * u .lengths .blocks → Legal (advanced u m s .unit)
-advanced-legal u m s l e f = advanced-sound u m s l e .legal
-
-pub advanced-lengths : (u : Unit) (m s : List ℕ) → Legal u → length m ≡ u .lengths .memory → advanced u m s .unit .lengths ≡ u .lengths
-advanced-lengths u m s l e = advanced-sound u m s l e .lengths

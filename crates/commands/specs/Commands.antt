@@ -18,10 +18,8 @@ use Rattle.state.specs.Changes.{withRegisters}
 use Rattle.state.specs.Checks.{bufferWrong}
 use Rattle.state.specs.declared.Unit.{Unit}
 use Rattle.state.specs.declared.Characteristics.{Characteristics}
-use Rattle.state.specs.declared.Registers.{Registers}
 use Rattle.state.specs.declared.Tape.{Tape}
-use Rattle.moves.specs.declared.spacing.Rule.{Rule}
-use Rattle.motions.specs.Parts.{end, resting, standing}
+use Rattle.motions.specs.Parts.{end, resting, standing, stops}
 use Rattle.motions.specs.Reads.{readOne, reread}
 use Rattle.motions.specs.Spaces.{positioned}
 use Rattle.motions.specs.Writes.{retried, writtenAt}
@@ -147,6 +145,30 @@ writtenBy u s h p again =
 unfoldable pub formatted : Unit → List ℕ → Header → ObjectKind → Bool → Bool → Plan
 formatted u s h o mark again =
     motionPlan u (h .ie) (laying s (u .tape) (u .lengths .blocks) (laidHere (u .tape) o 0 0 false) mark again)
+
+-- the motion of a command, as `carriedOut` below has it; those that move nothing end where the tape stands
+unfoldable pub motionOf : Unit → List ℕ → Header → Packet → Command → Motion
+motionOf u s h p command.ReadNext = readOne s (u .tape) (asked h p) false
+motionOf u s h p command.ReadPrevious = readOne s (u .tape) (asked h p) true
+motionOf u s h p command.RereadPrevious = reread s (u .tape) (asked h p) true (h .opp)
+motionOf u s h p command.RereadNext = reread s (u .tape) (asked h p) false (h .opp)
+motionOf u s h p command.Write = laying s (u .tape) (u .lengths .blocks) (laidHere (u .tape) kind.Record (p .pointer) (p .count) (h .swb)) false false
+motionOf u s h p command.WriteRetry = laying s (u .tape) (u .lengths .blocks) (laidHere (u .tape) kind.Record (p .pointer) (p .count) (h .swb)) false true
+motionOf u s h p command.RecordsForward = positioning s (u .tape) (u .characteristics) (p .count) false false
+motionOf u s h p command.RecordsReverse = positioning s (u .tape) (u .characteristics) (p .count) true false
+motionOf u s h p command.MarksForward = positioning s (u .tape) (u .characteristics) (p .count) false true
+motionOf u s h p command.MarksReverse = positioning s (u .tape) (u .characteristics) (p .count) true true
+motionOf u s h p command.Rewind = stops plainEnd (standing 0 (u .tape .end))
+motionOf u s h p command.WriteMark = laying s (u .tape) (u .lengths .blocks) (laidHere (u .tape) kind.Mark 0 0 false) true false
+motionOf u s h p command.Erase = laying s (u .tape) (u .lengths .blocks) (laidHere (u .tape) kind.Gap 0 0 false) false false
+motionOf u s h p command.MarkRetry = laying s (u .tape) (u .lengths .blocks) (laidHere (u .tape) kind.Mark 0 0 false) true true
+motionOf u s h p command.WriteCharacteristics = stops plainEnd (u .tape)
+motionOf u s h p command.Release = stops plainEnd (u .tape)
+motionOf u s h p command.Unload = stops plainEnd (u .tape)
+motionOf u s h p command.Clean = stops plainEnd (u .tape)
+motionOf u s h p command.Initialize = stops plainEnd (u .tape)
+motionOf u s h p command.GetStatus = stops plainEnd (u .tape)
+motionOf u s h p command.Illegal = stops plainEnd (u .tape)
 
 -- what a Write Characteristics asks of its packet: the data are in memory (step 10)
 abbrev pub DataFit : Command → Packet → List ℕ → Type 0

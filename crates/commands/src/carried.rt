@@ -28,7 +28,7 @@ ghost use mathlib.Core.Path.{_≡_};
 ghost use Prim.Native.Nat.{_+_, _≤_};
 ghost use lib.ListN.{length};
 ghost use Rattle.tape.specs.Numbers.{capacityLimit};
-ghost use Rattle.commands.specs.Commands.{DataFit, asked, carriedOut, characteristicsAt, characterized, laidHere, laying, modeWord, plainEnd, positioning, refusedCharacteristics, released, rewound, takenCharacteristics, unloaded};
+ghost use Rattle.commands.specs.Commands.{DataFit, asked, carriedOut, characteristicsAt, characterized, laidHere, laying, modeWord, motionOf, plainEnd, positioning, refusedCharacteristics, released, takenCharacteristics, unloaded};
 
 fn plain_end() -> End
     ensures { λ r. ⌜ r ≡ plainEnd ⌝ }
@@ -49,16 +49,6 @@ fn release(u: Unit, ie: bool) -> Plan
     let mut v = u;
     v.attention.release_ie = ie;
     untell(v, 0, false)
-}
-
-fn rewind(u: Unit, ie: bool) -> Plan
-    ensures { λ r. ⌜ r ≡ rewound u ie ⌝ }
-{
-    let start = Tape {
-        position: 0,
-        end: u.tape.end,
-    };
-    tell(u, ie, rest(plain_end(), start))
 }
 
 // Rewind and unload ends off line, with no attention.
@@ -191,9 +181,10 @@ fn lay(reel: &[u8], t: Tape, blocks: usize, l: Laid, mark: bool, again: bool) ->
     write_at(t, blocks, l, mark)
 }
 
-pub fn carry_out(u: Unit, mem: &[u8], reel: &[u8], h: Header, p: Packet, c: Command) -> Plan
-    requires { ⌜ (u .tape .end ≤ capacityLimit) × DataFit c p (now mem) ⌝ }
-    ensures { λ r. ⌜ r ≡ carriedOut u (now (mem .entry)) (now (reel .entry)) h p c ⌝ }
+// The motion of a command; those that move nothing end where the tape stands.
+fn move_tape(u: Unit, reel: &[u8], h: Header, p: Packet, c: Command) -> Motion
+    requires { ⌜ u .tape .end ≤ capacityLimit ⌝ }
+    ensures { λ r. ⌜ r ≡ motionOf u (now (reel .entry)) h p c ⌝ }
 {
     let t = u.tape;
     let x = u.characteristics;
@@ -203,27 +194,51 @@ pub fn carry_out(u: Unit, mem: &[u8], reel: &[u8], h: Header, p: Packet, c: Comm
     let mark = lay_here(t, ObjectKind::Mark, 0, 0, false);
     let gap = lay_here(t, ObjectKind::Gap, 0, 0, false);
     let here = rest(plain_end(), t);
+    let start = rest(
+        plain_end(),
+        Tape {
+            position: 0,
+            end: t.end,
+        },
+    );
     match c {
-        Command::ReadNext => plan_motion(u, h.ie, read_one(reel, t, buffer, false)),
-        Command::ReadPrevious => plan_motion(u, h.ie, read_one(reel, t, buffer, true)),
-        Command::RereadPrevious => plan_motion(u, h.ie, reread_one(reel, t, buffer, true, h.opp)),
-        Command::RereadNext => plan_motion(u, h.ie, reread_one(reel, t, buffer, false, h.opp)),
-        Command::WriteCharacteristics => characterize(u, mem, p, h.ie),
-        Command::Write => plan_motion(u, h.ie, lay(reel, t, blocks, record, false, false)),
-        Command::WriteRetry => plan_motion(u, h.ie, lay(reel, t, blocks, record, false, true)),
-        Command::RecordsForward => plan_motion(u, h.ie, space(reel, t, x, p.count, false, false)),
-        Command::RecordsReverse => plan_motion(u, h.ie, space(reel, t, x, p.count, true, false)),
-        Command::MarksForward => plan_motion(u, h.ie, space(reel, t, x, p.count, false, true)),
-        Command::MarksReverse => plan_motion(u, h.ie, space(reel, t, x, p.count, true, true)),
-        Command::Rewind => rewind(u, h.ie),
-        Command::WriteMark => plan_motion(u, h.ie, lay(reel, t, blocks, mark, true, false)),
-        Command::Erase => plan_motion(u, h.ie, lay(reel, t, blocks, gap, false, false)),
-        Command::MarkRetry => plan_motion(u, h.ie, lay(reel, t, blocks, mark, true, true)),
-        Command::Release => release(u, h.ie),
-        Command::Unload => unload(u, h.ie),
-        Command::Clean => tell(u, h.ie, here),
-        Command::Initialize => tell(u, h.ie, here),
-        Command::GetStatus => tell(u, h.ie, here),
-        Command::Illegal => tell(u, h.ie, here),
+        Command::ReadNext => read_one(reel, t, buffer, false),
+        Command::ReadPrevious => read_one(reel, t, buffer, true),
+        Command::RereadPrevious => reread_one(reel, t, buffer, true, h.opp),
+        Command::RereadNext => reread_one(reel, t, buffer, false, h.opp),
+        Command::WriteCharacteristics => Motion::Ended(here),
+        Command::Write => lay(reel, t, blocks, record, false, false),
+        Command::WriteRetry => lay(reel, t, blocks, record, false, true),
+        Command::RecordsForward => space(reel, t, x, p.count, false, false),
+        Command::RecordsReverse => space(reel, t, x, p.count, true, false),
+        Command::MarksForward => space(reel, t, x, p.count, false, true),
+        Command::MarksReverse => space(reel, t, x, p.count, true, true),
+        Command::Rewind => Motion::Ended(start),
+        Command::WriteMark => lay(reel, t, blocks, mark, true, false),
+        Command::Erase => lay(reel, t, blocks, gap, false, false),
+        Command::MarkRetry => lay(reel, t, blocks, mark, true, true),
+        Command::Release => Motion::Ended(here),
+        Command::Unload => Motion::Ended(here),
+        Command::Clean => Motion::Ended(here),
+        Command::Initialize => Motion::Ended(here),
+        Command::GetStatus => Motion::Ended(here),
+        Command::Illegal => Motion::Ended(here),
     }
+}
+
+// All but three commands end as their motion does.
+pub fn carry_out(u: Unit, mem: &[u8], reel: &[u8], h: Header, p: Packet, c: Command) -> Plan
+    requires { ⌜ (u .tape .end ≤ capacityLimit) × DataFit c p (now mem) ⌝ }
+    ensures { λ r. ⌜ r ≡ carriedOut u (now (mem .entry)) (now (reel .entry)) h p c ⌝ }
+{
+    if let Command::WriteCharacteristics = c {
+        return characterize(u, mem, p, h.ie);
+    }
+    if let Command::Release = c {
+        return release(u, h.ie);
+    }
+    if let Command::Unload = c {
+        return unload(u, h.ie);
+    }
+    plan_motion(u, h.ie, move_tape(u, reel, h, p, c))
 }

@@ -27,7 +27,7 @@ use Rattle.motions.proofs.Ends.{Has}
 use Rattle.motions.proofs.Fit.{read-fits, space-fits}
 use Rattle.storing.specs.Outside.{OffData, OffMessage}
 use Rattle.storing.specs.Stored.{Storable, laidObject, laidObjects, laidOn, memoryAfter, reelAfter}
-use Rattle.storing.proofs.Undone.{memory-kept, reel-kept-above, reel-kept-below}
+use Rattle.storing.proofs.Staying.{memory-kept, reel-kept-above, reel-kept-below}
 use Rattle.advance.specs.Steps.{advanced}
 use Rattle.advance.proofs.Planned.{advanced-seven}
 use Rattle.demands.specs.Stays.{KeptBelow, StopsAt}

@@ -1,8 +1,7 @@
 -- An entry that was read and fits: it lies in the used journal, its places inside memory and reel, and its lengths are the mount's.
-use mathlib.Core.Path.{_≡_, refl, sym, ap, _∙_}
+use mathlib.Core.Path.{_≡_, refl, sym, _∙_}
 use mathlib.Core.Bool.{Bool, true, false, _&&_, not, and-eq-true-iff}
 use Prim.Native.Nat.{ℕ, _+_, _≤_}
-use native.Mathlib.Omega.{arith}
 use borrow.Author.Tests.{eq-eqb, eqb-true, le-leb, leb-true, not-false, not-true}
 use lib.Dec.{eqb, leb}
 use Rattle.state.specs.declared.Lengths.{Lengths}
@@ -10,7 +9,6 @@ use Rattle.touched.specs.Touches.{Sizes, TouchedIn, savedLength, touchedFits}
 use Rattle.touched.proofs.Fits.{fits-in, in-fits}
 use Rattle.entries.specs.declared.Entry.{Entry}
 use Rattle.entries.specs.Entries.{entryBare, entryFits, entryLength, sameLengths}
-use Rattle.entries.proofs.Joined.{entry-whole}
 
 same-lengths : (l k : Lengths) → sameLengths l k ≡ true → l ≡ k
 same-lengths l k h =

@@ -1,13 +1,12 @@
--- A head's bytes: how many there are, that each is a byte, and that the numbers, and so the entry, come back from them.
+-- A head's bytes: how many there are, and that the numbers, and so the entry, come back from them.
 -- (The name `Bytes` is taken: rattle makes a module `bytes` of the source.)
 use mathlib.Core.Path.{_≡_, refl}
 use mathlib.Core.List.{List, [], _∷_, _++_, append-nil}
-use Prim.Native.Nat.{ℕ, zero, suc, _+_, _*_, _/_, _%_, _<_}
+use Prim.Native.Nat.{ℕ, _+_, _*_}
 use native.Mathlib.Omega.{arith}
-use lib.ListN.{length, getD}
-use Rattle.lists.specs.Words.{Bytes}
+use lib.ListN.{length}
 use Rattle.entries.specs.declared.Entry.{Entry}
-use Rattle.entries.specs.Numbers.{Small, entryOf, numberLimit, numbersOf}
+use Rattle.entries.specs.Numbers.{Small, entryOf, numbersOf}
 use Rattle.entries.specs.Bytes.{headBytes, headCount, headNumbers, numberAt, numberBytes}
 use Rattle.entries.proofs.Back.{entry-back, length-numbers}
 
@@ -15,16 +14,6 @@ pub length-head : (ns : List ℕ) → length (headBytes ns) ≡ 4 * length ns
 unfolding headBytes
 length-head [] = refl
 length-head (n ∷ ns) = omega (arith, length-head ns)
-
--- numbers of four bytes give bytes
-pub bytes-head : (ns : List ℕ) → ((i : ℕ) → getD ns i 0 < numberLimit) → Bytes (headBytes ns)
-unfolding headBytes
-bytes-head [] h i = omega arith
-bytes-head (n ∷ ns) h zero = omega arith
-bytes-head (n ∷ ns) h (suc zero) = omega arith
-bytes-head (n ∷ ns) h (suc (suc zero)) = omega arith
-bytes-head (n ∷ ns) h (suc (suc (suc zero))) = omega (arith, h 0)
-bytes-head (n ∷ ns) h (suc (suc (suc (suc i)))) = bytes-head ns (λ j. h (suc j)) i
 
 -- a number from its bytes
 pub number-back : (n : ℕ) (r : List ℕ) → numberAt (numberBytes n ++ r) 0 ≡ n

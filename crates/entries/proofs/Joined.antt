@@ -1,13 +1,13 @@
 -- The stores that make an entry join into one run: its length, what was saved, its head.
 use mathlib.Core.Path.{_≡_, refl, sym, ap, _∙_}
 use mathlib.Core.List.{List, _++_, append-assoc}
-use Prim.Native.Nat.{ℕ, _+_, _-_, _*_, _/_, _%_, _≤_, _<_}
+use Prim.Native.Nat.{ℕ, _+_, _-_, _≤_}
 use native.Mathlib.Omega.{arith}
 use borrow.Rule.Slice.PartMut.{putMid}
-use lib.ListN.{length, take, drop, length-append, length-drop, length-take}
-use lib.Seq.{length-sets, length-take-le, sets}
+use lib.ListN.{length, length-append}
+use lib.Seq.{length-sets, sets}
 use Rattle.lists.proofs.Stores.{put-sets, sets-at}
-use Rattle.touched.specs.Touches.{TouchedIn, savedBytes, savedLength}
+use Rattle.touched.specs.Touches.{savedBytes, savedLength}
 use Rattle.touched.proofs.Parts.{length-saved}
 use Rattle.entries.specs.declared.Entry.{Entry}
 use Rattle.entries.specs.Numbers.{numbersOf}
@@ -21,11 +21,6 @@ pub entry-whole : (e : Entry) → entryLength e ≡ entryBare + savedLength (e .
 unfolding entryLength
 entry-whole e = refl
 
--- it can be counted in four bytes
-pub entry-small : (e : Entry) (memory reel : ℕ) → TouchedIn (e .touched) memory reel → entryLength e < 4294967296
-unfolding entryLength
-entry-small e memory reel i = omega (arith, i .in-memory, i .message-in-memory, i .in-reel, i .sizes .memory-small, i .sizes .reel-small)
-
 pub head-long : (e : Entry) → length (headBytes (numbersOf e)) ≡ headLength
 head-long e = rw (length-head (numbersOf e), length-numbers e)
 
@@ -35,12 +30,6 @@ length-entry e m r =
     let saved : List ℕ = savedBytes (e .touched) m r in
     let head : List ℕ = headBytes (numbersOf e) in
     omega (arith, length-append (numberBytes (entryBare + savedLength (e .touched))) (saved ++ head), length-append saved head, length-saved (e .touched) m r, head-long e)
-
--- a lent part is as long as it is meant to be
-pub lent-long : (b : List ℕ) (a x : ℕ) → a + x ≤ length b → length (take (a + x - a) (drop a b)) ≡ x
-lent-long b a x h =
-    let n : a + x - a ≡ x = omega arith in
-    rw n (length-take-le x (drop a b) (rw length-drop (omega arith)))
 
 three : (b p q r : List ℕ) (a x y : ℕ) → length p ≡ x → length q ≡ y → sets (sets (sets b a p) (a + x) q) (a + x + y) r ≡ sets b a (p ++ (q ++ r))
 three b p q r a x y k l =

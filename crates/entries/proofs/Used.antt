@@ -4,7 +4,7 @@ use mathlib.Core.List.{List, [], _∷_, _++_, append-assoc}
 use Prim.Native.Nat.{ℕ, zero, suc, _+_, _-_, _*_, _≤_, _<_}
 use native.Mathlib.Omega.{arith}
 use lib.ListN.{length, take, drop, getD, length-append, length-drop}
-use lib.Seq.{drop-at, drop-drop, getD-drop, getD-take, length-take-le, sets, sets-eq, take-at, take-take}
+use lib.Seq.{drop-at, getD-drop, getD-take, length-take-le, sets, sets-eq, take-at, take-take}
 use Rattle.tape.proofs.Runs.{part-of-front}
 use Rattle.touched.specs.Touches.{Restored, savedBytes, savedLength}
 use Rattle.touched.specs.declared.Touched.{Touched}
@@ -12,7 +12,7 @@ use Rattle.touched.proofs.Parts.{length-saved}
 use Rattle.entries.specs.declared.Entry.{Entry}
 use Rattle.entries.specs.Numbers.{Small, entryOf, numbersOf}
 use Rattle.entries.specs.Bytes.{frontLength, headBytes, headCount, headLength, headNumbers, numberAt, numberBytes}
-use Rattle.entries.specs.Entries.{entryBare, entryBytes, entryLength, newestEntry, oldestLength, savedIn, usedIn}
+use Rattle.entries.specs.Entries.{entryBytes, entryLength, newestEntry, oldestLength, savedIn, usedIn}
 use Rattle.entries.proofs.HeadBytes.{head-entry, number-back}
 use Rattle.entries.proofs.Joined.{entry-whole, head-long, length-entry}
 

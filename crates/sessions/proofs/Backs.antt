@@ -1,9 +1,9 @@
 -- A step back from any world, made up or not: it is refused and changes nothing, or the world after it passes refusals 1 to 4 again, so that the
 -- next step back can be refused with 6 or 8 alone.
-use mathlib.Core.Path.{_≡_, refl, sym, ap, _∙_}
+use mathlib.Core.Path.{_≡_, refl, _∙_}
 use mathlib.Core.Bool.{Bool, true, false, _&&_, not, and-eq-true-iff}
 use mathlib.Core.List.{List}
-use Prim.Native.Nat.{ℕ, _-_, _≤_}
+use Prim.Native.Nat.{ℕ, _-_}
 use native.Mathlib.Omega.{arith}
 use borrow.Author.Tests.{eqb-true, not-false, not-true}
 use lib.Dec.{eqb, ltb}
@@ -16,7 +16,7 @@ use Rattle.state.proofs.Tests.{either}
 use Rattle.commands.specs.declared.plans.Answer.the-variants as answer
 use Rattle.touched.specs.Touches.{memoryBack, reelBack}
 use Rattle.touched.specs.declared.Touched.{Touched}
-use Rattle.entries.specs.Entries.{entryBare, entryFits, entryLength, newestEntry, savedIn}
+use Rattle.entries.specs.Entries.{entryBare, entryFits, newestEntry, savedIn}
 use Rattle.entries.specs.declared.Entry.{Entry}
 use Rattle.entries.proofs.Fitting.{Fitting, fitting}
 use Rattle.worlds.specs.Worlds.{Answered, World, answered, sessionOf}

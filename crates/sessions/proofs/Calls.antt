@@ -1,23 +1,20 @@
 -- The calls as a machine of the session, and what holds of any session of them from a mounted reel on.
-use mathlib.Core.Path.{_≡_, refl, sym, ap, _∙_, subst}
+use mathlib.Core.Path.{_≡_, refl, sym, ap, _∙_}
 use mathlib.Core.Bool.{false}
 use mathlib.Core.List.{List, [], _∷_}
-use Prim.Native.Nat.{ℕ, _+_, _≤_}
+use Prim.Native.Nat.{ℕ, _≤_}
 use native.Mathlib.Omega.{arith}
 use lib.ListN.{length}
 use Rattle.commands.specs.declared.plans.Answer.the-variants as answer
-use Rattle.touched.specs.Touches.{savedBytes}
 use Rattle.unit.specs.Cores.{Core}
-use Rattle.unit.specs.Steps.{Step}
-use Rattle.entries.specs.Entries.{entryBytes}
-use Rattle.worlds.specs.Worlds.{Answered, World, answered}
-use Rattle.worlds.specs.Calls.{backOn, entryFor, guarded, noted, refusedAs, undone}
-use Rattle.sessions.specs.Session.{Clean, Done, Kind, Machine, Moment, Ran, after, and-did, and-saw, back, backFrom, backs, does, looked, one-did, one-saw, pops, refused, standing, start, stepped, strike}
+use Rattle.worlds.specs.Worlds.{answered}
+use Rattle.worlds.specs.Calls.{backOn, guarded, noted, refusedAs, undone}
+use Rattle.sessions.specs.Session.{Clean, Done, Kind, Machine, Moment, Ran, after, and-did, and-saw, back, backs, does, looked, one-did, one-saw, pops, refused, standing, start, stepped, strike}
 use Rattle.sessions.specs.Calling.{Call, Noted, Said, broughtBack, doing, entryAt, journalOf, kindOf, ledgerOf, lengthOf, notedAt, onCall, wordOf, worldFrom}
 use Rattle.sessions.specs.Good.{Fresh, Good}
 use Rattle.sessions.proofs.Striking.{entries-stand, fit-clean, fit-ran, one-end, strike-clean, struck, went-back}
 use Rattle.worlds.proofs.Undoing.{core-undone}
-use Rattle.sessions.proofs.Taken.{doing-keeps, doing-sound, stays, step-fit, step-undone, takenTo, took}
+use Rattle.sessions.proofs.Taken.{doing-keeps, doing-sound, stays, step-fit, step-undone, took}
 
 abbrev pub Here : Type 0
 Here = Moment Core Noted

@@ -27,7 +27,6 @@ use Rattle.worlds.specs.declared.Outcome.{Outcome}
 use Rattle.worlds.specs.Refusals.{journalLimit}
 use Rattle.worlds.specs.Calls.{mountOn, mountedBy, session}
 use Rattle.worlds.proofs.Passing.{let-pass}
-use Rattle.unit.specs.declared.mounting.Mounted.{Mounted}
 use Rattle.unit.specs.Cores.{Core}
 use Rattle.worlds.specs.Passes.{Fit}
 use Rattle.sessions.specs.Session.{Moment, refused, stepped}

@@ -1,16 +1,15 @@
 -- "A step is refused for room exactly when its entry doesn't fit", if nothing earlier refuses it.
-use mathlib.Core.Path.{_≡_, refl, sym, ap, _∙_}
+use mathlib.Core.Path.{_≡_, sym, ap}
 use mathlib.Core.Bool.{Bool}
-use Prim.Native.Nat.{ℕ, _-_, _<_}
-use native.Mathlib.Omega.{arith}
+use Prim.Native.Nat.{ℕ, _-_}
 use borrow.Author.Tests.{lt-ltb, ltb-true}
 use Rattle.lists.proofs.Cases.{by-test}
 use Rattle.commands.specs.declared.plans.Answer.{Answer}
 use Rattle.commands.specs.declared.plans.Answer.the-variants as answer
 use Rattle.unit.specs.Steps.{Step, stepOf}
 use Rattle.entries.specs.Entries.{entryLength}
-use Rattle.worlds.specs.Worlds.{Answered, World}
-use Rattle.worlds.specs.Calls.{entryFor, noRoom, refusedAs, stepOn, takenAs, takenBy}
+use Rattle.worlds.specs.Worlds.{World}
+use Rattle.worlds.specs.Calls.{entryFor, noRoom, stepOn, takenAs, takenBy}
 use Rattle.worlds.specs.Passes.{Fit}
 use Rattle.sessions.specs.Session.{refused, stepped}
 use Rattle.sessions.specs.Calling.{Call, doing, entryAt, onCall, read-register, step, stepKind}

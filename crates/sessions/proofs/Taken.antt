@@ -1,7 +1,7 @@
 -- What is known of a call that took a step, from any world that was handed to it: the checks had passed, its entry fitted, and the world after
 -- it is the step's core with the entry noted. A call that took none left the world as it was.
-use mathlib.Core.Path.{_≡_, refl, sym, ap, subst, _∙_}
-use mathlib.Core.Bool.{Bool, true, false}
+use mathlib.Core.Path.{_≡_, refl, sym, subst}
+use mathlib.Core.Bool.{Bool, false}
 use Prim.Native.Nat.{ℕ, _+_, _-_, _≤_}
 use native.Mathlib.Omega.{arith}
 use borrow.Author.Tests.{eqb-true, ltb-false}
@@ -11,7 +11,7 @@ use Rattle.lists.proofs.Cases.{by-test}
 use Rattle.state.proofs.Tests.{either}
 use Rattle.commands.specs.declared.plans.Answer.{Answer}
 use Rattle.commands.specs.declared.plans.Answer.the-variants as answer
-use Rattle.unit.specs.Asks.{Ask, Asked}
+use Rattle.unit.specs.Asks.{Ask}
 use Rattle.unit.specs.Cores.{Accepted}
 use Rattle.unit.specs.Steps.{Sound, Step, stepOf}
 use Rattle.unit.proofs.Stepping.{sound}

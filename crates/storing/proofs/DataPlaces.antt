@@ -1,12 +1,11 @@
--- The data that a Read moves: how many bytes, to which places, what they leave as it was, and what undoes them.
+-- The data that a Read moves: how many bytes, to which places, what they leave as it was.
 use mathlib.Core.Path.{_≡_}
 use mathlib.Core.Bool.{Bool, true, false}
 use mathlib.Core.List.{List}
 use Prim.Native.Nat.{ℕ, _+_, _≤_, min}
 use native.Mathlib.Omega.{arith}
 use lib.ListN.{length, getD, length-drop, length-take}
-use Rattle.lists.specs.Places.{gathered, placed}
-use Rattle.lists.proofs.Back.{put-back}
+use Rattle.lists.specs.Places.{placed}
 use Rattle.lists.proofs.Placed.{placed-other}
 use Rattle.tape.specs.Bytes.{movedBytes, movedTo, readInto, recordBytes}
 use Rattle.tape.proofs.Recorded.{record-length}
@@ -48,6 +47,3 @@ module _ (s : List ℕ) (x : Moved) (m : List ℕ) (fits : MovedFits x (length m
 
   pub data-kept : (j : ℕ) → OffData x j → getD (movedOn s x m) j 0 ≡ getD m j 0
   data-kept j f = rw moved-places (placed-other (x .swb) m (dataTo x) j (dataFrom s x) (λ i h. f i (omega (arith, length-data))))
-
-  pub data-undone : placed (x .swb) (movedOn s x m) (dataTo x) (gathered (x .swb) m (dataTo x) (movedLength x)) ≡ m
-  data-undone = rw (moved-places, ← length-data) (put-back (x .swb) m (dataTo x) (dataFrom s x))

@@ -1,5 +1,5 @@
--- Laws of storing a plan: the ways that the code returns, lengths, what is kept, and how it is undone.
+-- Laws of storing a plan: the ways that the code returns, lengths, what is kept.
 pub mod Ways
 pub mod Lengths
 pub mod DataPlaces
-pub mod Undone
+pub mod Staying

@@ -3,11 +3,9 @@ use mathlib.Core.Path.{_≡_}
 use Prim.Native.Nat.{ℕ, _≤_}
 use native.Mathlib.Omega.{arith}
 use lib.ListN.{length}
-use lib.Seq.{length-take-le}
-use Rattle.lists.specs.Words.{Bytes}
 use Rattle.state.specs.Legal.{Legal}
-use Rattle.entries.specs.Entries.{usedIn}
 use Rattle.entries.specs.Numbers.{Small}
+use Rattle.entries.proofs.Used.{length-used}
 use Rattle.worlds.specs.declared.Session.{Session}
 use Rattle.worlds.specs.Worlds.{World, sessionOf}
 use Rattle.worlds.specs.Passes.{Fit}
@@ -18,13 +16,12 @@ use Rattle.ts11.specs.Given.{Host, worldIn}
 
 -- a block's world that the checks let pass
 pub fit-in : (h : Host) → checked (sessionIn (h .block)) (length (h .memory)) (length (h .reel)) (length (h .journal)) ≡ 0 → Fit (length (h .journal)) (worldIn h)
-unfolding usedIn
 fit-in h sound =
     let s : Session = sessionIn (h .block) in
     let p = passed s (length (h .memory)) (length (h .reel)) (length (h .journal)) sound in
     record {
       sound = sound;
-      whole = length-take-le (s .used) (h .journal) (omega (arith, p .used, p .journal-is));
+      whole = length-used (s .used) (h .journal) (omega (arith, p .used, p .journal-is));
     }
 
 -- a session that the checks let pass has numbers of four bytes

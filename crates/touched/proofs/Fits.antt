@@ -1,7 +1,7 @@
 -- Places that were tested lie inside memory and reel.
-use mathlib.Core.Path.{_≡_, refl, sym, _∙_}
-use mathlib.Core.Bool.{Bool, true, false, _&&_, and-eq-true-iff}
-use Prim.Native.Nat.{ℕ, _+_, _-_, _*_, _/_, _≤_}
+use mathlib.Core.Path.{_≡_, sym, _∙_}
+use mathlib.Core.Bool.{Bool, true, _&&_, and-eq-true-iff}
+use Prim.Native.Nat.{ℕ, _+_, _-_, _/_, _≤_}
 use native.Mathlib.Omega.{arith}
 use borrow.Author.Tests.{le-leb, leb-false, leb-true, lt-leb}
 use lib.Dec.{leb}
@@ -16,10 +16,6 @@ run-difference a n limit h =
     by-test (leb a (limit - n))
     (λ t. t ∙ sym (le-leb (a + n) limit (omega (arith, leb-true a (limit - n) t))))
     (λ t. t ∙ sym (lt-leb (a + n) limit (omega (arith, leb-false a (limit - n) t))))
-
--- the reel places in bytes
-pub blocks-in : (t : Touched) (memory reel : ℕ) → TouchedIn t memory reel → blockBytes * t .«reel_at» + blockBytes * t .«reel_blocks» ≤ reel
-blocks-in t memory reel h = omega (arith, h .in-reel)
 
 module _ (t : Touched) (memory reel : ℕ) where
   abbrev dataRun : Bool

@@ -1,5 +1,5 @@
 -- What was saved, part by part.
-use mathlib.Core.Path.{_≡_, refl, sym, ap, _∙_}
+use mathlib.Core.Path.{_≡_, sym, ap, _∙_}
 use mathlib.Core.Bool.{false}
 use mathlib.Core.List.{List, _++_}
 use Prim.Native.Nat.{ℕ, _+_, _*_}
@@ -11,10 +11,6 @@ use Rattle.lists.proofs.Placed.{length-gathered}
 use Rattle.tape.specs.Numbers.{blockBytes}
 use Rattle.touched.specs.declared.Touched.{Touched}
 use Rattle.touched.specs.Touches.{savedBlocks, savedBytes, savedData, savedLength, savedMessage}
-
--- the length, written out
-pub saved-whole : (t : Touched) → savedLength t ≡ t .«data_length» + t .«message_length» + blockBytes * t .«reel_blocks»
-saved-whole t = refl
 
 module _ (t : Touched) (m r : List ℕ) where
   abbrev pub oldData : List ℕ

@@ -1,14 +1,13 @@
 -- Every step keeps to what it touches, from a core that refusals 1 to 3 let pass.
-use mathlib.Core.Path.{_≡_, refl, sym, _∙_}
+use mathlib.Core.Path.{_≡_, refl}
 use mathlib.Core.Bool.{Bool, true, false, _||_}
 use mathlib.Core.List.{List}
-use Prim.Native.Nat.{ℕ, _+_, _*_, _≤_}
+use Prim.Native.Nat.{ℕ, _+_}
 use native.Mathlib.Omega.{arith}
 use borrow.Author.Tests.{ltb-false}
 use lib.Dec.{ltb}
-use lib.ListN.{getD, length}
+use lib.ListN.{length}
 use Rattle.lists.proofs.Cases.{pick-told}
-use Rattle.tape.specs.Numbers.{blockBytes}
 use Rattle.state.specs.Changes.{initialized, operated, switchedLine, switchedLock, tsdbWritten}
 use Rattle.state.specs.Legal.{Legal}
 use Rattle.state.specs.declared.Unit.{Unit}
@@ -22,7 +21,7 @@ use Rattle.commands.specs.declared.plans.Plan.{Plan}
 use Rattle.storing.specs.Stored.{Storable}
 use Rattle.advance.specs.Steps.{advanced}
 use Rattle.advance.proofs.Planned.{advanced-seven, advanced-sound}
-use Rattle.touched.specs.Touches.{Only, Sizes, TouchedIn, none}
+use Rattle.touched.specs.Touches.{Sizes, TouchedIn, none}
 use Rattle.unit.specs.Asks.{Ask, Asked, advance, host-store, operate, write-tsdb, write-tssr}
 use Rattle.unit.specs.Cores.{Accepted, Core}
 use Rattle.unit.specs.Steps.{Sound, carried, changed, hostLimit, stepOf, storeWrong, stored}

@@ -1,5 +1,5 @@
 -- Carrying out a plan changes nothing but what it touches, and that lies inside memory and reel; a host store likewise.
-use mathlib.Core.Path.{_≡_, refl, sym, _∙_}
+use mathlib.Core.Path.{_≡_, refl, sym}
 use mathlib.Core.Bool.{Bool, true, false, true≢false}
 use mathlib.Core.List.{List}
 use Prim.Native.Nat.{ℕ, _+_, _-_, _*_, _%_, _≤_, _<_}
@@ -9,7 +9,6 @@ use lib.Dec.{ltb}
 use lib.ListN.{getD, length}
 use lib.Seq.{length-sets, sets}
 use Rattle.lists.specs.Pick.{pick}
-use Rattle.lists.specs.Places.{placed}
 use Rattle.lists.proofs.Cases.{by-test}
 use Rattle.lists.proofs.Placed.{placed-other, placed-plain}
 use Rattle.tape.specs.Numbers.{blockBytes}
@@ -22,7 +21,7 @@ use Rattle.commands.specs.declared.plans.Plan.{Plan}
 use Rattle.storing.specs.Stored.{Storable, memoryAfter, reelAfter}
 use Rattle.storing.proofs.DataPlaces.{data-inside}
 use Rattle.storing.proofs.Lengths.{length-memory, length-reel}
-use Rattle.storing.proofs.Undone.{memory-kept, reel-kept-above, reel-kept-below}
+use Rattle.storing.proofs.Staying.{memory-kept, reel-kept-above, reel-kept-below}
 use Rattle.touched.specs.Touches.{OffRun, Only, Sizes, TouchedIn}
 use Rattle.unit.specs.Touching.{hostTouched, movedPlace, touchedBy}
 

@@ -1,5 +1,5 @@
 -- The checks let pass exactly what they say: from a 0 of the checks what the call knows, and back.
-use mathlib.Core.Path.{_≡_, refl, sym, _∙_}
+use mathlib.Core.Path.{_≡_}
 use mathlib.Core.Bool.{_||_, not}
 use Prim.Native.Nat.{ℕ, _+_, _-_, _*_, _≤_, _<_}
 use native.Mathlib.Omega.{arith}
@@ -14,7 +14,7 @@ use Rattle.state.specs.Checks.{refusalOf, stateWrong}
 use Rattle.state.proofs.Legal.{accepted, right}
 use Rattle.state.proofs.Tests.{neither}
 use Rattle.touched.specs.Touches.{Sizes}
-use Rattle.unit.specs.Cores.{Accepted, Core}
+use Rattle.unit.specs.Cores.{Accepted}
 use Rattle.unit.proofs.Stepping.{core-sizes}
 use Rattle.entries.specs.Entries.{entryLength}
 use Rattle.entries.specs.declared.Entry.{Entry}

@@ -1,9 +1,8 @@
 -- A step is undone by its entry: a law of the core, for any step that changes nothing but what it touches. The ledger gives the entry back as
 -- it was noted: a law of the ledger. Together: the step back after a step gives the world before it.
 use mathlib.Core.Path.{_≡_, refl, sym, ap, _∙_}
-use mathlib.Core.Bool.{true, false, not}
-use mathlib.Core.List.{List, _++_}
-use Prim.Native.Nat.{ℕ, _+_, _-_, _≤_, _<_}
+use mathlib.Core.Bool.{true, false}
+use Prim.Native.Nat.{ℕ, _+_, _-_, _≤_}
 use native.Mathlib.Omega.{arith}
 use borrow.Author.Tests.{ne-eqb, le-ltb}
 use lib.ListN.{length, length-append}
@@ -15,7 +14,7 @@ use Rattle.touched.specs.Touches.{TouchedIn, savedBytes}
 use Rattle.touched.proofs.PutBack.{memory-put-back, reel-put-back}
 use Rattle.unit.specs.Cores.{Core}
 use Rattle.unit.specs.Steps.{Sound, Step}
-use Rattle.entries.specs.Entries.{entryBare, entryBytes, entryFits, entryLength, newestEntry, savedIn, usedIn}
+use Rattle.entries.specs.Entries.{entryBare, entryBytes, entryFits, entryLength, newestEntry, savedIn}
 use Rattle.entries.specs.Numbers.{Small}
 use Rattle.entries.specs.declared.Entry.{Entry}
 use Rattle.entries.proofs.Joined.{entry-whole, length-entry}
@@ -24,7 +23,7 @@ use Rattle.entries.proofs.Fitting.{fits}
 use Rattle.worlds.specs.Worlds.{Ledger, World, answered, sessionOf}
 use Rattle.worlds.specs.Passes.{Fit, Passed}
 use Rattle.worlds.specs.Refusals.{checked}
-use Rattle.worlds.specs.Calls.{backOn, entryFor, entryWrong, guarded, noRoom, noted, refusedAs, takenAs, undoBy, undoOn, undone, without}
+use Rattle.worlds.specs.Calls.{backOn, entryFor, entryWrong, guarded, noRoom, noted, takenAs, undoBy, undoOn, undone, without}
 use Rattle.worlds.proofs.Passing.{let-pass, passed}
 
 -- the core: whatever a step did to it, its entry undoes it

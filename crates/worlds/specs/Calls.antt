@@ -1,5 +1,5 @@
 -- The eight calls, each as a function of the world. (01, "Calls" and the table of refusals) A call is lent a journal of n bytes.
-use mathlib.Core.Bool.{Bool, true, false, _&&_, not}
+use mathlib.Core.Bool.{Bool, false, _&&_, not}
 use mathlib.Core.List.{List, _++_}
 use Prim.Native.Nat.{ℕ, _+_, _-_}
 use lib.Dec.{eqb, ltb}
@@ -16,7 +16,6 @@ use Rattle.unit.specs.Steps.{Step, stepOf}
 use Rattle.unit.specs.Registers.{registerWord}
 use Rattle.unit.specs.Mounts.{mountCall, mountRefusal}
 use Rattle.unit.specs.declared.registers.Register.{Register}
-use Rattle.unit.specs.declared.mounting.Mounted.{Mounted}
 use Rattle.entries.specs.Entries.{entryBare, entryBytes, entryFits, entryLength, newestEntry, savedIn, usedIn}
 use Rattle.entries.specs.declared.Entry.{Entry}
 use Rattle.worlds.specs.Worlds.{Answered, Ledger, World, answered, sessionOf}

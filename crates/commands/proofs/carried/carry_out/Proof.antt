@@ -1,359 +1,68 @@
--- `carry_out` meets its contract: an arm for each command.
+-- `carry_out` meets its contract: three commands apart, and all else by its motion.
+use mathlib.Core.Path.{ap, _∙_}
+use Rattle.commands.specs.Ends.{motionPlan}
+use Rattle.commands.specs.Commands.{carriedOut}
+use Rattle.commands.proofs.Moving.{ends-as-moved}
 use borrow.Author.Needs.{needs}
-use Rattle.commands.specs.Commands.{carriedOut, formatted, plainEffect, positionedBy, readBy, rereadBy, writtenBy}
 use Rattle.commands.proofs.carried.carry_out.Statement.{statement}
 use Rattle.commands.proofs.carried.carry_out.Tie as tie
-
-asked-buffer-requires : tie.Need-asked-buffer-requires
-asked-buffer-requires c κs = search needs
-
-lay-here-requires : tie.Need-lay-here-requires
-lay-here-requires c κs = search needs
-
-lay-here-requires-2 : tie.Need-lay-here-requires-2
-lay-here-requires-2 c κs = search needs
-
-lay-here-requires-3 : tie.Need-lay-here-requires-3
-lay-here-requires-3 c κs = search needs
-
-plain-end-requires : tie.Need-plain-end-requires
-plain-end-requires c κs = search needs
-
-rest-requires : tie.Need-rest-requires
-rest-requires c κs = search needs
 
 enum-told : tie.Need-enum-told
 enum-told c = search needs
 
-read-one-requires : tie.Need-read-one-requires
-read-one-requires c κs = search needs
+characterize-requires : tie.Need-characterize-requires
+characterize-requires c κs = c .before .before .before .before .pre .1 (c .enum-told .given .1)
 
-plan-motion-requires : tie.Need-plan-motion-requires
-plan-motion-requires c κs = search needs
+returns : tie.Need-returns
+unfolding carriedOut
+returns c = rw (c .before .enum-told .given .1) (c .characterize .ensures)
 
 enum-told-2 : tie.Need-enum-told-2
 enum-told-2 c = search needs
 
-read-one-requires-2 : tie.Need-read-one-requires-2
-read-one-requires-2 c κs = search needs
+release-requires : tie.Need-release-requires
+release-requires c κs = search needs
 
-plan-motion-requires-2 : tie.Need-plan-motion-requires-2
-plan-motion-requires-2 c κs = search needs
+returns-2 : tie.Need-returns-2
+unfolding carriedOut
+returns-2 c = rw (c .before .enum-told2 .given .1) (c .release .ensures)
 
 enum-told-3 : tie.Need-enum-told-3
 enum-told-3 c = search needs
 
-reread-one-requires : tie.Need-reread-one-requires
-reread-one-requires c κs = search needs
-
-plan-motion-requires-3 : tie.Need-plan-motion-requires-3
-plan-motion-requires-3 c κs = search needs
-
-enum-told-4 : tie.Need-enum-told-4
-enum-told-4 c = search needs
-
-reread-one-requires-2 : tie.Need-reread-one-requires-2
-reread-one-requires-2 c κs = search needs
-
-plan-motion-requires-4 : tie.Need-plan-motion-requires-4
-plan-motion-requires-4 c κs = search needs
-
-enum-told-5 : tie.Need-enum-told-5
-enum-told-5 c = search needs
-
-characterize-requires : tie.Need-characterize-requires
-characterize-requires c κs = c .before .before .before .before .before .before .before .before .before .before .before .before .pre .1 (c .enum-told5 .given .1)
-
-enum-told-6 : tie.Need-enum-told-6
-enum-told-6 c = search needs
-
-lay-requires : tie.Need-lay-requires
-lay-requires c κs = search needs
-
-plan-motion-requires-5 : tie.Need-plan-motion-requires-5
-plan-motion-requires-5 c κs = search needs
-
-enum-told-7 : tie.Need-enum-told-7
-enum-told-7 c = search needs
-
-lay-requires-2 : tie.Need-lay-requires-2
-lay-requires-2 c κs = search needs
-
-plan-motion-requires-6 : tie.Need-plan-motion-requires-6
-plan-motion-requires-6 c κs = search needs
-
-enum-told-8 : tie.Need-enum-told-8
-enum-told-8 c = search needs
-
-space-requires : tie.Need-space-requires
-space-requires c κs = c .before .before .before .before .before .before .before .before .before .before .before .before .pre .0
-
-plan-motion-requires-7 : tie.Need-plan-motion-requires-7
-plan-motion-requires-7 c κs = search needs
-
-enum-told-9 : tie.Need-enum-told-9
-enum-told-9 c = search needs
-
-space-requires-2 : tie.Need-space-requires-2
-space-requires-2 c κs = c .before .before .before .before .before .before .before .before .before .before .before .before .pre .0
-
-plan-motion-requires-8 : tie.Need-plan-motion-requires-8
-plan-motion-requires-8 c κs = search needs
-
-enum-told-10 : tie.Need-enum-told-10
-enum-told-10 c = search needs
-
-space-requires-3 : tie.Need-space-requires-3
-space-requires-3 c κs = c .before .before .before .before .before .before .before .before .before .before .before .before .pre .0
-
-plan-motion-requires-9 : tie.Need-plan-motion-requires-9
-plan-motion-requires-9 c κs = search needs
-
-enum-told-11 : tie.Need-enum-told-11
-enum-told-11 c = search needs
-
-space-requires-4 : tie.Need-space-requires-4
-space-requires-4 c κs = c .before .before .before .before .before .before .before .before .before .before .before .before .pre .0
-
-plan-motion-requires-10 : tie.Need-plan-motion-requires-10
-plan-motion-requires-10 c κs = search needs
-
-enum-told-12 : tie.Need-enum-told-12
-enum-told-12 c = search needs
-
-rewind-requires : tie.Need-rewind-requires
-rewind-requires c κs = search needs
-
-enum-told-13 : tie.Need-enum-told-13
-enum-told-13 c = search needs
-
-lay-requires-3 : tie.Need-lay-requires-3
-lay-requires-3 c κs = search needs
-
-plan-motion-requires-11 : tie.Need-plan-motion-requires-11
-plan-motion-requires-11 c κs = search needs
-
-enum-told-14 : tie.Need-enum-told-14
-enum-told-14 c = search needs
-
-lay-requires-4 : tie.Need-lay-requires-4
-lay-requires-4 c κs = search needs
-
-plan-motion-requires-12 : tie.Need-plan-motion-requires-12
-plan-motion-requires-12 c κs = search needs
-
-enum-told-15 : tie.Need-enum-told-15
-enum-told-15 c = search needs
-
-lay-requires-5 : tie.Need-lay-requires-5
-lay-requires-5 c κs = search needs
-
-plan-motion-requires-13 : tie.Need-plan-motion-requires-13
-plan-motion-requires-13 c κs = search needs
-
-enum-told-16 : tie.Need-enum-told-16
-enum-told-16 c = search needs
-
-release-requires : tie.Need-release-requires
-release-requires c κs = search needs
-
-enum-told-17 : tie.Need-enum-told-17
-enum-told-17 c = search needs
-
 unload-requires : tie.Need-unload-requires
 unload-requires c κs = search needs
 
-enum-told-18 : tie.Need-enum-told-18
-enum-told-18 c = search needs
-
-tell-requires : tie.Need-tell-requires
-tell-requires c κs = search needs
-
-enum-told-19 : tie.Need-enum-told-19
-enum-told-19 c = search needs
-
-tell-requires-2 : tie.Need-tell-requires-2
-tell-requires-2 c κs = search needs
-
-enum-told-20 : tie.Need-enum-told-20
-enum-told-20 c = search needs
-
-tell-requires-3 : tie.Need-tell-requires-3
-tell-requires-3 c κs = search needs
-
-enum-told-21 : tie.Need-enum-told-21
-enum-told-21 c = search needs
-
-tell-requires-4 : tie.Need-tell-requires-4
-tell-requires-4 c κs = search needs
-
-returns : tie.Need-returns
-unfolding carriedOut readBy
-returns c = rw (c .before .before .enum-told .given .1, ← c .before .before .before .before .before .before .before .before .before .asked-buffer .ensures, ← c .before .read-one .ensures) (c .plan-motion .ensures)
-
-returns-2 : tie.Need-returns-2
-unfolding carriedOut readBy
-returns-2 c = rw (c .before .before .enum-told2 .given .1, ← c .before .before .before .before .before .before .before .before .before .asked-buffer .ensures, ← c .before .read-one2 .ensures) (c .plan-motion2 .ensures)
-
 returns-3 : tie.Need-returns-3
-unfolding carriedOut rereadBy
-returns-3 c = rw (c .before .before .enum-told3 .given .1, ← c .before .before .before .before .before .before .before .before .before .asked-buffer .ensures, ← c .before .reread-one .ensures) (c .plan-motion3 .ensures)
+unfolding carriedOut
+returns-3 c = rw (c .before .enum-told3 .given .1) (c .unload .ensures)
+
+move-tape-requires : tie.Need-move-tape-requires
+move-tape-requires c κs = search needs
+
+plan-motion-requires : tie.Need-plan-motion-requires
+plan-motion-requires c κs = search needs
 
 returns-4 : tie.Need-returns-4
-unfolding carriedOut rereadBy
-returns-4 c = rw (c .before .before .enum-told4 .given .1, ← c .before .before .before .before .before .before .before .before .before .asked-buffer .ensures, ← c .before .reread-one2 .ensures) (c .plan-motion4 .ensures)
-
-returns-5 : tie.Need-returns-5
-unfolding carriedOut
-returns-5 c = rw (c .before .enum-told5 .given .1) (c .characterize .ensures)
-
-returns-6 : tie.Need-returns-6
-unfolding carriedOut writtenBy
-returns-6 c = rw (c .before .before .enum-told6 .given .1, ← c .before .before .before .before .before .before .before .before .lay-here .ensures, ← c .before .lay .ensures) (c .plan-motion5 .ensures)
-
-returns-7 : tie.Need-returns-7
-unfolding carriedOut writtenBy
-returns-7 c = rw (c .before .before .enum-told7 .given .1, ← c .before .before .before .before .before .before .before .before .lay-here .ensures, ← c .before .lay2 .ensures) (c .plan-motion6 .ensures)
-
-returns-8 : tie.Need-returns-8
-unfolding carriedOut positionedBy
-returns-8 c = rw (c .before .before .enum-told8 .given .1, ← c .before .space .ensures) (c .plan-motion7 .ensures)
-
-returns-9 : tie.Need-returns-9
-unfolding carriedOut positionedBy
-returns-9 c = rw (c .before .before .enum-told9 .given .1, ← c .before .space2 .ensures) (c .plan-motion8 .ensures)
-
-returns-10 : tie.Need-returns-10
-unfolding carriedOut positionedBy
-returns-10 c = rw (c .before .before .enum-told10 .given .1, ← c .before .space3 .ensures) (c .plan-motion9 .ensures)
-
-returns-11 : tie.Need-returns-11
-unfolding carriedOut positionedBy
-returns-11 c = rw (c .before .before .enum-told11 .given .1, ← c .before .space4 .ensures) (c .plan-motion10 .ensures)
-
-returns-12 : tie.Need-returns-12
-unfolding carriedOut
-returns-12 c = rw (c .before .enum-told12 .given .1) (c .rewind .ensures)
-
-returns-13 : tie.Need-returns-13
-unfolding carriedOut formatted
-returns-13 c = rw (c .before .before .enum-told13 .given .1, ← c .before .before .before .before .before .before .before .lay-here2 .ensures, ← c .before .lay3 .ensures) (c .plan-motion11 .ensures)
-
-returns-14 : tie.Need-returns-14
-unfolding carriedOut formatted
-returns-14 c = rw (c .before .before .enum-told14 .given .1, ← c .before .before .before .before .before .before .lay-here3 .ensures, ← c .before .lay4 .ensures) (c .plan-motion12 .ensures)
-
-returns-15 : tie.Need-returns-15
-unfolding carriedOut formatted
-returns-15 c = rw (c .before .before .enum-told15 .given .1, ← c .before .before .before .before .before .before .before .lay-here2 .ensures, ← c .before .lay5 .ensures) (c .plan-motion13 .ensures)
-
-returns-16 : tie.Need-returns-16
-unfolding carriedOut
-returns-16 c = rw (c .before .enum-told16 .given .1) (c .release .ensures)
-
-returns-17 : tie.Need-returns-17
-unfolding carriedOut
-returns-17 c = rw (c .before .enum-told17 .given .1) (c .unload .ensures)
-
-returns-18 : tie.Need-returns-18
-unfolding carriedOut plainEffect
-returns-18 c = rw (c .before .enum-told18 .given .1, ← c .before .before .before .before .plain-end .ensures, ← c .before .before .before .rest .ensures) (c .tell .ensures)
-
-returns-19 : tie.Need-returns-19
-unfolding carriedOut plainEffect
-returns-19 c = rw (c .before .enum-told19 .given .1, ← c .before .before .before .before .plain-end .ensures, ← c .before .before .before .rest .ensures) (c .tell2 .ensures)
-
-returns-20 : tie.Need-returns-20
-unfolding carriedOut plainEffect
-returns-20 c = rw (c .before .enum-told20 .given .1, ← c .before .before .before .before .plain-end .ensures, ← c .before .before .before .rest .ensures) (c .tell3 .ensures)
-
-returns-21 : tie.Need-returns-21
-unfolding carriedOut plainEffect
-returns-21 c = rw (c .before .enum-told21 .given .1, ← c .before .before .before .before .plain-end .ensures, ← c .before .before .before .rest .ensures) (c .tell4 .ensures)
+returns-4 c =
+    let s = c .before .before .before .before .before .before .before .args in
+    c .plan-motion .ensures
+    ∙ ap (motionPlan (s .u) (s .h .ie)) (c .before .move-tape .ensures)
+    ∙ ends-as-moved (s .u) (s .mem .now) (s .reel .now) (s .h) (s .p) (s .c) (c .before .before .before .before .match .keys2) (c .before .before .before .match2 .keys2) (c .before .before .match3 .keys2)
 
 pub carry-out-spec : {M : Type 1} → statement M
 carry-out-spec =
     tie.close
     (tie.spec
-    asked-buffer-requires
-    lay-here-requires
-    lay-here-requires-2
-    lay-here-requires-3
-    plain-end-requires
-    rest-requires
     enum-told
-    read-one-requires
-    plan-motion-requires
-    enum-told-2
-    read-one-requires-2
-    plan-motion-requires-2
-    enum-told-3
-    reread-one-requires
-    plan-motion-requires-3
-    enum-told-4
-    reread-one-requires-2
-    plan-motion-requires-4
-    enum-told-5
     characterize-requires
-    enum-told-6
-    lay-requires
-    plan-motion-requires-5
-    enum-told-7
-    lay-requires-2
-    plan-motion-requires-6
-    enum-told-8
-    space-requires
-    plan-motion-requires-7
-    enum-told-9
-    space-requires-2
-    plan-motion-requires-8
-    enum-told-10
-    space-requires-3
-    plan-motion-requires-9
-    enum-told-11
-    space-requires-4
-    plan-motion-requires-10
-    enum-told-12
-    rewind-requires
-    enum-told-13
-    lay-requires-3
-    plan-motion-requires-11
-    enum-told-14
-    lay-requires-4
-    plan-motion-requires-12
-    enum-told-15
-    lay-requires-5
-    plan-motion-requires-13
-    enum-told-16
-    release-requires
-    enum-told-17
-    unload-requires
-    enum-told-18
-    tell-requires
-    enum-told-19
-    tell-requires-2
-    enum-told-20
-    tell-requires-3
-    enum-told-21
-    tell-requires-4
     returns
+    enum-told-2
+    release-requires
     returns-2
+    enum-told-3
+    unload-requires
     returns-3
-    returns-4
-    returns-5
-    returns-6
-    returns-7
-    returns-8
-    returns-9
-    returns-10
-    returns-11
-    returns-12
-    returns-13
-    returns-14
-    returns-15
-    returns-16
-    returns-17
-    returns-18
-    returns-19
-    returns-20
-    returns-21)
+    move-tape-requires
+    plan-motion-requires
+    returns-4)

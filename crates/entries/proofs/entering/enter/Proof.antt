@@ -1,6 +1,6 @@
+-- `enter` meets its contract: the length, what is saved and the head join.
 use mathlib.Core.Path.{refl}
 use native.Mathlib.Omega.{arith}
--- `enter` meets its contract: the length, what is saved and the head join.
 use Rattle.entries.proofs.Joined.{entry-entered, entry-whole}
 use borrow.Author.Needs.{needs}
 use Rattle.entries.proofs.entering.enter.Statement.{statement}

@@ -1,5 +1,5 @@
-use native.Mathlib.Omega.{arith}
 -- `bring_entry_back` meets its contract: what it lends is what the entry saved.
+use native.Mathlib.Omega.{arith}
 use Rattle.entries.proofs.Joined.{entry-whole}
 use Rattle.entries.proofs.Used.{brought-as, saved-lent, saved-read}
 use borrow.Author.Needs.{needs}

@@ -1,5 +1,5 @@
-use native.Mathlib.Omega.{arith}
 -- `entry_fits` is its definition.
+use native.Mathlib.Omega.{arith}
 use Rattle.entries.proofs.Fitting.{fit-by, places-in, unfit}
 use mathlib.Core.Path.{refl}
 use borrow.Author.Needs.{needs}

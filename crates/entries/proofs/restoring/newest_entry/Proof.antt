@@ -1,4 +1,3 @@
-use native.Mathlib.Omega.{arith}
 -- `newest_entry` reads what stands in the used journal alone.
 use Rattle.entries.proofs.Used.{newest-read}
 use borrow.Author.Needs.{needs}
