@@ -10,7 +10,7 @@ use Rattle.state.specs.Legal.{Legal}
 use Rattle.state.specs.declared.Unit.{Unit}
 use Rattle.commands.specs.Ends.{ended, still, told, untold}
 use Rattle.commands.specs.declared.plans.Plan.{Plan}
-use Rattle.commands.proofs.Every.{Stands, Tells, every-carried}
+use Rattle.commands.proofs.Every.{Stands, ToldAll, every-carried}
 use Rattle.advance.specs.Steps.{advanced}
 use Rattle.advance.proofs.Carrying.{carried-sound}
 use Rattle.advance.proofs.Sound.{resting-fits, same-lengths, still-sound, told-sound, untold-sound}
@@ -19,7 +19,7 @@ pub use Rattle.advance.proofs.Sound.{SoundPlan}
 
 module _ (u : Unit) (m s : List ℕ) where
   -- what holds of every end that is told and of every plan that stores nothing holds of an advance
-  pub every-advanced : (P : Plan → Type 0) → Tells (u .characteristics) (length m) P → Stands (u .characteristics) (length m) P → P (advanced u m s)
+  pub every-advanced : (P : Plan → Type 0) → ToldAll (u .characteristics) (length m) P → Stands (u .characteristics) (length m) P → P (advanced u m s)
   unfolding untold ended
   every-advanced P tells stands =
       advanced-all u m s P (λ v a ie x h. tells v (inl (a .characteristics)) ie _) (λ v a class i h. stands _ (inl (a .characteristics)) _)

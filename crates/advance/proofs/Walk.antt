@@ -29,17 +29,17 @@ use Rattle.advance.specs.Steps.{advanced, attended, rejected, stepAttent
 use Rattle.advance.proofs.Extents.{extent, hasData}
 
 -- v differs from u in switches and attention alone
-pub record Alike (u v : Unit) : Type 0 where
+pub record Akin (u v : Unit) : Type 0 where
   pub tape : v .tape ≡ u .tape
   pub registers : v .registers ≡ u .registers
   pub characteristics : v .characteristics ≡ u .characteristics
   pub lengths : v .lengths ≡ u .lengths
 
-pub same : (u : Unit) → Alike u u
+pub same : (u : Unit) → Akin u u
 same u = record { tape = refl; registers = refl; characteristics = refl; lengths = refl }
 
 -- and so it is legal if u is
-pub alike-legal : (u v : Unit) → Alike u v → Legal u → Legal v
+pub alike-legal : (u v : Unit) → Akin u v → Legal u → Legal v
 alike-legal u v a l =
     legal-with u v l (a .lengths)
     (rw (a .tape) (l .place))
@@ -50,28 +50,28 @@ alike-legal u v a l =
 
 -- the end of a step, told or not
 abbrev pub Rejects : Unit → (Plan → Type 0) → Type 0
-Rejects u P = (v : Unit) → Alike u v → (ie : Bool) (x : End) → x .class ≤ lastClass → P (told v ie (resting x (v .tape)))
+Rejects u P = (v : Unit) → Akin u v → (ie : Bool) (x : End) → x .class ≤ lastClass → P (told v ie (resting x (v .tape)))
 
 abbrev pub Untold : Unit → (Plan → Type 0) → Type 0
-Untold u P = (v : Unit) → Alike u v → (class : ℕ) (interrupts : Bool) → class ≤ lastClass → P (untold v class interrupts)
+Untold u P = (v : Unit) → Akin u v → (class : ℕ) (interrupts : Bool) → class ≤ lastClass → P (untold v class interrupts)
 
 -- a command carried out: its written length is in range (step 9) and its data lie inside memory (step 10)
 abbrev pub Carries : Unit → List ℕ → List ℕ → (Plan → Type 0) → Type 0
 Carries u m s P =
-    (v : Unit) → Alike u v → (h : Header) (p : Packet) → lengthWrong h (p .count) ≡ false → (hasData (commandOf (h .code) (h .mode)) ≡ true → p .pointer + p .count ≤ length m)
+    (v : Unit) → Akin u v → (h : Header) (p : Packet) → lengthWrong h (p .count) ≡ false → (hasData (commandOf (h .code) (h .mode)) ≡ true → p .pointer + p .count ≤ length m)
     → P (carriedOut v m s h p (commandOf (h .code) (h .mode)))
 
 module _ (u : Unit) (m s : List ℕ) (P : Plan → Type 0) (rejects : Rejects u P) (untolds : Untold u P) (carries : Carries u m s P) where
-  rejected-all : (v : Unit) → Alike u v → (ie : Bool) (class found : ℕ) (left : Residual) → class ≤ lastClass → P (rejected v ie class found left)
+  rejected-all : (v : Unit) → Akin u v → (ie : Bool) (class found : ℕ) (left : Residual) → class ≤ lastClass → P (rejected v ie class found left)
   unfolding rejected
   rejected-all v a ie class found left h = rejects v a ie _ h
 
-  attended-all : (v : Unit) → Alike u v → (ie : Bool) → P (attended v ie)
+  attended-all : (v : Unit) → Akin u v → (ie : Bool) → P (attended v ie)
   unfolding attended
   attended-all v a ie =
       rejected-all _ (record { tape = a .tape; registers = a .registers; characteristics = a .characteristics; lengths = a .lengths }) ie 1 0 _ (omega arith)
 
-  module _ (v : Unit) (a : Alike u v) (h : Header) where
+  module _ (v : Unit) (a : Akin u v) (h : Header) where
     extent-all : (p : Packet) → lengthWrong h (p .count) ≡ false → P (stepExtent v m s h p)
     unfolding stepExtent
     extent-all p f =
@@ -105,7 +105,7 @@ module _ (u : Unit) (m s : List ℕ) (P : Plan → Type 0) (rejects : Rejects u 
     illegal-all =
         either P (not (h .plain) || isIllegal (commandOf (h .code) (h .mode))) _ _ (rejected-all v a (h .ie) 3 _ _ (omega arith)) no-buffer-all
 
-  module _ (v : Unit) (a : Alike u v) (h : Header) where
+  module _ (v : Unit) (a : Akin u v) (h : Header) where
     volume-all : P (stepVolume v m s h)
     unfolding stepVolume
     volume-all =

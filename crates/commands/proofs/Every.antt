@@ -32,13 +32,13 @@ abbrev pub Buffered : Characteristics → ℕ → Unit → Type 0
 Buffered c memory v = (v .characteristics ≡ c) ⊎ BufferFits (v .characteristics) memory
 
 -- every end that is told, and every plan that stores nothing
-abbrev pub Tells : Characteristics → ℕ → (Plan → Type 0) → Type 0
-Tells c memory P = (v : Unit) → Buffered c memory v → (ie : Bool) (x : Ending) → P (told v ie x)
+abbrev pub ToldAll : Characteristics → ℕ → (Plan → Type 0) → Type 0
+ToldAll c memory P = (v : Unit) → Buffered c memory v → (ie : Bool) (x : Ending) → P (told v ie x)
 
 abbrev pub Stands : Characteristics → ℕ → (Plan → Type 0) → Type 0
 Stands c memory P = (v : Unit) → Buffered c memory v → (a : Answer) → P (still v a)
 
-module _ (u : Unit) (m : List ℕ) (P : Plan → Type 0) (tells : Tells (u .characteristics) (length m) P) (stands : Stands (u .characteristics) (length m) P) where
+module _ (u : Unit) (m : List ℕ) (P : Plan → Type 0) (tells : ToldAll (u .characteristics) (length m) P) (stands : Stands (u .characteristics) (length m) P) where
   moves : (ie : Bool) (y : Motion) → P (motionPlan u ie y)
   moves ie y = motion-either u ie P y (λ x e. tells u (inl refl) ie x) (λ k e. stands u (inl refl) _)
 

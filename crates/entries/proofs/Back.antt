@@ -7,7 +7,7 @@ use lib.Dec.{eqb}
 use lib.ListN.{length}
 use Rattle.entries.specs.declared.Entry.{Entry}
 use Rattle.entries.specs.Bytes.{headCount}
-use Rattle.entries.specs.Numbers.{Small, bit, entryOf, numberLimit, numbersOf, touchedOf, unitOf}
+use Rattle.entries.specs.Numbers.{Small, bitOf, entryOf, numberLimit, numbersOf, touchedOf, unitOf}
 
 pub length-numbers : (e : Entry) → length (numbersOf e) ≡ headCount
 unfolding numbersOf
@@ -17,7 +17,7 @@ length-numbers e = refl
 low : (x : ℕ) → x < numberLimit → x % numberLimit ≡ x
 low x h = omega arith
 
-told : (b : Bool) → not (eqb (bit b) 0) ≡ b
+told : (b : Bool) → not (eqb (bitOf b) 0) ≡ b
 told true = refl
 told false = refl
 

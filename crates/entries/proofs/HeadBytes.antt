@@ -7,11 +7,11 @@ use native.Mathlib.Omega.{arith}
 use lib.ListN.{length}
 use Rattle.entries.specs.declared.Entry.{Entry}
 use Rattle.entries.specs.Numbers.{Small, entryOf, numbersOf}
-use Rattle.entries.specs.Bytes.{headBytes, headCount, headNumbers, numberAt, numberBytes}
+use Rattle.entries.specs.Bytes.{numbersBytes, headCount, headNumbers, numberAt, numberBytes}
 use Rattle.entries.proofs.Back.{entry-back, length-numbers}
 
-pub length-head : (ns : List ℕ) → length (headBytes ns) ≡ 4 * length ns
-unfolding headBytes
+pub length-head : (ns : List ℕ) → length (numbersBytes ns) ≡ 4 * length ns
+unfolding numbersBytes
 length-head [] = refl
 length-head (n ∷ ns) = omega (arith, length-head ns)
 
@@ -19,10 +19,10 @@ length-head (n ∷ ns) = omega (arith, length-head ns)
 pub number-back : (n : ℕ) (r : List ℕ) → numberAt (numberBytes n ++ r) 0 ≡ n
 number-back n r = omega arith
 
-pub head-back : (ns rest : List ℕ) → headNumbers (length ns) (headBytes ns ++ rest) ≡ ns
-unfolding headBytes headNumbers
+pub head-back : (ns rest : List ℕ) → headNumbers (length ns) (numbersBytes ns ++ rest) ≡ ns
+unfolding numbersBytes headNumbers
 head-back [] rest = refl
-head-back (n ∷ ns) rest = rw (number-back n (headBytes ns ++ rest), head-back ns rest)
+head-back (n ∷ ns) rest = rw (number-back n (numbersBytes ns ++ rest), head-back ns rest)
 
-pub head-entry : (e : Entry) → Small e → entryOf (headNumbers headCount (headBytes (numbersOf e))) ≡ e
-head-entry e h = rw (← length-numbers e, ← append-nil (headBytes (numbersOf e)), head-back (numbersOf e) []) (entry-back e h)
+pub head-entry : (e : Entry) → Small e → entryOf (headNumbers headCount (numbersBytes (numbersOf e))) ≡ e
+head-entry e h = rw (← length-numbers e, ← append-nil (numbersBytes (numbersOf e)), head-back (numbersOf e) []) (entry-back e h)

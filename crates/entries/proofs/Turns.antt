@@ -8,15 +8,15 @@ use native.Mathlib.Omega.{arith}
 use lib.ListN.{length, drop, getD, set, drop-of-length-le}
 use lib.Seq.{sets, drop-cons, drop-drop, getD-drop}
 use Rattle.lists.proofs.Stores.{sets-at}
-use Rattle.entries.specs.Bytes.{headBytes, headNumbers, numberAt, numberBytes}
+use Rattle.entries.specs.Bytes.{numbersBytes, headNumbers, numberAt, numberBytes}
 
-pub put-turn : (b n : List ℕ) (at i : ℕ) → i < length n → sets (sets b (at + 4 * i) (numberBytes (getD n i 0))) (at + 4 * (i + 1)) (headBytes (drop (i + 1) n)) ≡ sets b (at + 4 * i) (headBytes (drop i n))
-unfolding headBytes
-put-turn b n at i h = rw (add-one i, drop-cons n i 0 h) (sets-at (numberBytes (getD n i 0)) (headBytes (drop (suc i) n)) b (at + 4 * i) (at + 4 * suc i) (omega arith))
+pub put-turn : (b n : List ℕ) (at i : ℕ) → i < length n → sets (sets b (at + 4 * i) (numberBytes (getD n i 0))) (at + 4 * (i + 1)) (numbersBytes (drop (i + 1) n)) ≡ sets b (at + 4 * i) (numbersBytes (drop i n))
+unfolding numbersBytes
+put-turn b n at i h = rw (add-one i, drop-cons n i 0 h) (sets-at (numberBytes (getD n i 0)) (numbersBytes (drop (suc i) n)) b (at + 4 * i) (at + 4 * suc i) (omega arith))
 
 -- and when none is left, nothing is done
-pub put-end : (b n : List ℕ) (at i : ℕ) → length n ≤ i → sets b at (headBytes (drop i n)) ≡ b
-unfolding headBytes
+pub put-end : (b n : List ℕ) (at i : ℕ) → length n ≤ i → sets b at (numbersBytes (drop i n)) ≡ b
+unfolding numbersBytes
 put-end b n at i h = rw (drop-of-length-le n h)
 
 -- the number at p is the first of what stands from p on

@@ -11,7 +11,7 @@ use Rattle.touched.specs.declared.Touched.{Touched}
 use Rattle.touched.proofs.Parts.{length-saved}
 use Rattle.entries.specs.declared.Entry.{Entry}
 use Rattle.entries.specs.Numbers.{Small, entryOf, numbersOf}
-use Rattle.entries.specs.Bytes.{frontLength, headBytes, headCount, headLength, headNumbers, numberAt, numberBytes}
+use Rattle.entries.specs.Bytes.{frontLength, numbersBytes, headCount, headLength, headNumbers, numberAt, numberBytes}
 use Rattle.entries.specs.Entries.{entryBytes, entryLength, newestEntry, oldestLength, savedIn, usedIn}
 use Rattle.entries.proofs.HeadBytes.{head-entry, number-back}
 use Rattle.entries.proofs.Joined.{entry-whole, head-long, length-entry}
@@ -81,18 +81,18 @@ module _ (e : Entry) (m r j : List ℕ) where
   abbrev front : List ℕ
   front = j ++ (numberBytes (entryLength e) ++ savedBytes (e .touched) m r)
 
-  head-last : j ++ entryBytes e m r ≡ front ++ headBytes (numbersOf e)
+  head-last : j ++ entryBytes e m r ≡ front ++ numbersBytes (numbersOf e)
   unfolding entryBytes
   head-last = simp append-assoc
 
   pub newest-is : Small e → newestEntry (j ++ entryBytes e m r) ≡ e
   unfolding newestEntry
   newest-is h =
-      let whole : length (front ++ headBytes (numbersOf e)) ≡ length front + headLength = length-append front (headBytes (numbersOf e)) ∙ ap (λ (k : ℕ). length front + k) (head-long e) in
-      let at : length front ≡ length (front ++ headBytes (numbersOf e)) - headLength = omega (arith, whole) in
-      rw (head-last, drop-at front (headBytes (numbersOf e)) (length (front ++ headBytes (numbersOf e)) - headLength) at) (head-entry e h)
+      let whole : length (front ++ numbersBytes (numbersOf e)) ≡ length front + headLength = length-append front (numbersBytes (numbersOf e)) ∙ ap (λ (k : ℕ). length front + k) (head-long e) in
+      let at : length front ≡ length (front ++ numbersBytes (numbersOf e)) - headLength = omega (arith, whole) in
+      rw (head-last, drop-at front (numbersBytes (numbersOf e)) (length (front ++ numbersBytes (numbersOf e)) - headLength) at) (head-entry e h)
 
-  saved-middle : j ++ entryBytes e m r ≡ (j ++ numberBytes (entryLength e)) ++ (savedBytes (e .touched) m r ++ headBytes (numbersOf e))
+  saved-middle : j ++ entryBytes e m r ≡ (j ++ numberBytes (entryLength e)) ++ (savedBytes (e .touched) m r ++ numbersBytes (numbersOf e))
   unfolding entryBytes
   saved-middle = simp append-assoc
 
@@ -102,8 +102,8 @@ module _ (e : Entry) (m r j : List ℕ) where
       let whole : length (j ++ entryBytes e m r) ≡ length j + entryLength e = length-append j (entryBytes e m r) ∙ ap (λ (k : ℕ). length j + k) (length-entry e m r) in
       let before : length (j ++ numberBytes (entryLength e)) ≡ length j + frontLength = length-append j (numberBytes (entryLength e)) in
       let at : length (j ++ entryBytes e m r) - entryLength e + frontLength ≡ length j + frontLength = omega (arith, whole) in
-      rw (at, saved-middle, drop-at (j ++ numberBytes (entryLength e)) (savedBytes (e .touched) m r ++ headBytes (numbersOf e)) (length j + frontLength) before)
-      (take-at (savedBytes (e .touched) m r) (headBytes (numbersOf e)) (savedLength (e .touched)) (length-saved (e .touched) m r))
+      rw (at, saved-middle, drop-at (j ++ numberBytes (entryLength e)) (savedBytes (e .touched) m r ++ numbersBytes (numbersOf e)) (length j + frontLength) before)
+      (take-at (savedBytes (e .touched) m r) (numbersBytes (numbersOf e)) (savedLength (e .touched)) (length-saved (e .touched) m r))
 
   pub used-without : (used : ℕ) → length j ≡ used → usedIn used (j ++ entryBytes e m r) ≡ j
   unfolding usedIn
@@ -112,7 +112,7 @@ module _ (e : Entry) (m r j : List ℕ) where
   -- read from the other end: the first entry of a journal says how long it is, and behind it lies the rest
   pub oldest-is : oldestLength (entryBytes e m r ++ j) ≡ entryLength e
   unfolding oldestLength entryBytes
-  oldest-is = number-back (entryLength e) ((savedBytes (e .touched) m r ++ headBytes (numbersOf e)) ++ j)
+  oldest-is = number-back (entryLength e) ((savedBytes (e .touched) m r ++ numbersBytes (numbersOf e)) ++ j)
 
   pub oldest-gone : drop (oldestLength (entryBytes e m r ++ j)) (entryBytes e m r ++ j) ≡ j
   oldest-gone = rw oldest-is (drop-at (entryBytes e m r) j (entryLength e) (length-entry e m r))

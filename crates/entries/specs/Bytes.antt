@@ -20,9 +20,9 @@ numberBytes n = wordBytes (n % 65536) ++ wordBytes (n / 65536)
 abbrev pub numberAt : List ℕ → ℕ → ℕ
 numberAt b at = wordAt b at + 65536 * wordAt b (at + 2)
 
-unfoldable pub headBytes : List ℕ → List ℕ
-headBytes [] = []
-headBytes (n ∷ ns) = numberBytes n ++ headBytes ns
+unfoldable pub numbersBytes : List ℕ → List ℕ
+numbersBytes [] = []
+numbersBytes (n ∷ ns) = numberBytes n ++ numbersBytes ns
 
 -- the first k numbers that stand in b
 unfoldable pub headNumbers : ℕ → List ℕ → List ℕ

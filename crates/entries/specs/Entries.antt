@@ -7,7 +7,7 @@ use lib.Dec.{eqb, leb}
 use lib.ListN.{drop, length, take}
 use Rattle.state.specs.declared.Lengths.{Lengths}
 use Rattle.touched.specs.Touches.{savedBytes, savedLength, touchedFits}
-use Rattle.entries.specs.Bytes.{frontLength, headBytes, headCount, headLength, headNumbers, numberAt, numberBytes}
+use Rattle.entries.specs.Bytes.{frontLength, numbersBytes, headCount, headLength, headNumbers, numberAt, numberBytes}
 use Rattle.entries.specs.Numbers.{entryOf, numbersOf}
 use Rattle.entries.specs.declared.Entry.{Entry}
 
@@ -20,7 +20,7 @@ entryLength e = entryBare + savedLength (e .touched)
 
 -- the entry e of a step from memory m and reel r
 unfoldable pub entryBytes : Entry → List ℕ → List ℕ → List ℕ
-entryBytes e m r = numberBytes (entryLength e) ++ (savedBytes (e .touched) m r ++ headBytes (numbersOf e))
+entryBytes e m r = numberBytes (entryLength e) ++ (savedBytes (e .touched) m r ++ numbersBytes (numbersOf e))
 
 -- of a lent journal of which so many bytes are used, the used part. "Journal bytes outside the used part are not promised." (01)
 unfoldable pub usedIn : ℕ → List ℕ → List ℕ

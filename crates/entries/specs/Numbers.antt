@@ -10,8 +10,8 @@ use Rattle.state.specs.declared.Unit.{Unit}
 use Rattle.touched.specs.declared.Touched.{Touched}
 use Rattle.entries.specs.declared.Entry.{Entry}
 
-abbrev pub bit : Bool → ℕ
-bit b = pick b 1 0
+abbrev pub bitOf : Bool → ℕ
+bitOf b = pick b 1 0
 
 -- a number of four bytes
 abbrev pub numberLimit : ℕ
@@ -21,26 +21,26 @@ unfoldable pub numbersOf : Entry → List ℕ
 numbersOf e =
     e .unit .tape .position % numberLimit ∷ e .unit .tape .end % numberLimit ∷ e .unit .registers .pointer % numberLimit
     ∷ e .unit .registers .class % numberLimit
-    ∷ bit (e .unit .registers .rmr)
-    ∷ bit (e .unit .registers .nxm)
-    ∷ bit (e .unit .registers .nba)
-    ∷ bit (e .unit .registers .ssr)
-    ∷ bit (e .unit .panel .online)
-    ∷ bit (e .unit .panel .locked)
-    ∷ bit (e .unit .panel .vck)
-    ∷ bit (e .unit .attention .«unit_owns»)
-    ∷ bit (e .unit .attention .pending)
-    ∷ bit (e .unit .attention .«release_ie»)
+    ∷ bitOf (e .unit .registers .rmr)
+    ∷ bitOf (e .unit .registers .nxm)
+    ∷ bitOf (e .unit .registers .nba)
+    ∷ bitOf (e .unit .registers .ssr)
+    ∷ bitOf (e .unit .panel .online)
+    ∷ bitOf (e .unit .panel .locked)
+    ∷ bitOf (e .unit .panel .vck)
+    ∷ bitOf (e .unit .attention .«unit_owns»)
+    ∷ bitOf (e .unit .attention .pending)
+    ∷ bitOf (e .unit .attention .«release_ie»)
     ∷ e .unit .characteristics .address
     ∷ e .unit .characteristics .length
-    ∷ bit (e .unit .characteristics .eai)
-    ∷ bit (e .unit .characteristics .ess)
-    ∷ bit (e .unit .characteristics .enb)
+    ∷ bitOf (e .unit .characteristics .eai)
+    ∷ bitOf (e .unit .characteristics .ess)
+    ∷ bitOf (e .unit .characteristics .enb)
     ∷ e .unit .lengths .memory % numberLimit
     ∷ e .unit .lengths .blocks % numberLimit
     ∷ e .touched .«data_at» % numberLimit
     ∷ e .touched .«data_length» % numberLimit
-    ∷ bit (e .touched .swb)
+    ∷ bitOf (e .touched .swb)
     ∷ e .touched .«message_at» % numberLimit
     ∷ e .touched .«message_length» % numberLimit
     ∷ e .touched .«reel_at» % numberLimit

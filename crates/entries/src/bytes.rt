@@ -5,7 +5,7 @@ ghost use mathlib.Core.Path.{_≡_};
 ghost use Prim.Native.Nat.{_+_, _≤_};
 ghost use lib.ListN.{length, drop};
 ghost use lib.Seq.{sets};
-ghost use Rattle.entries.specs.Bytes.{headBytes, headCount, headLength, headNumbers, numberAt, numberBytes};
+ghost use Rattle.entries.specs.Bytes.{numbersBytes, headCount, headLength, headNumbers, numberAt, numberBytes};
 
 // A number as two words.
 pub fn put_number(b: &mut [u8], at: usize, n: u32)
@@ -26,7 +26,7 @@ pub fn number_at(b: &[u8], at: usize) -> u32
 
 pub fn put_head(b: &mut [u8], at: usize, n: [u32; 31])
     requires { ⌜ at + headLength ≤ length (now b) ⌝ }
-    ensures { λ _. ⌜ now (b .exit) ≡ sets (now (b .entry)) at (headBytes n) ⌝ }
+    ensures { λ _. ⌜ now (b .exit) ≡ sets (now (b .entry)) at (numbersBytes n) ⌝ }
 {
     let mut i: usize = 0;
     while i < 31 {

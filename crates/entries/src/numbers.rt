@@ -10,7 +10,7 @@ use state::Unit;
 use touched::Touched;
 ghost use mathlib.Core.Path.{_≡_};
 ghost use Prim.Native.Nat.{_%_};
-ghost use Rattle.entries.specs.Numbers.{bit, entryOf, numbersOf, touchedOf, unitOf};
+ghost use Rattle.entries.specs.Numbers.{bitOf, entryOf, numbersOf, touchedOf, unitOf};
 
 fn low(x: usize) -> u32
     ensures { λ r. ⌜ r ≡ x % 4294967296 ⌝ }

@@ -25,15 +25,15 @@ use Rattle.entries.specs.Entries.{entryBare, entryLength}
 use Rattle.entries.specs.declared.Entry.{Entry}
 use Rattle.worlds.specs.Calls.{entryFor}
 
-abbrev entryWith : Unit → Touched → Entry
-entryWith u t = record { unit = u; touched = t }
+abbrev entryOn : Unit → Touched → Entry
+entryOn u t = record { unit = u; touched = t }
 
 module _ (c : Core) where
   -- a plan
   module _ (p : Plan) where
-    pub step-entry : (t : Touched) → t ≡ touchedBy p → entryWith (c .unit) t ≡ entryFor c (carried c p)
+    pub step-entry : (t : Touched) → t ≡ touchedBy p → entryOn (c .unit) t ≡ entryFor c (carried c p)
     unfolding entryFor carried
-    step-entry t h = ap (entryWith (c .unit)) h
+    step-entry t h = ap (entryOn (c .unit)) h
 
     pub step-after : (m′ r′ : List ℕ) → StoredPlan p (c .memory) (c .reel) m′ r′ → (record { unit = p .unit; memory = m′; reel = r′ }) ≡ carried c p .after
     unfolding carried
@@ -45,7 +45,7 @@ module _ (c : Core) where
     unfolding touchedBy movedPlace movedTo movedLength still laidBlocks objectBlocks
     still-touched = refl
 
-    pub change-entry : (t : Touched) → t ≡ none → entryWith (c .unit) t ≡ entryFor c (carried c (changed v))
+    pub change-entry : (t : Touched) → t ≡ none → entryOn (c .unit) t ≡ entryFor c (carried c (changed v))
     change-entry t h = step-entry (changed v) t (h ∙ still-touched)
 
     pub change-after : (record { unit = v; memory = c .memory; reel = c .reel }) ≡ carried c (changed v) .after
@@ -58,9 +58,9 @@ module _ (c : Core) where
     unfolding stored
     store-answer = rw right
 
-    pub store-entry : (t : Touched) → t ≡ hostTouched place (length bytes) → entryWith (c .unit) t ≡ entryFor c (stored c place bytes)
+    pub store-entry : (t : Touched) → t ≡ hostTouched place (length bytes) → entryOn (c .unit) t ≡ entryFor c (stored c place bytes)
     unfolding entryFor stored
-    store-entry t h = rw right (ap (entryWith (c .unit)) h)
+    store-entry t h = rw right (ap (entryOn (c .unit)) h)
 
     pub store-after : (m′ : List ℕ) → m′ ≡ sets (c .memory) place bytes → (record { unit = c .unit; memory = m′; reel = c .reel }) ≡ stored c place bytes .after
     unfolding stored
@@ -71,6 +71,6 @@ unfolding storeWrong
 store-right memory place n h k = rw (le-ltb hostLimit n h, le-ltb memory (place + n) k)
 
 -- the entry of a step that touches nothing saves no bytes
-pub bare-length : (u : Unit) (t : Touched) → t ≡ none → entryBare ≡ entryLength (entryWith u t)
+pub bare-length : (u : Unit) (t : Touched) → t ≡ none → entryBare ≡ entryLength (entryOn u t)
 unfolding entryLength
 bare-length u t h = rw h

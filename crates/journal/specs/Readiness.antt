@@ -8,18 +8,18 @@ use Rattle.entries.specs.Entries.{entryBare}
 use Rattle.worlds.specs.Refusals.{checked}
 use Rattle.worlds.specs.declared.Session.{Session}
 
-pub record Sound (s : Session) (memory reel journal : ℕ) : Type 0 where
+pub record Unrefused (s : Session) (memory reel journal : ℕ) : Type 0 where
   pub right : checked s memory reel journal ≡ 0
 
 pub record Ready (s : Session) (p : Plan) (memory reel journal : ℕ) : Type 0 where
-  pub sound : Sound s memory reel journal
+  pub sound : Unrefused s memory reel journal
   pub storable : Storable p memory reel
 
 pub record HostReady (s : Session) (memory reel journal place n : ℕ) : Type 0 where
-  pub sound : Sound s memory reel journal
+  pub sound : Unrefused s memory reel journal
   pub short : n ≤ hostLimit
   pub inside : place + n ≤ memory
 
 pub record Undoable (s : Session) (memory reel journal : ℕ) : Type 0 where
-  pub sound : Sound s memory reel journal
+  pub sound : Unrefused s memory reel journal
   pub bare : entryBare ≤ s .used

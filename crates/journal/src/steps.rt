@@ -22,7 +22,7 @@ ghost use lib.ListN.{length};
 ghost use Rattle.unit.specs.Steps.{carried, changed, stored};
 ghost use Rattle.worlds.specs.Worlds.{Leaves, worldOf};
 ghost use Rattle.worlds.specs.Calls.{takenAs, undoOn};
-ghost use Rattle.journal.specs.Readiness.{HostReady, Ready, Sound, Undoable};
+ghost use Rattle.journal.specs.Readiness.{HostReady, Ready, Unrefused, Undoable};
 
 // Refusal n changes nothing.
 pub fn refused(s: Session, n: usize) -> Outcome
@@ -62,7 +62,7 @@ pub fn step(s: Session, p: Plan, mem: &mut [u8], reel: &mut [u8], jrnl: &mut [u8
 
 // A change of the state alone: its entry saves no bytes, and nothing is stored.
 pub fn change(s: Session, next: Unit, mem: &mut [u8], reel: &mut [u8], jrnl: &mut [u8]) -> Outcome
-    requires { ⌜ Sound s (length (now mem)) (length (now reel)) (length (now jrnl)) ⌝ }
+    requires { ⌜ Unrefused s (length (now mem)) (length (now reel)) (length (now jrnl)) ⌝ }
     ensures { λ r. ⌜ Leaves (takenAs (worldOf s (now (mem .entry)) (now (reel .entry)) (now (jrnl .entry))) (carried (record { unit = s .unit; memory = now (mem .entry); reel = now (reel .entry) }) (changed next)) (Answer.Done false)) r (now (mem .exit)) (now (reel .exit)) (now (jrnl .exit)) ⌝ }
 {
     let unit = s.unit;

@@ -13,7 +13,7 @@ use Rattle.moves.specs.Between.{Bound}
 use Rattle.commands.specs.declared.plans.Answer.the-variants as answer
 use Rattle.storing.specs.Stored.{reelAfter}
 use Rattle.advance.specs.Steps.{advanced}
-use Rattle.advance.proofs.Walk.{Alike, Carries, Rejects, Untold, advanced-all}
+use Rattle.advance.proofs.Walk.{Akin, Carries, Rejects, Untold, advanced-all}
 use Rattle.kept.specs.Formed.{Formed}
 use Rattle.kept.proofs.Carrying.{carried-kept, rests}
 use Rattle.kept.proofs.Lengths.{right-count}
@@ -21,7 +21,7 @@ use Rattle.kept.proofs.Standing.{KeptPlan, still-kept, untold-kept}
 
 module _ (s m : List ℕ) (u : Unit) (w : length s ≡ blockBytes * u .lengths .blocks) (k : Formed s (u .tape)) where
   -- in every state that a step leaves
-  still-formed : (v : Unit) → Alike u v → Formed s (v .tape)
+  still-formed : (v : Unit) → Akin u v → Formed s (v .tape)
   still-formed v a = rw (a .tape) k
 
   rejects : Rejects u (KeptPlan s m)

@@ -44,15 +44,15 @@ count-found marks true {gaps} o g = omega (arith, count-both marks (o ∷ []) ga
 count-found marks false {gaps} o g = omega (arith, count-both marks gaps (o ∷ []), count-gaps marks g)
 
 -- from the span x to the span y, objects were passed: those counted and what is left make up what was left before
-abbrev pub Done : List Object → Bool → Bool → Span → Span → Type 0
-Done os reverse marks x y = (mid : List Object) × Between os reverse (x .position) (y .position) mid × (countIn marks mid + y .left ≡ x .left)
+abbrev pub Counted : List Object → Bool → Bool → Span → Span → Type 0
+Counted os reverse marks x y = (mid : List Object) × Between os reverse (x .position) (y .position) mid × (countIn marks mid + y .left ≡ x .left)
 
-abbrev Sound : Spaced → Type 0
-Sound z = (k : ℕ) → z .stop ≡ stop-as.Bad k → ⊥
+abbrev NoFault : Spaced → Type 0
+NoFault z = (k : ℕ) → z .stop ≡ stop-as.Bad k → ⊥
 
 -- each turn does its part, and finds no fault
 abbrev Turned : List Object → Bool → Bool → Span → Turn → Type 0
-Turned os reverse marks x t = TurnHas (Done os reverse marks x) (λ z. Done os reverse marks x (z .span) × Sound z) t
+Turned os reverse marks x t = TurnHas (Counted os reverse marks x) (λ z. Counted os reverse marks x (z .span) × NoFault z) t
 
 module _ {os : List Object} (reverse : Bool) where
   record-done : (marks : Bool) (y : Span) (d : List ℕ) {gaps : List Object} {q : ℕ} (t a : Bool) → (y .left ≡ 0 → ⊥) → Gaps gaps → Between os reverse (y .position) q (withGaps reverse gaps (record-of d))
@@ -68,7 +68,7 @@ module _ {os : List Object} (reverse : Bool) where
       (turn-as.Over (stopped stop-as.Mark (span q (y .left) true true))))
   unfolding countIn
   mark-done true both y {gaps} {q} n g b =
-      let d : Done os reverse true y (span q (y .left - 1) true true) = (withGaps reverse gaps mark, b, omega (arith, count-found true reverse mark g)) in
+      let d : Counted os reverse true y (span q (y .left - 1) true true) = (withGaps reverse gaps mark, b, omega (arith, count-found true reverse mark g)) in
       either (Turned os reverse true y) both _ _ (d, λ k e. clash (cc)) d
   mark-done false both y {gaps} n g b = ((withGaps reverse gaps mark, b, omega (arith, count-found false reverse mark g)), λ k e. clash (cc))
 
@@ -79,20 +79,20 @@ turn-done r y n (finds-mark g b) = mark-done (r .reverse) (r .marks) (r .ess && 
 turn-done r y n (finds-nothing {gaps = gaps} g b z) = ((gaps, b, omega (arith, count-gaps (r .marks) g)), λ k e. clash (cc))
 
 -- one after the other
-done-more : {os : List Object} (reverse marks : Bool) → AllAllowed os → (x y z : Span) → Done os reverse marks x y → Done os reverse marks y z → Done os reverse marks x z
+done-more : {os : List Object} (reverse marks : Bool) → AllAllowed os → (x y z : Span) → Counted os reverse marks x y → Counted os reverse marks y z → Counted os reverse marks x z
 done-more true marks h x y z a b = (b .0 ++ a .0, joins true h (a .1) (b .1), omega (arith, count-both marks (b .0) (a .0), a .2, b .2))
 done-more false marks h x y z a b = (a .0 ++ b .0, joins false h (a .1) (b .1), omega (arith, count-both marks (a .0) (b .0), a .2, b .2))
 
 module _ {s : List ℕ} {e : ℕ} {os : List Object} (h : Holds s e os) (r : Rule) (x : Span) where
-  turn-on : (y : Span) → Done os (r .reverse) (r .marks) x y → (y .left ≡ 0 → ⊥) → Turned os (r .reverse) (r .marks) x (turnAt s r e y)
+  turn-on : (y : Span) → Counted os (r .reverse) (r .marks) x y → (y .left ≡ 0 → ⊥) → Turned os (r .reverse) (r .marks) x (turnAt s r e y)
   turn-on y i n =
-      let more : (z : Span) → Done os (r .reverse) (r .marks) y z → Done os (r .reverse) (r .marks) x z = λ z j. done-more (r .reverse) (r .marks) (h .allowed) x y z i j in
+      let more : (z : Span) → Counted os (r .reverse) (r .marks) y z → Counted os (r .reverse) (r .marks) x z = λ z j. done-more (r .reverse) (r .marks) (h .allowed) x y z i j in
       turn-more _ _ _ _ more (λ z j. (more (z .span) (j .0), j .1)) (turnAt s r e y) (turn-done r y n (finds h (r .reverse) (bound-to (r .reverse) (i .1))))
 
-  all-done : Bound os (x .position) → Done os (r .reverse) (r .marks) x (spaced s r e x .span) × Sound (spaced s r e x)
+  all-done : Bound os (x .position) → Counted os (r .reverse) (r .marks) x (spaced s r e x .span) × NoFault (spaced s r e x)
   unfolding spaced countIn
   all-done b =
-      rounds s r e (λ _ y. Done os (r .reverse) (r .marks) x y) (λ z. Done os (r .reverse) (r .marks) x (z .span) × Sound z) (λ turns y i n. turn-on y i n) (λ turns y i w. (i, λ k z. clash (cc)))
+      rounds s r e (λ _ y. Counted os (r .reverse) (r .marks) x y) (λ z. Counted os (r .reverse) (r .marks) x (z .span) × NoFault z) (λ turns y i n. turn-on y i n) (λ turns y i w. (i, λ k z. clash (cc)))
       (e + 1) x ([], stays (r .reverse) b, omega arith)
 
   pub spaced-sound : Bound os (x .position) → (k : ℕ) → spaced s r e x .stop ≡ stop-as.Bad k → ⊥
@@ -106,13 +106,13 @@ module _ {s : List ℕ} {e : ℕ} {os : List Object} (h : Holds s e os) (r : Rul
   spaced-bound b = bound-to (r .reverse) (spaced-between b .1)
 
 -- a turn that goes on passes a block or more, and one that is over says another reason than the count
-abbrev Moves : Rule → ℕ → Span → Turn → Type 0
-Moves r e y t = TurnHas (λ z. Onward (r .reverse) (y .position) e (z .position)) (λ z. z .stop ≡ stop-as.Count → ⊥) t
+abbrev Onwards : Rule → ℕ → Span → Turn → Type 0
+Onwards r e y t = TurnHas (λ z. Onward (r .reverse) (y .position) e (z .position)) (λ z. z .stop ≡ stop-as.Count → ⊥) t
 
-turn-moves : (r : Rule) (e : ℕ) (y : Span) (f : Sought) → SoughtIn (r .reverse) (y .position) e f → Moves r e y (turnOf r y f)
+turn-moves : (r : Rule) (e : ℕ) (y : Span) (f : Sought) → SoughtIn (r .reverse) (y .position) e f → Onwards r e y (turnOf r y f)
 unfolding turnOf recordTurn markTurn
-turn-moves r e y (sought-as.Record n q) i = either (Moves r e y) (r .marks) _ _ (i .1) (i .1)
-turn-moves r e y (sought-as.Mark q) i = either (Moves r e y) (r .marks) _ _ (either (Moves r e y) (r .ess && y .«after_mark») _ _ (λ z. clash (cc)) i) (λ z. clash (cc))
+turn-moves r e y (sought-as.Record n q) i = either (Onwards r e y) (r .marks) _ _ (i .1) (i .1)
+turn-moves r e y (sought-as.Mark q) i = either (Onwards r e y) (r .marks) _ _ (either (Onwards r e y) (r .ess && y .«after_mark») _ _ (λ z. clash (cc)) i) (λ z. clash (cc))
 turn-moves r e y (sought-as.Nothing q) i = λ z. clash (cc)
 turn-moves r e y (sought-as.Bad k) i = λ z. clash (cc)
 

@@ -9,7 +9,7 @@ use borrow.Author.Tests.{eq-eqb, ne-eqb, eqb-true, lt-ltb, le-ltb}
 use lib.Dec.{eqb}
 use lib.ListN.{length, take, drop, getD}
 use lib.Seq.{drop-cons, drop-length, length-take-le, take-suc}
-use Rattle.script.specs.Words.{lastEnd, eqs, part, placeFrom, wordOf}
+use Rattle.script.specs.Words.{lastEnd, eqs, part, placeFrom, wordFrom}
 
 clash : {A : Type 0} → _≡_ {A = ℕ} 0 1 → A
 clash e = absurd (omega arith)
@@ -95,11 +95,11 @@ same-eqs (x ∷ a) (y ∷ b) e =
     cc (eqb-true x y (f .0), same-eqs a b (f .1))
 
 -- the walk of `place_in`: word k, from s to e, is w, or the words behind it are looked at
-module _ (l w : List ℕ) (k n s e : ℕ) (r : Bool) (h : k < n) (p : part l s e ≡ wordOf l k) (q : r ≡ eqs (part l s e) w) where
+module _ (l w : List ℕ) (k n s e : ℕ) (r : Bool) (h : k < n) (p : part l s e ≡ wordFrom l k) (q : r ≡ eqs (part l s e) w) where
   left : n - k ≡ suc (n - (k + 1))
   left = omega arith
 
-  test : eqs (wordOf l k) w ≡ r
+  test : eqs (wordFrom l k) w ≡ r
   test = rw (← p) (sym q)
 
   pub place-stop : r ≡ true → placeFrom l w k (n - k) ≡ k

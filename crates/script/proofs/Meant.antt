@@ -11,7 +11,7 @@ use lib.ListN.{length, drop, getD, length-drop, length-take}
 use lib.Seq.{getD-drop, getD-take}
 use Rattle.lists.proofs.Cases.{by-test}
 use Rattle.script.specs.declared.Value.the-variants as value
-use Rattle.script.specs.Words.{before, eqs, lastEnd, over, passed, placeFrom, placeOf, startsFrom, wordEnd, wordOf, wordStart}
+use Rattle.script.specs.Words.{before, eqs, lastEnd, over, spanned, placeFrom, placeOf, startsFrom, wordEnd, wordFrom, wordStart}
 use Rattle.script.specs.Numbers.{base, digitOf, joined, said}
 use Rattle.script.proofs.Passing.{pass-low}
 use Rattle.script.proofs.Found.{eqs-same, same-eqs}
@@ -31,20 +31,20 @@ other-kind false true e = refl
 other-kind true true e = clash (cc)
 other-kind false false e = clash (cc)
 
--- the bytes that are passed are all of the kind that is passed, and the one behind them is not
-passed-kind : (b : Bool) (t : List ℕ) (i : ℕ) → i < passed b t → ltb (getD t i 0) 33 ≡ b
-unfolding passed
-passed-kind b [] i h = absurd (omega arith)
-passed-kind b (x ∷ t) zero h =
+-- the bytes that are spanned are all of the kind that is spanned, and the one behind them is not
+spanned-kind : (b : Bool) (t : List ℕ) (i : ℕ) → i < spanned b t → ltb (getD t i 0) 33 ≡ b
+unfolding spanned
+spanned-kind b [] i h = absurd (omega arith)
+spanned-kind b (x ∷ t) zero h =
     by-test (Bool·beq (ltb x 33) b) (λ e. same-kind (ltb x 33) b e) (λ e. absurd (omega (arith, rw e at h)))
-passed-kind b (x ∷ t) (suc i) h =
-    by-test (Bool·beq (ltb x 33) b) (λ e. passed-kind b t i (omega (arith, rw e at h))) (λ e. absurd (omega (arith, rw e at h)))
+spanned-kind b (x ∷ t) (suc i) h =
+    by-test (Bool·beq (ltb x 33) b) (λ e. spanned-kind b t i (omega (arith, rw e at h))) (λ e. absurd (omega (arith, rw e at h)))
 
-passed-stop : (b : Bool) (t : List ℕ) → passed b t < length t → ltb (getD t (passed b t) 0) 33 ≡ not b
-unfolding passed
-passed-stop b [] h = absurd (omega arith)
-passed-stop b (x ∷ t) h =
-    by-test (Bool·beq (ltb x 33) b) (λ e. rw e (passed-stop b t (omega (arith, rw e at h)))) (λ e. rw e (other-kind (ltb x 33) b e))
+spanned-stop : (b : Bool) (t : List ℕ) → spanned b t < length t → ltb (getD t (spanned b t) 0) 33 ≡ not b
+unfolding spanned
+spanned-stop b [] h = absurd (omega arith)
+spanned-stop b (x ∷ t) h =
+    by-test (Bool·beq (ltb x 33) b) (λ e. rw e (spanned-stop b t (omega (arith, rw e at h)))) (λ e. rw e (other-kind (ltb x 33) b e))
 
 -- words lie within the line
 over-low : (t : List ℕ) (k : ℕ) → over t k ≤ length t
@@ -57,19 +57,19 @@ unfolding wordStart wordEnd over
 word-within t k = (omega arith, over-low t (suc k))
 
 -- no byte of a word is blank, and the one behind it is
-pub word-solid : (t : List ℕ) (k i : ℕ) → i < length (wordOf t k) → ltb (getD (wordOf t k) i 0) 33 ≡ false
-unfolding wordOf wordStart wordEnd over
+pub word-solid : (t : List ℕ) (k i : ℕ) → i < length (wordFrom t k) → ltb (getD (wordFrom t k) i 0) 33 ≡ false
+unfolding wordFrom wordStart wordEnd over
 word-solid t k i h =
     let s = startsFrom t (over t k) in
-    let e : s + passed false (drop s t) - s ≡ passed false (drop s t) = omega arith in
-    let l : i < s + passed false (drop s t) - s = omega (arith, length-take (s + passed false (drop s t) - s) (drop s t)) in
-    rw (getD-take (s + passed false (drop s t) - s) (drop s t) i 0 l) (passed-kind false (drop s t) i (omega arith))
+    let e : s + spanned false (drop s t) - s ≡ spanned false (drop s t) = omega arith in
+    let l : i < s + spanned false (drop s t) - s = omega (arith, length-take (s + spanned false (drop s t) - s) (drop s t)) in
+    rw (getD-take (s + spanned false (drop s t) - s) (drop s t) i 0 l) (spanned-kind false (drop s t) i (omega arith))
 
 pub word-ended : (t : List ℕ) (k : ℕ) → wordEnd t k < length t → ltb (getD t (wordEnd t k) 0) 33 ≡ true
 unfolding wordEnd over
 word-ended t k h =
     let s = startsFrom t (over t k) in
-    rw (← getD-drop s t (passed false (drop s t)) 0) (passed-stop false (drop s t) (omega (arith, length-drop s t)))
+    rw (← getD-drop s t (spanned false (drop s t)) 0) (spanned-stop false (drop s t) (omega (arith, length-drop s t)))
 
 -- the byte that is found is the one sought, and no earlier one is
 pub before-is : (b : ℕ) (t : List ℕ) → before b t < length t → getD t (before b t) 0 ≡ b
@@ -109,53 +109,53 @@ last-word (x ∷ t) h =
     rw (e, q) (last-word t (omega arith)))
 
 -- the word at the place that is found is the one sought, and no earlier one is
-from-is : (l w : List ℕ) (k n : ℕ) → placeFrom l w k n < k + n → wordOf l (placeFrom l w k n) ≡ w
+from-is : (l w : List ℕ) (k n : ℕ) → placeFrom l w k n < k + n → wordFrom l (placeFrom l w k n) ≡ w
 unfolding placeFrom
 from-is l w k zero h = absurd (omega arith)
 from-is l w k (suc n) h =
-    by-test (eqs (wordOf l k) w) (λ e. rw e (same-eqs (wordOf l k) w e)) (λ e. rw e (from-is l w (suc k) n (omega (arith, rw e at h))))
+    by-test (eqs (wordFrom l k) w) (λ e. rw e (same-eqs (wordFrom l k) w e)) (λ e. rw e (from-is l w (suc k) n (omega (arith, rw e at h))))
 
-from-first : (l w : List ℕ) (k n j : ℕ) → k ≤ j → j < placeFrom l w k n → wordOf l j ≡ w → ⊥
+from-first : (l w : List ℕ) (k n j : ℕ) → k ≤ j → j < placeFrom l w k n → wordFrom l j ≡ w → ⊥
 unfolding placeFrom
 from-first l w k zero j h g p = omega arith
 from-first l w k (suc n) j h g p =
-    by-test (eqs (wordOf l k) w) (λ e. omega (arith, rw e at g))
+    by-test (eqs (wordFrom l k) w) (λ e. omega (arith, rw e at g))
     (λ e. by-test (eqb j k)
-    (λ q. let f : eqs (wordOf l k) w ≡ true = rw (← p, eqb-true j k q) (eqs-same (wordOf l k)) in clash (cc))
+    (λ q. let f : eqs (wordFrom l k) w ≡ true = rw (← p, eqb-true j k q) (eqs-same (wordFrom l k)) in clash (cc))
     (λ q. let f : j ≡ k → ⊥ = eqb-false j k q in from-first l w (suc k) n j (omega arith) (rw e at g) p))
 
-pub place-is : (l w : List ℕ) → placeOf l w < length l → wordOf l (placeOf l w) ≡ w
+pub place-is : (l w : List ℕ) → placeOf l w < length l → wordFrom l (placeOf l w) ≡ w
 place-is l w h = from-is l w 0 (length l) (omega arith)
 
-pub place-first : (l w : List ℕ) (j : ℕ) → j < placeOf l w → wordOf l j ≡ w → ⊥
+pub place-first : (l w : List ℕ) (j : ℕ) → j < placeOf l w → wordFrom l j ≡ w → ⊥
 place-first l w j h = from-first l w 0 (length l) j (omega arith) h
 
 -- each word takes a byte or more, so a word that stands in the list is found
-taken : (t : List ℕ) (a : ℕ) → startsFrom t a < length t → 0 < passed false (drop (startsFrom t a) t)
+taken : (t : List ℕ) (a : ℕ) → startsFrom t a < length t → 0 < spanned false (drop (startsFrom t a) t)
 taken t a h =
     let s = startsFrom t a in
-    let p : ltb (getD t s 0) 33 ≡ false = sym (ap (λ (x : ℕ). ltb x 33) (getD-drop a t (passed true (drop a t)) 0)) ∙ passed-stop true (drop a t) (omega (arith, length-drop a t)) in
-    by-test (eqb (passed false (drop s t)) 0)
+    let p : ltb (getD t s 0) 33 ≡ false = sym (ap (λ (x : ℕ). ltb x 33) (getD-drop a t (spanned true (drop a t)) 0)) ∙ spanned-stop true (drop a t) (omega (arith, length-drop a t)) in
+    by-test (eqb (spanned false (drop s t)) 0)
     (λ e.
-    let z : passed false (drop s t) ≡ 0 = eqb-true (passed false (drop s t)) 0 e in
-    let q : ltb (getD (drop s t) (passed false (drop s t)) 0) 33 ≡ true = passed-stop false (drop s t) (omega (arith, length-drop s t)) in
+    let z : spanned false (drop s t) ≡ 0 = eqb-true (spanned false (drop s t)) 0 e in
+    let q : ltb (getD (drop s t) (spanned false (drop s t)) 0) 33 ≡ true = spanned-stop false (drop s t) (omega (arith, length-drop s t)) in
     let r : ltb (getD t s 0) 33 ≡ true = sym (ap (λ (x : ℕ). ltb x 33) (getD-drop s t 0 0 ∙ ap (λ (i : ℕ). getD t i 0) (add-zero s))) ∙ (rw z at q) in
     clash (cc))
-    (λ e. let z : passed false (drop s t) ≡ 0 → ⊥ = eqb-false (passed false (drop s t)) 0 e in omega arith)
+    (λ e. let z : spanned false (drop s t) ≡ 0 → ⊥ = eqb-false (spanned false (drop s t)) 0 e in omega arith)
 
 over-high : (t : List ℕ) (k : ℕ) → over t k < length t → k ≤ over t k
 unfolding over
 over-high t zero h = omega arith
 over-high t (suc k) h = omega (arith, over-high t k (omega arith), taken t (over t k) (omega arith))
 
-word-low : (t : List ℕ) (k : ℕ) → 0 < length (wordOf t k) → k < length t
-unfolding wordOf wordStart wordEnd over
+word-low : (t : List ℕ) (k : ℕ) → 0 < length (wordFrom t k) → k < length t
+unfolding wordFrom wordStart wordEnd over
 word-low t k h =
     let s = startsFrom t (over t k) in
-    let l : s < length t = omega (arith, length-take (s + passed false (drop s t) - s) (drop s t), length-drop s t) in
+    let l : s < length t = omega (arith, length-take (s + spanned false (drop s t) - s) (drop s t), length-drop s t) in
     omega (arith, over-high t k (omega arith))
 
-pub place-all : (l w : List ℕ) (k : ℕ) → 0 < length w → wordOf l k ≡ w → placeOf l w < length l
+pub place-all : (l w : List ℕ) (k : ℕ) → 0 < length w → wordFrom l k ≡ w → placeOf l w < length l
 place-all l w k h e =
     let n : k < length l = word-low l k (rw e h) in
     by-test (ltb (placeOf l w) (length l)) (λ f. ltb-true (placeOf l w) (length l) f)

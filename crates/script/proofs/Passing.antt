@@ -1,4 +1,4 @@
--- Laws of `passed` and `before`: a byte that is passed, one that is not, and the text's end.
+-- Laws of `spanned` and `before`: a byte that is spanned, one that is not, and the text's end.
 use mathlib.Core.Path.{_≡_}
 use mathlib.Core.Bool.{Bool, true, false, not, Bool·beq}
 use mathlib.Core.List.{List, [], _∷_}
@@ -10,17 +10,17 @@ use lib.Dec.{eqb, ltb}
 use lib.ListN.{length, drop, getD, length-drop}
 use lib.Seq.{drop-cons, drop-length}
 use Rattle.lists.specs.Pick.{pick}
-use Rattle.script.specs.Words.{passed, before, over, startsFrom, wordStart, wordEnd, wordOf, part}
+use Rattle.script.specs.Words.{spanned, before, over, startsFrom, wordStart, wordEnd, wordFrom, part}
 
 either-low : (r : Bool) (a b n : ℕ) → a ≤ n → b ≤ n → pick r a b ≤ n
 either-low true a b n h k = h
 either-low false a b n h k = k
 
--- no more than the text is passed
-pub passed-low : (b : Bool) (t : List ℕ) → passed b t ≤ length t
-unfolding passed
-passed-low b [] = omega arith
-passed-low b (x ∷ t) = either-low (Bool·beq (ltb x 33) b) (suc (passed b t)) 0 _ (omega (arith, passed-low b t)) (omega arith)
+-- no more than the text is spanned
+pub spanned-low : (b : Bool) (t : List ℕ) → spanned b t ≤ length t
+unfolding spanned
+spanned-low b [] = omega arith
+spanned-low b (x ∷ t) = either-low (Bool·beq (ltb x 33) b) (suc (spanned b t)) 0 _ (omega (arith, spanned-low b t)) (omega arith)
 
 pub before-low : (b : ℕ) (t : List ℕ) → before b t ≤ length t
 unfolding before
@@ -29,22 +29,22 @@ before-low b (x ∷ t) = either-low (eqb x b) 0 (suc (before b t)) _ (omega arit
 
 -- the walk of `pass` from place `from`, now at i: where it ends
 module _ (t : List ℕ) (b : Bool) (i : ℕ) where
-  pub pass-on : i < length t → not (Bool·beq (ltb (getD t i 0) 33) b) ≡ false → i + passed b (drop i t) ≡ i + 1 + passed b (drop (i + 1) t)
-  unfolding passed
+  pub pass-on : i < length t → not (Bool·beq (ltb (getD t i 0) 33) b) ≡ false → i + spanned b (drop i t) ≡ i + 1 + spanned b (drop (i + 1) t)
+  unfolding spanned
   pass-on h e = rw (add-one i, drop-cons t i 0 h, not-false (Bool·beq (ltb (getD t i 0) 33) b) e) (omega arith)
 
-  pub pass-stop : i < length t → not (Bool·beq (ltb (getD t i 0) 33) b) ≡ true → i + passed b (drop i t) ≡ i
-  unfolding passed
+  pub pass-stop : i < length t → not (Bool·beq (ltb (getD t i 0) 33) b) ≡ true → i + spanned b (drop i t) ≡ i
+  unfolding spanned
   pass-stop h e = rw (drop-cons t i 0 h, not-true (Bool·beq (ltb (getD t i 0) 33) b) e) (omega arith)
 
-  pub pass-end : i ≤ length t → length t ≤ i → i + passed b (drop i t) ≡ i
-  unfolding passed
+  pub pass-end : i ≤ length t → length t ≤ i → i + spanned b (drop i t) ≡ i
+  unfolding spanned
   pass-end h k =
       let e : i ≡ length t = omega arith in
       rw (e, drop-length t) (omega arith)
 
-  pub pass-low : i ≤ length t → i + passed b (drop i t) ≤ length t
-  pass-low h = omega (arith, passed-low b (drop i t), length-drop i t)
+  pub pass-low : i ≤ length t → i + spanned b (drop i t) ≤ length t
+  pass-low h = omega (arith, spanned-low b (drop i t), length-drop i t)
 
 -- the walk of `find`
 module _ (t : List ℕ) (b i : ℕ) where
@@ -68,7 +68,7 @@ module _ (t : List ℕ) (i at s e : ℕ) (p : at ≡ over t i) (q : s ≡ starts
   unfolding wordStart
   word-starts = rw (q, p)
 
-  module _ (r : e ≡ s + passed false (drop s t)) where
+  module _ (r : e ≡ s + spanned false (drop s t)) where
     pub word-ends : e ≡ wordEnd t i
     unfolding wordEnd over
     word-ends = rw (r, q, p)
@@ -77,10 +77,10 @@ module _ (t : List ℕ) (i at s e : ℕ) (p : at ≡ over t i) (q : s ≡ starts
     unfolding over
     over-more = rw (add-one i, r, q, p)
 
-    pub word-is : part t s e ≡ wordOf t i
-    unfolding wordOf
+    pub word-is : part t s e ≡ wordFrom t i
+    unfolding wordFrom
     word-is = rw (← word-starts, ← word-ends)
 
-pub part-word : (t : List ℕ) (k s e : ℕ) → s ≡ wordStart t k → e ≡ wordEnd t k → part t s e ≡ wordOf t k
-unfolding wordOf
+pub part-word : (t : List ℕ) (k s e : ℕ) → s ≡ wordStart t k → e ≡ wordEnd t k → part t s e ≡ wordFrom t k
+unfolding wordFrom
 part-word t k s e p q = rw (p, q)

@@ -14,8 +14,8 @@ use Rattle.script.specs.declared.Fault.the-variants as fault
 use Rattle.script.specs.declared.Value.{Value}
 use Rattle.script.specs.declared.Value.the-variants as value
 use Rattle.script.specs.declared.Three.the-variants as three
-use Rattle.script.specs.Words.{wordOf}
-use Rattle.script.specs.Numbers.{base, between, digitOf, hexed, joined, numberOf, said, threeOf, wantedOf}
+use Rattle.script.specs.Words.{wordFrom}
+use Rattle.script.specs.Numbers.{base, between, digitOf, hexed, joined, numberIn, said, threeOf, wantedOf}
 
 inside : (a b x : ℕ) → a ≤ x → x ≤ b → between a b x ≡ true
 inside a b x h k = rw (le-leb a x h, le-leb x b k)
@@ -96,20 +96,20 @@ module _ (hex : Bool) (v i : ℕ) (t : List ℕ) where
 
 -- a whole word
 module _ (t : List ℕ) (r : Value) where
-  pub number-missing : length t ≡ 0 → value.Wrong fault.NumberMissing ≡ numberOf t
-  unfolding numberOf
+  pub number-missing : length t ≡ 0 → value.Wrong fault.NumberMissing ≡ numberIn t
+  unfolding numberIn
   number-missing e = rw (eq-eqb (length t) 0 e)
 
-  pub number-short : (length t ≡ 0 → ⊥) → length t < 3 → r ≡ said false 0 t → r ≡ numberOf t
-  unfolding numberOf hexed
+  pub number-short : (length t ≡ 0 → ⊥) → length t < 3 → r ≡ said false 0 t → r ≡ numberIn t
+  unfolding numberIn hexed
   number-short h k e = rw (ne-eqb (length t) 0 h, lt-leb 3 (length t) k) e
 
-  pub number-hex : 3 ≤ length t → (eqb (getD t 0 0) 48 && eqb (getD t 1 0) 120) ≡ true → r ≡ said true 0 (drop 2 t) → r ≡ numberOf t
-  unfolding numberOf hexed
+  pub number-hex : 3 ≤ length t → (eqb (getD t 0 0) 48 && eqb (getD t 1 0) 120) ≡ true → r ≡ said true 0 (drop 2 t) → r ≡ numberIn t
+  unfolding numberIn hexed
   number-hex k f e = rw (ne-eqb (length t) 0 (λ (z : length t ≡ 0). omega arith), le-leb 3 (length t) k, f) e
 
-  pub number-ten : 3 ≤ length t → (eqb (getD t 0 0) 48 && eqb (getD t 1 0) 120) ≡ false → r ≡ said false 0 t → r ≡ numberOf t
-  unfolding numberOf hexed
+  pub number-ten : 3 ≤ length t → (eqb (getD t 0 0) 48 && eqb (getD t 1 0) 120) ≡ false → r ≡ said false 0 t → r ≡ numberIn t
+  unfolding numberIn hexed
   number-ten k f e = rw (ne-eqb (length t) 0 (λ (z : length t ≡ 0). omega arith), le-leb 3 (length t) k, f) e
 
 -- words of a line as numbers
@@ -118,7 +118,7 @@ module _ (t : List ℕ) (k last : ℕ) where
   unfolding wantedOf
   beyond-last h = rw (lt-ltb last k h)
 
-  pub up-to-last : (r : Value) → k ≤ last → r ≡ numberOf (wordOf t k) → r ≡ wantedOf t k last
+  pub up-to-last : (r : Value) → k ≤ last → r ≡ numberIn (wordFrom t k) → r ≡ wantedOf t k last
   unfolding wantedOf
   up-to-last r h e = rw (le-ltb last k h) e
 

@@ -3,14 +3,14 @@ use mathlib.Core.Path.{_≡_, refl}
 use mathlib.Core.List.{[], _∷_}
 use Rattle.script.specs.declared.Fault.the-variants as fault
 use Rattle.script.specs.declared.Value.the-variants as value
-use Rattle.script.specs.Words.{eqs, lastEnd, over, passed, placeFrom, placeOf, wordEnd, wordOf, wordStart}
-use Rattle.script.specs.Numbers.{digitOf, hexed, joined, numberOf, said}
+use Rattle.script.specs.Words.{eqs, lastEnd, over, spanned, placeFrom, placeOf, wordEnd, wordFrom, wordStart}
+use Rattle.script.specs.Numbers.{digitOf, hexed, joined, numberIn, said}
 use Rattle.script.specs.Fills.{generated, pairs}
 use Rattle.script.specs.Sums.{crc32, step, steps, summed}
 
 -- "ab  cd " has the words ab and cd, and is over at 6
-second : wordOf (97 ∷ 98 ∷ 32 ∷ 9 ∷ 99 ∷ 100 ∷ 32 ∷ []) 1 ≡ 99 ∷ 100 ∷ []
-unfolding wordOf wordStart wordEnd over passed
+second : wordFrom (97 ∷ 98 ∷ 32 ∷ 9 ∷ 99 ∷ 100 ∷ 32 ∷ []) 1 ≡ 99 ∷ 100 ∷ []
+unfolding wordFrom wordStart wordEnd over spanned
 second = refl
 
 last-over : lastEnd (97 ∷ 98 ∷ 32 ∷ 9 ∷ 99 ∷ 100 ∷ 32 ∷ []) ≡ 6
@@ -18,28 +18,28 @@ unfolding lastEnd
 last-over = refl
 
 which : placeOf (97 ∷ 98 ∷ 32 ∷ 9 ∷ 99 ∷ 100 ∷ 32 ∷ []) (99 ∷ 100 ∷ []) ≡ 1
-unfolding placeFrom eqs wordOf wordStart wordEnd over passed
+unfolding placeFrom eqs wordFrom wordStart wordEnd over spanned
 which = refl
 
 -- 207, 0x1Fe, 12a, 0x and the least number that does not fit
-decimal : numberOf (50 ∷ 48 ∷ 55 ∷ []) ≡ value.Is 207
-unfolding numberOf hexed said joined digitOf
+decimal : numberIn (50 ∷ 48 ∷ 55 ∷ []) ≡ value.Is 207
+unfolding numberIn hexed said joined digitOf
 decimal = refl
 
-hexadecimal : numberOf (48 ∷ 120 ∷ 49 ∷ 70 ∷ 101 ∷ []) ≡ value.Is 510
-unfolding numberOf hexed said joined digitOf
+hexadecimal : numberIn (48 ∷ 120 ∷ 49 ∷ 70 ∷ 101 ∷ []) ≡ value.Is 510
+unfolding numberIn hexed said joined digitOf
 hexadecimal = refl
 
-no-digit : numberOf (49 ∷ 50 ∷ 97 ∷ []) ≡ value.Wrong fault.NumberWrong
-unfolding numberOf hexed said joined digitOf
+no-digit : numberIn (49 ∷ 50 ∷ 97 ∷ []) ≡ value.Wrong fault.NumberWrong
+unfolding numberIn hexed said joined digitOf
 no-digit = refl
 
-no-digits : numberOf (48 ∷ 120 ∷ []) ≡ value.Wrong fault.NumberWrong
-unfolding numberOf hexed said joined digitOf
+no-digits : numberIn (48 ∷ 120 ∷ []) ≡ value.Wrong fault.NumberWrong
+unfolding numberIn hexed said joined digitOf
 no-digits = refl
 
-too-large : numberOf (49 ∷ 56 ∷ 52 ∷ 52 ∷ 54 ∷ 55 ∷ 52 ∷ 52 ∷ 48 ∷ 55 ∷ 51 ∷ 55 ∷ 48 ∷ 57 ∷ 53 ∷ 53 ∷ 49 ∷ 54 ∷ 49 ∷ 54 ∷ []) ≡ value.Wrong fault.NumberTooLarge
-unfolding numberOf hexed said joined digitOf
+too-large : numberIn (49 ∷ 56 ∷ 52 ∷ 52 ∷ 54 ∷ 55 ∷ 52 ∷ 52 ∷ 48 ∷ 55 ∷ 51 ∷ 55 ∷ 48 ∷ 57 ∷ 53 ∷ 53 ∷ 49 ∷ 54 ∷ 49 ∷ 54 ∷ []) ≡ value.Wrong fault.NumberTooLarge
+unfolding numberIn hexed said joined digitOf
 too-large = refl
 
 -- the bytes of a seed, and of the digits 0fA9g0

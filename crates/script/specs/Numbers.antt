@@ -10,7 +10,7 @@ use Rattle.script.specs.declared.Value.{Value}
 use Rattle.script.specs.declared.Value.the-variants as value
 use Rattle.script.specs.declared.Three.{Three}
 use Rattle.script.specs.declared.Three.the-variants as three
-use Rattle.script.specs.Words.{wordOf}
+use Rattle.script.specs.Words.{wordFrom}
 
 abbrev pub between : ℕ → ℕ → ℕ → Bool
 between a b x = leb a x && leb x b
@@ -43,14 +43,14 @@ unfoldable pub hexed : List ℕ → Bool
 hexed t = leb 3 (length t) && (eqb (getD t 0 0) 48 && eqb (getD t 1 0) 120)
 
 -- what a word says as a number
-unfoldable pub numberOf : List ℕ → Value
-numberOf t =
+unfoldable pub numberIn : List ℕ → Value
+numberIn t =
     pick (eqb (length t) 0) (value.Wrong fault.NumberMissing)
     (pick (hexed t) (said true 0 (drop 2 t)) (said false 0 t))
 
 -- word k of a line as a number; 0 beyond the last that is asked for
 unfoldable pub wantedOf : List ℕ → ℕ → ℕ → Value
-wantedOf t k last = pick (ltb last k) (value.Is 0) (numberOf (wordOf t k))
+wantedOf t k last = pick (ltb last k) (value.Is 0) (numberIn (wordFrom t k))
 
 -- three numbers; the first that is none says why
 unfoldable pub threeOf : Value → Value → Value → Three

@@ -7,16 +7,16 @@ use lib.ListN.{length, take, drop}
 use Rattle.lists.specs.Pick.{pick}
 
 -- how many bytes at the front of a text are blank, or are not
-unfoldable pub passed : Bool → List ℕ → ℕ
-passed blank [] = 0
-passed blank (x ∷ t) = pick (Bool·beq (ltb x 33) blank) (suc (passed blank t)) 0
+unfoldable pub spanned : Bool → List ℕ → ℕ
+spanned blank [] = 0
+spanned blank (x ∷ t) = pick (Bool·beq (ltb x 33) blank) (suc (spanned blank t)) 0
 
 -- where the first word at or behind a place starts, and where it ends; the text's length where there is none
 abbrev pub startsFrom : List ℕ → ℕ → ℕ
-startsFrom t at = at + passed true (drop at t)
+startsFrom t at = at + spanned true (drop at t)
 
 abbrev pub endsFrom : List ℕ → ℕ → ℕ
-endsFrom t at = startsFrom t at + passed false (drop (startsFrom t at) t)
+endsFrom t at = startsFrom t at + spanned false (drop (startsFrom t at) t)
 
 -- where the first k words are over
 unfoldable pub over : List ℕ → ℕ → ℕ
@@ -33,8 +33,8 @@ wordEnd t k = over t (suc k)
 abbrev pub part : List ℕ → ℕ → ℕ → List ℕ
 part t start end = take (end - start) (drop start t)
 
-unfoldable pub wordOf : List ℕ → ℕ → List ℕ
-wordOf t k = part t (wordStart t k) (wordEnd t k)
+unfoldable pub wordFrom : List ℕ → ℕ → List ℕ
+wordFrom t k = part t (wordStart t k) (wordEnd t k)
 
 -- how many bytes stand before the first b; the text's length where there is none
 unfoldable pub before : ℕ → List ℕ → ℕ
@@ -56,7 +56,7 @@ eqs (a ∷ t) (b ∷ s) = eqb a b && eqs t s
 -- the first of the n words from word k on that is w; k + n where none is
 unfoldable pub placeFrom : List ℕ → List ℕ → ℕ → ℕ → ℕ
 placeFrom l w k zero = k
-placeFrom l w k (suc n) = pick (eqs (wordOf l k) w) k (placeFrom l w (suc k) n)
+placeFrom l w k (suc n) = pick (eqs (wordFrom l k) w) k (placeFrom l w (suc k) n)
 
 -- which word of a list w is; the list's length where it is none: a list has no more words than bytes, and beyond them all are empty
 abbrev pub placeOf : List ℕ → List ℕ → ℕ

@@ -9,8 +9,8 @@ ghost use mathlib.Core.Path.{_≡_};
 ghost use Prim.Native.Nat.{_+_, _≤_, _<_};
 ghost use lib.ListN.{drop, length};
 ghost use Rattle.lists.specs.Pick.{pick};
-ghost use Rattle.script.specs.Words.{wordOf};
-ghost use Rattle.script.specs.Numbers.{digitOf, joined, numberOf, said, threeOf, wantedOf};
+ghost use Rattle.script.specs.Words.{wordFrom};
+ghost use Rattle.script.specs.Numbers.{digitOf, joined, numberIn, said, threeOf, wantedOf};
 
 // A hexadecimal digit's value; 16 where b is none.
 pub fn digit(b: u8) -> usize
@@ -95,7 +95,7 @@ fn digits(text: &[u8], from: usize, hex: bool) -> Value
 }
 
 pub fn number(text: &[u8]) -> Value
-    ensures { λ r. ⌜ r ≡ numberOf (now (text .entry)) ⌝ }
+    ensures { λ r. ⌜ r ≡ numberIn (now (text .entry)) ⌝ }
 {
     if text.len() == 0 {
         return Value::Wrong(Fault::NumberMissing);
@@ -111,7 +111,7 @@ pub fn number(text: &[u8]) -> Value
 
 // Word k of the line as a number.
 pub fn argument(text: &[u8], k: usize) -> Value
-    ensures { λ r. ⌜ r ≡ numberOf (wordOf (now (text .entry)) k) ⌝ }
+    ensures { λ r. ⌜ r ≡ numberIn (wordFrom (now (text .entry)) k) ⌝ }
 {
     let s = nth(text, k);
     let start = s.start;

@@ -3,12 +3,12 @@ use crate::Span;
 ghost use mathlib.Core.Path.{_≡_};
 ghost use Prim.Native.Nat.{_+_, _≤_, _<_};
 ghost use lib.ListN.{drop, length};
-ghost use Rattle.script.specs.Words.{before, eqs, lastEnd, part, passed, placeOf, wordEnd, wordOf, wordStart};
+ghost use Rattle.script.specs.Words.{before, eqs, lastEnd, part, spanned, placeOf, wordEnd, wordFrom, wordStart};
 
 // The first byte from `from` on that is not blank, or that is; the length where there is none.
 fn pass(text: &[u8], from: usize, blank: bool) -> usize
     requires { ⌜ from ≤ length (now text) ⌝ }
-    ensures is { λ r. ⌜ r ≡ from + passed blank (drop from (now (text .entry))) ⌝ }
+    ensures is { λ r. ⌜ r ≡ from + spanned blank (drop from (now (text .entry))) ⌝ }
     ensures within { λ r. ⌜ (from ≤ r) × (r ≤ length (now (text .entry))) ⌝ }
 {
     let mut i = from;
@@ -113,7 +113,7 @@ pub fn place_in(list: &[u8], w: &[u8]) -> usize
 
 // Which word of the list word k of the line is.
 pub fn find_word(list: &[u8], text: &[u8], k: usize) -> usize
-    ensures { λ r. ⌜ r ≡ placeOf (now (list .entry)) (wordOf (now (text .entry)) k) ⌝ }
+    ensures { λ r. ⌜ r ≡ placeOf (now (list .entry)) (wordFrom (now (text .entry)) k) ⌝ }
 {
     let s = nth(text, k);
     let start = s.start;

@@ -1,13 +1,16 @@
 // The theorems over any sequence of the journal's calls, from a mount on. No code: the calls' contracts (`Leaves` in
 // crates/journal/src/calls.rt) say that each call does what its definition says, and the theorems are about those definitions.
 //
-//   demand 1   a refused call changes nothing                               stays          proofs/Stays.antt
+//   demand 1   a refused call changes nothing                               stays          proofs/Taken.antt
 //              a contract permits one outcome                               leaves-unique  proofs/Unique.antt
+//              a step back that is done leaves a world that 1 to 4 pass     back-checked   proofs/Backs.antt
 //   demand 3   a mount begins such a session                                mounted        proofs/Mounting.antt
 //              the reel is well formed, the position 0 or after an object   always-good    proofs/Calls.antt
-//              one entry for each step that stands, of the stated length    one-each, journal-is
-//              a step back gives the world before the step                  step-undone, host-undone   proofs/Undone.antt
-//              going back k gives the world before the earliest of the k    back-to, back-exactly      proofs/Calls.antt
+//              one entry for each step that stands                          one-each
+//              the journal is those entries and nothing else                stepped-world, does-that
+//              a step back gives the world before the step                  step-undone    proofs/Taken.antt
+//              going back k gives the moment before the earliest of the k   back-to, back-exactly      proofs/Calls.antt
+//              the call step back does that                                 back-does, back-none
 //              refused for room exactly when the entry doesn't fit          room-exactly   proofs/Room.antt
 //              what was undone never was                                    never-was      proofs/Calls.antt
 //

@@ -1,13 +1,10 @@
 -- How the registers read. (01, "Registers")
 use mathlib.Core.Bool.{Bool, _||_, not}
-use Prim.Native.Nat.{ℕ, _+_, _*_, _/_, _%_, _^_}
+use Prim.Native.Nat.{ℕ, _+_, _*_, _/_, _%_}
 use lib.Dec.{eqb}
+use Rattle.signals.specs.Bits.{bit}
 use Rattle.signals.specs.Message.{flagOf}
 use Rattle.state.specs.declared.Unit.{Unit}
-
--- bit n, as a number
-abbrev pub bit : ℕ → ℕ
-bit n = 2 ^ n
 
 -- "TSBA reads the low 16 bits of the pointer last accepted"
 abbrev pub tsbaOf : Unit → ℕ

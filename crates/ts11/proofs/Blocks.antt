@@ -12,27 +12,27 @@ use lib.ListN.{drop, drop-of-length-le, getD, length, length-drop}
 use lib.Seq.{drop-at, drop-cons, drop-drop, getD-drop}
 use Rattle.lists.specs.Words.{Bytes, wordAt}
 use Rattle.lists.proofs.Sums.{word-whole}
-use Rattle.entries.specs.Numbers.{Small, bit, entryOf, isSet, nth, numberLimit, numbersOf, touchedOf, unitOf}
-use Rattle.entries.specs.Bytes.{headBytes, headCount, headLength, headNumbers, numberAt, numberBytes}
+use Rattle.entries.specs.Numbers.{Small, bitOf, entryOf, isSet, nth, numberLimit, numbersOf, touchedOf, unitOf}
+use Rattle.entries.specs.Bytes.{numbersBytes, headCount, headLength, headNumbers, numberAt, numberBytes}
 use Rattle.entries.proofs.Back.{entry-back, length-numbers}
 use Rattle.entries.proofs.HeadBytes.{head-back}
 use Rattle.entries.proofs.Joined.{head-long}
 use Rattle.entries.proofs.Turns.{length-read}
 use Rattle.worlds.specs.declared.Session.{Session}
-use Rattle.ts11.specs.Block.{Block, blockOf, entryWith, flagsRight, isBlock, restZero, sessionIn, sessionWith}
+use Rattle.ts11.specs.Block.{Block, stateBlock, entryWith, flagsRight, isBlock, restZero, sessionIn, sessionWith}
 use Rattle.ts11.proofs.Written.{length-block}
 
 -- the numbers in a session's block
-numbers-in : (s : Session) → headNumbers headCount (blockOf s) ≡ numbersOf (entryWith s)
-unfolding blockOf
+numbers-in : (s : Session) → headNumbers headCount (stateBlock s) ≡ numbersOf (entryWith s)
+unfolding stateBlock
 numbers-in s = rw (← length-numbers (entryWith s)) (head-back (numbersOf (entryWith s)) (numberBytes 0))
 
 -- what a session's block is read as
-pub block-back : (s : Session) → Small (entryWith s) → sessionIn (blockOf s) ≡ s
+pub block-back : (s : Session) → Small (entryWith s) → sessionIn (stateBlock s) ≡ s
 unfolding sessionIn sessionWith entryWith
 block-back s h = rw (numbers-in s, entry-back (entryWith s) h)
 
-a-flag : (b : Bool) → ltb (bit b) 2 ≡ true
+a-flag : (b : Bool) → ltb (bitOf b) 2 ≡ true
 a-flag true = refl
 a-flag false = refl
 
@@ -50,18 +50,18 @@ number-first b p =
     let e : p + 2 + 1 ≡ p + 3 = omega arith in
     rw (getD-drop p b 0 0, getD-drop p b 1 0, getD-drop p b 2 0, getD-drop p b 3 0, add-zero p, e)
 
-last-of : (s : Session) → numberAt (blockOf s) headLength ≡ 0
-unfolding blockOf
+last-of : (s : Session) → numberAt (stateBlock s) headLength ≡ 0
+unfolding stateBlock
 last-of s =
-    sym (number-first (headBytes (numbersOf (entryWith s)) ++ numberBytes 0) headLength)
-    ∙ ap (λ (x : List ℕ). numberAt x 0) (drop-at (headBytes (numbersOf (entryWith s))) (numberBytes 0) headLength (head-long (entryWith s)))
+    sym (number-first (numbersBytes (numbersOf (entryWith s)) ++ numberBytes 0) headLength)
+    ∙ ap (λ (x : List ℕ). numberAt x 0) (drop-at (numbersBytes (numbersOf (entryWith s))) (numberBytes 0) headLength (head-long (entryWith s)))
 
-block-right : (s : Session) → isBlock (blockOf s) ≡ true
+block-right : (s : Session) → isBlock (stateBlock s) ≡ true
 unfolding isBlock
 block-right s = rw (numbers-in s, flags-of s, rest-of s, last-of s)
 
 -- and it is a block, if it is bytes at all, as whatever stands in a lent slice is
-pub block-is : (s : Session) → Bytes (blockOf s) → Block (blockOf s)
+pub block-is : (s : Session) → Bytes (stateBlock s) → Block (stateBlock s)
 block-is s h = record { long = length-block s; bytes = h; right = block-right s }
 
 -- numbers read from bytes have at most four bytes
@@ -134,14 +134,14 @@ number-bytes b h =
     let n = number-parts (wordAt b 0) (wordAt b 2) (omega (arith, h 0, h 1)) (omega (arith, h 2, h 3)) in
     rw (n .0, n .1) (ap₂ (λ (x y : List ℕ). x ++ y) (word-whole (getD b 0 0) (getD b 1 0) (h 0) (h 1)) (word-whole (getD b 2 0) (getD b 3 0) (h 2) (h 3)))
 
-bytes-back : (k : ℕ) (b : List ℕ) → Bytes b → 4 * k ≤ length b → headBytes (headNumbers k b) ++ drop (4 * k) b ≡ b
-unfolding headBytes headNumbers
+bytes-back : (k : ℕ) (b : List ℕ) → Bytes b → 4 * k ≤ length b → numbersBytes (headNumbers k b) ++ drop (4 * k) b ≡ b
+unfolding numbersBytes headNumbers
 bytes-back zero b h l = refl
 bytes-back (suc k) b h l =
-    let rest : headBytes (headNumbers k (drop 4 b)) ++ drop (4 * k) (drop 4 b) ≡ drop 4 b = bytes-back k (drop 4 b) (bytes-drop 4 b h) (omega (arith, length-drop 4 b)) in
+    let rest : numbersBytes (headNumbers k (drop 4 b)) ++ drop (4 * k) (drop 4 b) ≡ drop 4 b = bytes-back k (drop 4 b) (bytes-drop 4 b h) (omega (arith, length-drop 4 b)) in
     let e : 4 * suc k ≡ 4 + 4 * k = omega arith in
     let past : drop (4 * suc k) b ≡ drop (4 * k) (drop 4 b) = ap (λ (i : ℕ). drop i b) e ∙ sym (drop-drop (4 * k) 4 b) in
-    ap₂ (λ (x y : List ℕ). x ++ headBytes (headNumbers k (drop 4 b)) ++ y) (number-bytes b h) past
+    ap₂ (λ (x y : List ℕ). x ++ numbersBytes (headNumbers k (drop 4 b)) ++ y) (number-bytes b h) past
     ∙ ap (λ (x : List ℕ). getD b 0 0 ∷ getD b 1 0 ∷ getD b 2 0 ∷ getD b 3 0 ∷ x) rest
     ∙ four-first b (omega arith)
 
@@ -218,7 +218,7 @@ rest-told n h =
     record { swb = p .0; message = (p .1, q .0); reel = (q .1, r .0); free = three (f 28) (f 29) (f 30) (r .1) }
 
 -- a flag is 0 or 1, and a number with no use is 0
-flag-back : (n : ℕ) → ltb n 2 ≡ true → bit (not (eqb n 0)) ≡ n
+flag-back : (n : ℕ) → ltb n 2 ≡ true → bitOf (not (eqb n 0)) ≡ n
 flag-back zero t = refl
 flag-back (suc zero) t = refl
 flag-back (suc (suc n)) t = absurd (omega (arith, ltb-true (suc (suc n)) 2 t))
@@ -230,7 +230,7 @@ module _ (n : List ℕ) (small : (i : ℕ) → getD n i 0 < numberLimit) (f : Fl
   number : (k : ℕ) → nth n k % numberLimit ≡ nth n k
   number k = low (nth n k) (small k)
 
-  flag : (k : ℕ) → Flag n k → bit (isSet n k) ≡ nth n k
+  flag : (k : ℕ) → Flag n k → bitOf (isSet n k) ≡ nth n k
   flag k t = flag-back (nth n k) t
 
   unused : (k : ℕ) → Unused n k → 0 ≡ nth n k
@@ -253,17 +253,17 @@ module _ (n : List ℕ) (small : (i : ℕ) → getD n i 0 < numberLimit) (f : Fl
   numbers-own long = each-own ∙ ap (elements (nth n) 0) (sym long) ∙ all-elements n
 
 -- a block's bytes are those of the session that it is read as
-pub block-own : (b : List ℕ) → Block b → blockOf (sessionIn b) ≡ b
-unfolding blockOf sessionIn isBlock
+pub block-own : (b : List ℕ) → Block b → stateBlock (sessionIn b) ≡ b
+unfolding stateBlock sessionIn isBlock
 block-own b k =
     let n : List ℕ = headNumbers headCount b in
     let last : List ℕ = drop headLength b in
     let t = three (flagsRight n) (restZero n) (eqb (numberAt b headLength) 0) (k .right) in
     let zero-last : 0 ≡ numberAt last 0 = sym (number-first b headLength ∙ eqb-true (numberAt b headLength) 0 (t .2)) in
     let tail : numberBytes 0 ≡ last = ap (λ (x : ℕ). numberBytes x) zero-last ∙ number-bytes last (bytes-drop headLength b (k .bytes)) ∙ four-last last (length-drop headLength b ∙ omega (arith, k .long)) in
-    ap₂ (λ (x y : List ℕ). headBytes x ++ y) (numbers-own n (read-small headCount b (k .bytes)) (flags-told n (t .0)) (rest-told n (t .1)) (length-read headCount b)) tail
+    ap₂ (λ (x y : List ℕ). numbersBytes x ++ y) (numbers-own n (read-small headCount b (k .bytes)) (flags-told n (t .0)) (rest-told n (t .1)) (length-read headCount b)) tail
     ∙ bytes-back headCount b (k .bytes) (omega (arith, k .long))
 
 -- so two blocks that are read as one session are one
 pub same-block : (b c : List ℕ) → Block b → Block c → sessionIn b ≡ sessionIn c → b ≡ c
-same-block b c h k e = sym (block-own b h) ∙ ap blockOf e ∙ block-own c k
+same-block b c h k e = sym (block-own b h) ∙ ap stateBlock e ∙ block-own c k

@@ -8,7 +8,7 @@ use lib.Dec.{eqb, ltb}
 use lib.ListN.{length}
 use Rattle.lists.specs.Words.{Bytes}
 use Rattle.entries.specs.Numbers.{entryOf, nth, numbersOf}
-use Rattle.entries.specs.Bytes.{headBytes, headCount, headLength, headNumbers, numberAt, numberBytes}
+use Rattle.entries.specs.Bytes.{numbersBytes, headCount, headLength, headNumbers, numberAt, numberBytes}
 use Rattle.entries.specs.declared.Entry.{Entry}
 use Rattle.worlds.specs.declared.Session.{Session}
 
@@ -33,8 +33,8 @@ unfoldable pub sessionWith : Entry → Session
 sessionWith e = record { unit = e .unit; used = e .touched .«data_at»; journal = e .touched .«data_length» }
 
 -- the block of a session
-unfoldable pub blockOf : Session → List ℕ
-blockOf s = headBytes (numbersOf (entryWith s)) ++ numberBytes 0
+unfoldable pub stateBlock : Session → List ℕ
+stateBlock s = numbersBytes (numbersOf (entryWith s)) ++ numberBytes 0
 
 -- the session that a block is read as, whatever its bytes
 unfoldable pub sessionIn : List ℕ → Session

@@ -19,7 +19,7 @@ use Rattle.worlds.specs.Calls.{backOn, refusedAs, registerOn, stepOn}
 use Rattle.worlds.specs.declared.Session.{Session}
 use Rattle.worlds.specs.declared.Outcome.{Outcome}
 use Rattle.worlds.specs.declared.RegisterRead.{RegisterRead}
-use Rattle.ts11.specs.Block.{blockOf, isBlock, sessionIn}
+use Rattle.ts11.specs.Block.{stateBlock, isBlock, sessionIn}
 
 -- "answered 0 it adds one entry", "Advance .. answers Idle .., and is no step taken"
 unfoldable pub isStep : Answer → Bool
@@ -44,7 +44,7 @@ faultIn (answer.BadBlock k) = k
 
 -- the block after an answer: the new session's, or, idle or refused, the very bytes that it was
 unfoldable pub blockAfter : List ℕ → Answer → Session → List ℕ
-blockAfter b (answer.Done i) s = blockOf s
+blockAfter b (answer.Done i) s = stateBlock s
 blockAfter b answer.Idle s = b
 blockAfter b (answer.Refused n) s = b
 blockAfter b (answer.BadBlock k) s = b

@@ -23,7 +23,7 @@ use Rattle.advance.specs.Steps.{advanced}
 use Rattle.advance.proofs.Planned.{advanced-seven, advanced-sound}
 use Rattle.touched.specs.Touches.{Sizes, TouchedIn, none}
 use Rattle.unit.specs.Asks.{Ask, Asked, advance, host-store, operate, write-tsdb, write-tssr}
-use Rattle.unit.specs.Cores.{Accepted, Core}
+use Rattle.unit.specs.Cores.{Admitted, Core}
 use Rattle.unit.specs.Steps.{Sound, carried, changed, hostLimit, stepOf, storeWrong, stored}
 use Rattle.unit.proofs.Storing.{advanced-storable}
 use Rattle.unit.proofs.Touches.{host-in, host-only, plan-in, plan-only, still-storable}
@@ -44,7 +44,7 @@ operated-lengths u act.OffLine = either (λ (v : Unit). v .lengths ≡ u .length
 operated-lengths u act.Lock = refl
 operated-lengths u act.Unlock = refl
 
-pub core-sizes : (c : Core) → Accepted c → Sizes (length (c .memory)) (length (c .reel))
+pub core-sizes : (c : Core) → Admitted c → Sizes (length (c .memory)) (length (c .reel))
 core-sizes c a =
     record {
       even = rw (a .memory-is) (a .legal .even);
@@ -53,7 +53,7 @@ core-sizes c a =
       reel-small = omega (arith, a .reel-is, a .legal .blocks-most);
     }
 
-module _ (c : Core) (a : Accepted c) where
+module _ (c : Core) (a : Admitted c) where
   pub plan-sound : (p : Plan) → Storable p (length (c .memory)) (length (c .reel)) → length (p .message) ≡ 7 → Legal (p .unit) → p .unit .lengths ≡ c .unit .lengths → Sound c (carried c p)
   unfolding carried
   plan-sound p fits seven l e =

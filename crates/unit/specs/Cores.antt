@@ -13,7 +13,7 @@ pub record Core : Type 0 where
   pub reel : List ℕ
 
 -- refusals 1 to 3 let it pass
-pub record Accepted (c : Core) : Type 0 where
+pub record Admitted (c : Core) : Type 0 where
   pub legal : Legal (c .unit)
   pub memory-is : length (c .memory) ≡ c .unit .lengths .memory
   pub reel-is : length (c .reel) ≡ blockBytes * c .unit .lengths .blocks

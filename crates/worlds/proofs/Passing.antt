@@ -14,7 +14,7 @@ use Rattle.state.specs.Checks.{refusalOf, stateWrong}
 use Rattle.state.proofs.Legal.{accepted, right}
 use Rattle.state.proofs.Tests.{neither}
 use Rattle.touched.specs.Touches.{Sizes}
-use Rattle.unit.specs.Cores.{Accepted}
+use Rattle.unit.specs.Cores.{Admitted}
 use Rattle.unit.proofs.Stepping.{core-sizes}
 use Rattle.entries.specs.Entries.{entryLength}
 use Rattle.entries.specs.declared.Entry.{Entry}
@@ -63,7 +63,7 @@ let-pass s memory reel journal p =
     )
 
 module _ (w : World) (n : ℕ) (p : Passed (sessionOf w) (length (w .core .memory)) (length (w .core .reel)) n) where
-  pub core-accepted : Accepted (w .core)
+  pub core-accepted : Admitted (w .core)
   core-accepted = record { legal = p .legal; memory-is = p .memory-is; reel-is = p .reel-is }
 
   pub sizes : Sizes (length (w .core .memory)) (length (w .core .reel))

@@ -23,7 +23,7 @@ use Rattle.entries.proofs.Fitting.{fits}
 use Rattle.worlds.specs.Worlds.{Ledger, World, answered, sessionOf}
 use Rattle.worlds.specs.Passes.{Fit, Passed}
 use Rattle.worlds.specs.Refusals.{checked}
-use Rattle.worlds.specs.Calls.{backOn, entryFor, entryWrong, guarded, noRoom, noted, takenAs, undoBy, undoOn, undone, without}
+use Rattle.worlds.specs.Calls.{backOn, entryFor, entryWrong, guarded, tooFull, noted, takenAs, undoBy, undoOn, undone, without}
 use Rattle.worlds.proofs.Passing.{let-pass, passed}
 
 -- the core: whatever a step did to it, its entry undoes it
@@ -151,12 +151,12 @@ module _ (n : ℕ) (w : World) (x : Step) (fit : Fit n w) (s : Sound (w .core) x
         )
 
 -- a step refused for room changes nothing
-pub refused-nine : (w : World) (x : Step) (a : Answer) → noRoom (w .ledger) (entryFor (w .core) x) ≡ true → takenAs w x a ≡ answered (answer.Refused 9) w
+pub refused-nine : (w : World) (x : Step) (a : Answer) → tooFull (w .ledger) (entryFor (w .core) x) ≡ true → takenAs w x a ≡ answered (answer.Refused 9) w
 unfolding takenAs
 refused-nine w x a t = rw t
 
 -- and one that is taken is undone by the step back
-pub step-back-undoes : (n : ℕ) (w : World) (x : Step) (a : Answer) → Fit n w → Sound (w .core) x → w .ledger .used + entryLength (entryFor (w .core) x) ≤ w .ledger .length → noRoom (w .ledger) (entryFor (w .core) x) ≡ false
+pub step-back-undoes : (n : ℕ) (w : World) (x : Step) (a : Answer) → Fit n w → Sound (w .core) x → w .ledger .used + entryLength (entryFor (w .core) x) ≤ w .ledger .length → tooFull (w .ledger) (entryFor (w .core) x) ≡ false
     → backOn (takenAs w x a .world) n ≡ answered (answer.Done false) w
 unfolding takenAs
 step-back-undoes n w x a fit s room t = rw t (taken-undone n w x fit s room)

@@ -39,8 +39,8 @@ unfoldable pub entryFor : Core → Step → Entry
 entryFor c x = record { unit = c .unit; touched = x .touched }
 
 -- "9 free journal less than the entry"
-abbrev pub noRoom : Ledger → Entry → Bool
-noRoom l e = ltb (l .length - l .used) (entryLength e)
+abbrev pub tooFull : Ledger → Entry → Bool
+tooFull l e = ltb (l .length - l .used) (entryLength e)
 
 -- "answered 0 it adds one entry": the ledger with the entry e of a step from the core c
 unfoldable pub noted : Ledger → Entry → Core → Ledger
@@ -54,7 +54,7 @@ noted l e c =
 -- a step whose entry fits is taken and noted
 unfoldable pub takenAs : World → Step → Answer → Answered
 takenAs w x a =
-    pick (noRoom (w .ledger) (entryFor (w .core) x)) (refusedAs 9 w)
+    pick (tooFull (w .ledger) (entryFor (w .core) x)) (refusedAs 9 w)
     (answered a (record { core = x .after; ledger = noted (w .ledger) (entryFor (w .core) x) (w .core) }))
 
 -- "Advance .. answers Idle .., changes nothing, adds no entry"; 5 and 7 change nothing either

@@ -6,13 +6,13 @@ use Prim.Native.Nat.{_≤_, _-_, _+_, _*_}
 use native.Mathlib.Nat.{add-zero}
 use lib.ListN.{length, drop}
 use lib.Seq.{sets}
-use Rattle.entries.specs.Bytes.{headBytes}
+use Rattle.entries.specs.Bytes.{numbersBytes}
 use Rattle.entries.proofs.Turns.{put-end, put-turn}
 use Rattle.entries.proofs.bytes.put_head.Statement.{statement}
 use Rattle.entries.proofs.bytes.put_head.Tie as tie
 
 abbrev Inv-loop : tie.InvT-loop
-Inv-loop b₀ at n i₀ b i = (i ≤ 31) × (length b ≡ length b₀) × (sets b (at + 4 * i) (headBytes (drop i n)) ≡ sets b₀ at (headBytes n))
+Inv-loop b₀ at n i₀ b i = (i ≤ 31) × (length b ≡ length b₀) × (sets b (at + 4 * i) (numbersBytes (drop i n)) ≡ sets b₀ at (numbersBytes n))
 
 abbrev μ-loop : tie.MeasureT-loop
 μ-loop b₀ at n i₀ b i = 31 - i

@@ -1,7 +1,7 @@
 -- `argument` meets its contract: the part that goes to `number` is word k.
 use borrow.Author.Needs.{needs}
 use mathlib.Core.Path.{ap, _∙_}
-use Rattle.script.specs.Numbers.{numberOf}
+use Rattle.script.specs.Numbers.{numberIn}
 use Rattle.script.proofs.Passing.{part-word}
 use Rattle.script.proofs.reads.argument.Statement.{statement}
 use Rattle.script.proofs.reads.argument.Tie as tie
@@ -25,7 +25,7 @@ returns : tie.Need-returns
 returns c =
     let a = c .before .before .before .before .args in
     let n = c .before .before .nth .ensures in
-    c .number .ensures ∙ ap numberOf (part-word (a .text .now) (a .k) _ _ (n .0) (n .1 .0))
+    c .number .ensures ∙ ap numberIn (part-word (a .text .now) (a .k) _ _ (n .0) (n .1 .0))
 
 pub argument-spec : {M : Type 1} → statement M
 argument-spec =

@@ -2,7 +2,7 @@
 use Prim.Native.Nat.{_+_, _≤_, _-_}
 use mathlib.Core.Path.{_≡_, sym, _∙_}
 use lib.ListN.{length, drop}
-use Rattle.script.specs.Words.{passed}
+use Rattle.script.specs.Words.{spanned}
 use Rattle.script.proofs.Passing.{pass-on, pass-stop, pass-end}
 use borrow.Author.Needs.{needs}
 use native.Mathlib.Omega.{arith}
@@ -10,7 +10,7 @@ use Rattle.script.proofs.words.pass.Statement.{statement}
 use Rattle.script.proofs.words.pass.Tie as tie
 
 abbrev Inv-loop : tie.InvT-loop
-Inv-loop text from blank i₀ i = (from + passed blank (drop from text) ≡ i + passed blank (drop i text)) × (from ≤ i) × (i ≤ length text)
+Inv-loop text from blank i₀ i = (from + spanned blank (drop from text) ≡ i + spanned blank (drop i text)) × (from ≤ i) × (i ≤ length text)
 
 abbrev μ-loop : tie.MeasureT-loop
 μ-loop text from blank i₀ i = length text - i
