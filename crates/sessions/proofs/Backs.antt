@@ -24,9 +24,9 @@ use Rattle.worlds.specs.Passes.{Passed}
 use Rattle.worlds.specs.Refusals.{checked}
 use Rattle.worlds.specs.Calls.{backOn, entryWrong, guarded, refusedAs, undoBy, undoOn, undone, without}
 use Rattle.worlds.proofs.Passing.{let-pass, passed, sizes}
-use Rattle.sessions.specs.Calling.{stepKind}
+use Rattle.sessions.specs.Calling.{Left, stepKind}
 use Rattle.sessions.specs.Session.{stepped}
-use Rattle.sessions.proofs.Taken.{Left, guarded-left}
+use Rattle.sessions.proofs.Taken.{guarded-left}
 
 length-memory-back : (t : Touched) (b m : List ℕ) → length (memoryBack t b m) ≡ length m
 unfolding memoryBack

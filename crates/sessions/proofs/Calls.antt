@@ -1,4 +1,4 @@
--- The calls as a machine of the session, and what holds of any session of them from a mounted reel on.
+-- The calls' machine is lawful, and what holds of any session of them from a mounted reel on.
 use mathlib.Core.Path.{_≡_, refl, sym, ap, _∙_}
 use mathlib.Core.Bool.{false}
 use mathlib.Core.List.{List, [], _∷_}
@@ -8,23 +8,13 @@ use lib.ListN.{length}
 use Rattle.commands.specs.declared.plans.Answer.the-variants as answer
 use Rattle.unit.specs.Cores.{Core}
 use Rattle.worlds.specs.Worlds.{answered}
-use Rattle.worlds.specs.Calls.{backOn, guarded, noted, refusedAs, undone}
-use Rattle.sessions.specs.Session.{Clean, Done, Kind, Machine, Moment, Ran, after, and-did, and-saw, back, backs, does, looked, one-did, one-saw, pops, refused, standing, start, stepped, strike}
-use Rattle.sessions.specs.Calling.{Call, Noted, Said, broughtBack, doing, entryAt, journalOf, kindOf, ledgerOf, lengthOf, notedAt, onCall, wordOf, worldFrom}
+use Rattle.worlds.specs.Calls.{backOn, guarded, noted, refusedAs}
+use Rattle.sessions.specs.Session.{Clean, Done, Kind, Lawful, Ran, after, and-did, and-saw, back, backs, does, looked, one-did, one-saw, pops, refused, standing, start, stepped, strike}
+use Rattle.sessions.specs.Calling.{Call, Here, Noted, broughtBack, calls, doing, entryAt, journalOf, kindNow, ledgerOf, lengthOf, notedAt, onCall, stepTo, worldFrom}
 use Rattle.sessions.specs.Good.{Fresh, Good}
 use Rattle.sessions.proofs.Striking.{entries-stand, fit-clean, fit-ran, one-end, strike-clean, struck, went-back}
 use Rattle.worlds.proofs.Undoing.{core-undone}
 use Rattle.sessions.proofs.Taken.{doing-keeps, doing-sound, stays, step-fit, step-undone, took}
-
-abbrev pub Here : Type 0
-Here = Moment Core Noted
-
-abbrev pub kindNow : ℕ → Call → Here → Kind
-kindNow n c s = kindOf c (onCall n c (worldFrom n s) .answer)
-
--- the moment after a step
-abbrev pub stepTo : Call → Here → Here
-stepTo c s = record { core = doing c (s .core) .after; entries = notedAt c (s .core) ∷ s .entries }
 
 -- a noted entry is the ledger's newest
 ledger-noted : (n : ℕ) (c : Call) (d : Core) (ks : List Noted) → noted (ledgerOf n ks) (entryAt c d) d ≡ ledgerOf n (notedAt c d ∷ ks)
@@ -48,70 +38,57 @@ module _ (n : ℕ) where
   unfolding notedAt
   went c s f k = core-undone (s .core) (doing c (s .core)) (doing-sound n (worldFrom n s) (f .fit) c k)
 
-  abbrev pub calls : Machine
-  calls =
-      record {
-        C = Core;
-        E = Noted;
-        K = Call;
-        A = Said;
-        kind = kindNow n;
-        next = λ c d. doing c d .after;
-        entry = notedAt;
-        answer = λ c s. record { answer = onCall n c (worldFrom n s) .answer; word = wordOf c (worldFrom n s) };
-        undo = broughtBack;
-        Fit = Good n;
-        keeps = kept-good;
-        undoes = went;
-      }
+  -- so a session of the calls has the laws of any session
+  abbrev pub lawful : Lawful (calls n)
+  lawful = record { Fit = Good n; keeps = kept-good; undoes = went }
 
   -- the call itself, step back: nothing but the bytes of the journal tells it what to do, and it leads where the model leads
   back-stepped : (c : Call) (s : Here) → Good n s → kindNow n c s ≡ stepped → backOn (worldFrom n (stepTo c s)) n ≡ answered (answer.Done false) (worldFrom n s)
   back-stepped c s f k = rw (← stepped-world c s k) (step-undone n (worldFrom n s) (f .fit) c k)
 
-  clean-back : {s₀ s : Here} {l : List (Done calls)} {e : Noted} {es : List Noted} → Fresh n s₀ → Clean calls l → Ran calls s₀ l s → s .entries ≡ e ∷ es → backOn (worldFrom n s) n ≡ answered (answer.Done false) (worldFrom n (back calls s))
+  clean-back : {s₀ s : Here} {l : List (Done (calls n))} {e : Noted} {es : List Noted} → Fresh n s₀ → Clean (calls n) l → Ran (calls n) s₀ l s → s .entries ≡ e ∷ es → backOn (worldFrom n s) n ≡ answered (answer.Done false) (worldFrom n (back (calls n) s))
   clean-back f k start q = absurd (let z : _≡_ {A = ℕ} 0 1 = cc (f .none) in omega arith)
   clean-back f (one-did k) (and-did {k = c} {s = s} r kd an st) q =
-      let good = fit-clean calls (f .good) k r in
-      let was : back calls (stepTo c s) ≡ s = λ i. record { core = went c s good kd i; entries = s .entries } in
+      let good = fit-clean (calls n) lawful (f .good) k r in
+      let was : back (calls n) (stepTo c s) ≡ s = λ i. record { core = went c s good kd i; entries = s .entries } in
       rw st (back-stepped c s good kd ∙ ap (λ (x : Here). answered (answer.Done false) (worldFrom n x)) (sym was))
   clean-back f (one-saw k) (and-saw r kd an) q = clean-back f k r q
 
   -- Any session from its beginning on.
-  module _ {s₀ s : Here} {l : List (Done calls)} (f : Fresh n s₀) (r : Ran calls s₀ l s) where
+  module _ {s₀ s : Here} {l : List (Done (calls n))} (f : Fresh n s₀) (r : Ran (calls n) s₀ l s) where
     -- no check refuses; "the reel is well formed, the position is 0 or just after an object"
     pub always-good : Good n s
-    always-good = fit-ran calls (f .good) (f .none) r
+    always-good = fit-ran (calls n) lawful (f .good) (f .none) r
 
     -- what was undone never was
-    pub never-was : Ran calls s₀ (strike calls l) s
-    never-was = struck calls (f .good) (f .none) r
+    pub never-was : Ran (calls n) s₀ (strike (calls n) l) s
+    never-was = struck (calls n) lawful (f .good) (f .none) r
 
     -- "the journal holds one entry per step taken and still standing": the world's ledger is, by `worldFrom`, that of the entries
-    pub one-each : length (s .entries) ≡ standing calls (strike calls l)
-    one-each = entries-stand calls (f .none) (strike-clean calls l) never-was
+    pub one-each : length (s .entries) ≡ standing (calls n) (strike (calls n) l)
+    one-each = entries-stand (calls n) (f .none) (strike-clean (calls n) l) never-was
 
     -- "going back k gives the state, memory and reel before the earliest of those k"
-    pub back-to : (k : ℕ) → k ≤ standing calls (strike calls l) → Ran calls s₀ (pops calls k (strike calls l)) (backs calls k s)
-    back-to k h = went-back calls k (f .good) (f .none) (strike-clean calls l) never-was h
+    pub back-to : (k : ℕ) → k ≤ standing (calls n) (strike (calls n) l) → Ran (calls n) s₀ (pops (calls n) k (strike (calls n) l)) (backs (calls n) k s)
+    back-to k h = went-back (calls n) lawful k (f .good) (f .none) (strike-clean (calls n) l) never-was h
 
     -- the log without its k newest steps leads to one moment, and that is where going back k leads
-    pub back-exactly : (k : ℕ) {s′ : Here} → k ≤ standing calls (strike calls l) → Ran calls s₀ (pops calls k (strike calls l)) s′ → backs calls k s ≡ s′
-    back-exactly k h q = one-end calls (back-to k h) q
+    pub back-exactly : (k : ℕ) {s′ : Here} → k ≤ standing (calls n) (strike (calls n) l) → Ran (calls n) s₀ (pops (calls n) k (strike (calls n) l)) s′ → backs (calls n) k s ≡ s′
+    back-exactly k h q = one-end (calls n) (back-to k h) q
 
     -- the call leads where the model leads: with an entry it is done, without one it is refused with 6
-    pub back-does : {e : Noted} {es : List Noted} → s .entries ≡ e ∷ es → backOn (worldFrom n s) n ≡ answered (answer.Done false) (worldFrom n (back calls s))
-    back-does q = clean-back f (strike-clean calls l) never-was q
+    pub back-does : {e : Noted} {es : List Noted} → s .entries ≡ e ∷ es → backOn (worldFrom n s) n ≡ answered (answer.Done false) (worldFrom n (back (calls n) s))
+    back-does q = clean-back f (strike-clean (calls n) l) never-was q
 
     pub back-none : s .entries ≡ [] → backOn (worldFrom n s) n ≡ refusedAs 6 (worldFrom n s)
     unfolding backOn guarded lengthOf
     back-none e = rw (always-good .fit .sound, ap lengthOf e)
 
   -- what the model does is what the call does
-  does-by : (c : Call) (s : Here) (k : Kind) → kindNow n c s ≡ k → worldFrom n (after calls k c s) ≡ onCall n c (worldFrom n s) .world
+  does-by : (c : Call) (s : Here) (k : Kind) → kindNow n c s ≡ k → worldFrom n (after (calls n) k c s) ≡ onCall n c (worldFrom n s) .world
   does-by c s stepped e = sym (stepped-world c s e)
   does-by c s refused e = sym (stays n c (worldFrom n s) (λ z. let y : refused ≡ stepped = sym e ∙ z in absurd (let x : _≡_ {A = ℕ} 0 1 = cc in omega arith)))
   does-by c s looked e = sym (stays n c (worldFrom n s) (λ z. let y : looked ≡ stepped = sym e ∙ z in absurd (let x : _≡_ {A = ℕ} 0 1 = cc in omega arith)))
 
-  pub does-that : (c : Call) (s : Here) → worldFrom n (does calls c s) ≡ onCall n c (worldFrom n s) .world
+  pub does-that : (c : Call) (s : Here) → worldFrom n (does (calls n) c s) ≡ onCall n c (worldFrom n s) .world
   does-that c s = does-by c s (kindNow n c s) refl

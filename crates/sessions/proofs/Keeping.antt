@@ -1,6 +1,6 @@
 -- Every step keeps the reel well formed with the position at a bound.
 use mathlib.Core.Path.{_≡_, refl}
-use mathlib.Core.Bool.{Bool, true, false}
+use mathlib.Core.Bool.{true, false}
 use mathlib.Core.List.{List, []}
 use Prim.Native.Nat.{ℕ}
 use lib.ListN.{length}
@@ -20,9 +20,7 @@ use Rattle.kept.proofs.Standing.{unlaid}
 use Rattle.unit.specs.Asks.{Ask, advance, host-store, operate, write-tsdb, write-tssr}
 use Rattle.unit.specs.Cores.{Accepted, Core}
 use Rattle.unit.specs.Steps.{Step, carried, changed, stepOf, storeWrong, stored}
-
-abbrev pub CoreFormed : Core → Type 0
-CoreFormed c = Formed (c .reel) (c .unit .tape)
+use Rattle.sessions.specs.Good.{CoreFormed}
 
 -- block 0 is a bound
 pub first-bound : (os : List Object) → Bound os 0

@@ -1,7 +1,7 @@
 -- A mount begins a session: its world is fit, its reel well formed, and its journal empty.
 use mathlib.Core.Path.{_≡_, refl, ap}
 use mathlib.Core.Bool.{Bool, true, false, _||_, not}
-use mathlib.Core.List.{List, []}
+use mathlib.Core.List.{List}
 use Prim.Native.Nat.{ℕ, _*_, _/_, _%_, _≤_}
 use native.Mathlib.Omega.{arith}
 use borrow.Author.Tests.{eqb-true, ltb-false, not-false}
@@ -27,12 +27,11 @@ use Rattle.worlds.specs.declared.Outcome.{Outcome}
 use Rattle.worlds.specs.Refusals.{journalLimit}
 use Rattle.worlds.specs.Calls.{mountOn, mountedBy, session}
 use Rattle.worlds.proofs.Passing.{let-pass}
-use Rattle.unit.specs.Cores.{Core}
 use Rattle.worlds.specs.Passes.{Fit}
-use Rattle.sessions.specs.Session.{Moment, refused, stepped}
-use Rattle.sessions.specs.Calling.{Noted, journalOf, lengthOf, stepKind, worldFrom}
+use Rattle.sessions.specs.Session.{refused, stepped}
+use Rattle.sessions.specs.Calling.{journalOf, lengthOf, stepKind, worldFrom}
 use Rattle.kept.specs.Formed.{Formed}
-use Rattle.sessions.specs.Good.{Fresh}
+use Rattle.sessions.specs.Good.{Fresh, mountMoment}
 use Rattle.sessions.proofs.Keeping.{first-bound}
 use Rattle.sessions.proofs.Taken.{refused-none}
 
@@ -111,11 +110,6 @@ module _ (old : Session) (memory : ℕ) (r : List ℕ) (journal e : ℕ) (online
         is = rw (t, v) (z .1);
       }))
       (λ t. let y : answer.Refused (mountRefusal memory (length r) e) ≡ answer.Done false = rw t at k in not-done (mountRefusal memory (length r) e) y)
-
--- the moment that a mount leaves
-abbrev pub mountMoment : Session → List ℕ → List ℕ → ℕ → ℕ → Bool → Bool → Moment Core Noted
-mountMoment old m r journal e online locked =
-    record { core = record { unit = mountOn old (length m) r journal e online locked .session .unit; memory = m; reel = r }; entries = [] }
 
 module _ (old : Session) (m r : List ℕ) (journal e : ℕ) (online locked : Bool) (k : mountOn old (length m) r journal e online locked .answer ≡ answer.Done false) where
   found : MountDone old (length m) r journal e online locked

@@ -18,12 +18,13 @@ use Rattle.unit.proofs.Stepping.{sound}
 use Rattle.entries.specs.Entries.{entryLength}
 use Rattle.worlds.specs.Worlds.{Answered, World, answered, sessionOf}
 use Rattle.worlds.specs.Refusals.{checked}
-use Rattle.worlds.specs.Calls.{backOn, entryFor, guarded, noRoom, noted, refusedAs, stepOn, takenAs, takenBy}
+use Rattle.worlds.specs.Calls.{backOn, entryFor, guarded, noRoom, refusedAs, stepOn, takenAs, takenBy}
 use Rattle.worlds.proofs.Passing.{core-accepted, passed}
 use Rattle.worlds.specs.Passes.{Fit}
 use Rattle.sessions.specs.Session.{looked, refused, stepped}
-use Rattle.sessions.specs.Calling.{Call, doing, entryAt, kindOf, onCall, read-register, readKind, step, stepKind}
-use Rattle.sessions.proofs.Keeping.{CoreFormed, keeping}
+use Rattle.sessions.specs.Calling.{Call, Left, Took, doing, entryAt, kindOf, onCall, read-register, readKind, step, stepKind}
+use Rattle.sessions.specs.Good.{CoreFormed}
+use Rattle.sessions.proofs.Keeping.{keeping}
 use Rattle.worlds.proofs.Undoing.{fit-after, taken-undone}
 
 -- kinds are apart
@@ -65,14 +66,6 @@ module _ (n : ℕ) (w : World) where
   unfolding onCall kindOf stepOn
   sound-step (step a h) k = sound-guarded _ k
   sound-step (read-register r) k = read-none _ k
-
--- a step x from w, taken
-abbrev pub takenTo : World → Step → World
-takenTo w x = record { core = x .after; ledger = noted (w .ledger) (entryFor (w .core) x) (w .core) }
-
-pub record Took (w next : World) (x : Step) : Type 0 where
-  pub is : next ≡ takenTo w x
-  pub room : noRoom (w .ledger) (entryFor (w .core) x) ≡ false
 
 module _ (w : World) (x : Step) where
   took-as : (a : Answer) → stepKind (takenAs w x a .answer) ≡ stepped → Took w (takenAs w x a .world) x
@@ -126,10 +119,6 @@ module _ (n : ℕ) (w : World) (fit : Fit n w) where
     step-fit =
         subst (Fit n) (sym (took n c w k .is))
         (fit-after n w (doing c (w .core)) fit (doing-sound c k) has-room)
-
--- a call that took no step left the world as it was: refusals, an idle advance and a reading
-abbrev pub Left : World → Answered → Type 0
-Left w x = (stepKind (x .answer) ≡ stepped → ⊥) → x .world ≡ w
 
 module _ (n : ℕ) (w : World) where
   pub guarded-left : (x : Answered) → Left w x → Left w (guarded w n x)

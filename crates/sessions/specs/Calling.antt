@@ -1,5 +1,7 @@
 -- The journal's calls as the steps of a session. (01, "Calls")
 use mathlib.Core.List.{List, [], _∷_, _++_}
+use mathlib.Core.Path.{_≡_}
+use mathlib.Core.Bool.{false}
 use Prim.Native.Nat.{ℕ, _+_}
 use Rattle.commands.specs.declared.plans.Answer.{Answer}
 use Rattle.commands.specs.declared.plans.Answer.the-variants as answer
@@ -11,8 +13,8 @@ use Rattle.unit.specs.declared.registers.Register.{Register}
 use Rattle.entries.specs.Entries.{entryBytes, entryLength}
 use Rattle.entries.specs.declared.Entry.{Entry}
 use Rattle.worlds.specs.Worlds.{Answered, Ledger, World, answered, sessionOf}
-use Rattle.worlds.specs.Calls.{entryFor, registerOn, stepOn, undone}
-use Rattle.sessions.specs.Session.{Kind, Moment, looked, refused, stepped}
+use Rattle.worlds.specs.Calls.{entryFor, noRoom, noted, registerOn, stepOn, undone}
+use Rattle.sessions.specs.Session.{Kind, Machine, Moment, looked, refused, stepped}
 
 -- a call of a session
 pub data Call : Type 0 where
@@ -59,6 +61,19 @@ doing (read-register r) c = record { answer = answer.Idle; touched = none; after
 abbrev pub entryAt : Call → Core → Entry
 entryAt k c = entryFor c (doing k c)
 
+-- a step x from w, taken
+abbrev pub takenTo : World → Step → World
+takenTo w x = record { core = x .after; ledger = noted (w .ledger) (entryFor (w .core) x) (w .core) }
+
+-- the step took w to next, and its entry had room
+pub record Took (w next : World) (x : Step) : Type 0 where
+  pub is : next ≡ takenTo w x
+  pub room : noRoom (w .ledger) (entryFor (w .core) x) ≡ false
+
+-- a call that took no step left the world as it was: refusals, an idle advance and a reading
+abbrev pub Left : World → Answered → Type 0
+Left w x = (stepKind (x .answer) ≡ stepped → ⊥) → x .world ≡ w
+
 -- an entry that stands in the journal, the bytes it saved, and its own bytes there
 pub record Noted : Type 0 where
   pub entry : Entry
@@ -86,10 +101,37 @@ lengthOf (k ∷ ks) = lengthOf ks + entryLength (k .entry)
 abbrev pub ledgerOf : ℕ → List Noted → Ledger
 ledgerOf n ks = record { used = lengthOf ks; length = n; bytes = journalOf ks }
 
+-- a moment of a session of calls
+abbrev pub Here : Type 0
+Here = Moment Core Noted
+
 -- the world of a moment: its core, and the ledger of the entries that stand, which is the journal and nothing else
-abbrev pub worldFrom : ℕ → Moment Core Noted → World
+abbrev pub worldFrom : ℕ → Here → World
 worldFrom n s = record { core = s .core; ledger = ledgerOf n (s .entries) }
 
 -- a core with an entry that stands brought back
 abbrev pub broughtBack : Noted → Core → Core
 broughtBack k c = undone (k .entry) (k .saved) c
+
+-- whether a call takes a step at a moment, looks, or is refused
+abbrev pub kindNow : ℕ → Call → Here → Kind
+kindNow n c s = kindOf c (onCall n c (worldFrom n s) .answer)
+
+-- the moment after a step
+abbrev pub stepTo : Call → Here → Here
+stepTo c s = record { core = doing c (s .core) .after; entries = notedAt c (s .core) ∷ s .entries }
+
+-- the calls with a journal of n bytes, as a session's machine
+abbrev pub calls : ℕ → Machine
+calls n =
+    record {
+      C = Core;
+      E = Noted;
+      K = Call;
+      A = Said;
+      kind = kindNow n;
+      next = λ c d. doing c d .after;
+      entry = notedAt;
+      answer = λ c s. record { answer = onCall n c (worldFrom n s) .answer; word = wordOf c (worldFrom n s) };
+      undo = broughtBack;
+    }

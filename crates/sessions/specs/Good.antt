@@ -1,29 +1,39 @@
 -- What every moment of a session from a mount on has, and what a session begins with.
-use mathlib.Core.List.{[]}
+use mathlib.Core.List.{List, []}
 use mathlib.Core.Path.{_≡_}
 use mathlib.Core.Bool.{Bool}
 use Prim.Native.Nat.{ℕ, _-_, _<_}
+use lib.ListN.{length}
 use Rattle.kept.specs.Formed.{Formed}
 use Rattle.commands.specs.declared.plans.Answer.the-variants as answer
 use Rattle.unit.specs.Cores.{Core}
 use Rattle.unit.specs.Steps.{stepOf}
 use Rattle.entries.specs.Entries.{entryLength}
 use Rattle.entries.specs.declared.Entry.{Entry}
+use Rattle.worlds.specs.declared.Session.{Session}
 use Rattle.worlds.specs.Worlds.{Answered, Ledger, World}
 use Rattle.worlds.specs.Passes.{Fit}
-use Rattle.worlds.specs.Calls.{refusedAs}
-use Rattle.sessions.specs.Session.{Moment}
-use Rattle.sessions.specs.Calling.{Call, Noted, read-register, step, worldFrom}
+use Rattle.worlds.specs.Calls.{mountOn, refusedAs}
+use Rattle.sessions.specs.Calling.{Call, Here, read-register, step, worldFrom}
 
--- what every moment of a session has: "the reel is well formed, the position is 0 or just after an object"
-pub record Good (n : ℕ) (s : Moment Core Noted) : Type 0 where
+-- "the reel is well formed, the position is 0 or just after an object"
+abbrev pub CoreFormed : Core → Type 0
+CoreFormed c = Formed (c .reel) (c .unit .tape)
+
+-- what every moment of a session has
+pub record Good (n : ℕ) (s : Here) : Type 0 where
   pub fit : Fit n (worldFrom n s)
-  pub formed : Formed (s .core .reel) (s .core .unit .tape)
+  pub formed : CoreFormed (s .core)
 
 -- a session begins with no entry
-pub record Fresh (n : ℕ) (s : Moment Core Noted) : Type 0 where
+pub record Fresh (n : ℕ) (s : Here) : Type 0 where
   pub good : Good n s
   pub none : s .entries ≡ []
+
+-- the moment that a mount leaves
+abbrev pub mountMoment : Session → List ℕ → List ℕ → ℕ → ℕ → Bool → Bool → Here
+mountMoment old m r journal e online locked =
+    record { core = record { unit = mountOn old (length m) r journal e online locked .session .unit; memory = m; reel = r }; entries = [] }
 
 -- a call that is no reading, that neither 5 nor 7 refuses, and that is no idle advance
 abbrev pub Steppable : Call → Core → Type 0

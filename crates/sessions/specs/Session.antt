@@ -13,7 +13,7 @@ pub record Moment (C E : Type 0) : Type 0 where
   pub core : C
   pub entries : List E
 
--- the machine: what a call does at a moment, and how its entry is undone; `Fit` is what every moment of a session has, from its first on
+-- the machine: what a call does at a moment, and how its entry is undone
 pub record Machine : Type 1 where
   pub C : Type 0
   pub E : Type 0
@@ -24,10 +24,14 @@ pub record Machine : Type 1 where
   pub entry : K → C → E
   pub answer : K → Moment C E → A
   pub undo : E → C → C
-  pub Fit : Moment C E → Type 0
-  pub keeps : (k : K) (s : Moment C E) → Fit s → kind k s ≡ stepped → Fit (record { core = next k (s .core); entries = entry k (s .core) ∷ s .entries })
-  -- a step taken is undone by its entry
-  pub undoes : (k : K) (s : Moment C E) → Fit s → kind k s ≡ stepped → undo (entry k (s .core)) (next k (s .core)) ≡ s .core
+
+-- what a machine's session rests on: `Fit` is what every moment of it has, from its first on, and a step taken is undone by its entry
+pub record Lawful (M : Machine) : Type 1 where
+  pub Fit : Moment (M .C) (M .E) → Type 0
+  pub keeps : (k : M .K) (s : Moment (M .C) (M .E))
+      → Fit s → M .kind k s ≡ stepped → Fit (record { core = M .next k (s .core); entries = M .entry k (s .core) ∷ s .entries })
+  pub undoes : (k : M .K) (s : Moment (M .C) (M .E))
+      → Fit s → M .kind k s ≡ stepped → M .undo (M .entry k (s .core)) (M .next k (s .core)) ≡ s .core
 
 module _ (M : Machine) where
   abbrev pub Now : Type 0

@@ -6,17 +6,17 @@ use lib.ListN.{length}
 use Rattle.worlds.specs.Worlds.{World}
 use Rattle.worlds.specs.Passes.{Fit}
 use Rattle.sessions.specs.Session.{Done, Ran, back, standing}
-use Rattle.sessions.specs.Calling.{Call, Noted, entryAt, worldFrom}
+use Rattle.sessions.specs.Calling.{Call, Noted, calls, entryAt, worldFrom}
 use Rattle.kept.specs.Formed.{Formed}
 use Rattle.sessions.specs.Good.{Exactly, Good, Steppable}
-use Rattle.sessions.proofs.Calls.{always-good, calls, never-was, one-each}
+use Rattle.sessions.proofs.Calls.{always-good, never-was, one-each}
 use Rattle.sessions.proofs.Room.{room-exactly}
 use Rattle.sessions.proofs.Striking.{one-end}
 use Rattle.ts11.specs.Given.{Host, backGiven, worldIn}
 use Rattle.surface.specs.Hosting.{AtMoment, Begins, Entries, GoodHost, Hosted, Line, Returned, Unchanged, first, given}
+use Rattle.surface.specs.Following.{Follows, stands}
 use Rattle.surface.proofs.Goes.{world-bytes}
 use Rattle.surface.proofs.Runs.{given-is}
-use Rattle.surface.proofs.Following.{Follows, stands}
 use Rattle.surface.proofs.Hosts.{back-empty, back-one, host-ran}
 
 module _ {h₀ h : Host} {d : List Line} (s : Begins h₀) (r : Hosted h₀ d h) where

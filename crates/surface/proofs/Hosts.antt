@@ -8,15 +8,15 @@ use Rattle.worlds.specs.Worlds.{Answered, World}
 use Rattle.worlds.specs.Calls.{backOn}
 use Rattle.sessions.specs.Session.{Kind, after, and-did, and-not, and-saw, does, looked, refused, start, stepped, undid}
 use Rattle.sessions.specs.Session as session
-use Rattle.sessions.specs.Calling.{Call, Noted, onCall, worldFrom}
+use Rattle.sessions.specs.Calling.{Call, Here, Noted, calls, kindNow, onCall, worldFrom}
 use Rattle.sessions.specs.Good.{Fresh}
-use Rattle.sessions.proofs.Calls.{Here, back-does, back-none, calls, does-that, kindNow}
+use Rattle.sessions.proofs.Calls.{back-does, back-none, does-that}
 use Rattle.sessions.proofs.Striking.{goes-back}
 use Rattle.ts11.specs.Given.{Host, backGiven, worldIn}
 use Rattle.surface.specs.Hosting.{AtMoment, Begins, Hosted, Line, Returned, and-back, and-made, back, begun, first, given, made}
+use Rattle.surface.specs.Following.{Follows, a-back, a-look, a-refusal, a-step, no-back, none}
 use Rattle.surface.proofs.Runs.{given-is, runs-as}
 use Rattle.surface.proofs.Backs.{back-as, back-is}
-use Rattle.surface.proofs.Following.{Follows, a-back, a-look, a-refusal, a-step, no-back, none}
 
 module _ {n : ℕ} {s₀ : Here} {d : List Line} {h : Host} (f : Follows n s₀ d h) where
   abbrev was : World

@@ -8,7 +8,6 @@ pub mod Undone
 pub mod Refused
 pub mod Rounds
 pub mod Unique
-pub mod Following
 pub mod Hosts
 pub mod Mounted
 pub mod Always

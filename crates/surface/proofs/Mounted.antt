@@ -15,17 +15,15 @@ use Rattle.tape.specs.declared.Swept.the-variants as swept
 use Rattle.state.specs.declared.Unit.{Unit}
 use Rattle.commands.specs.Answers.{numberOf}
 use Rattle.commands.specs.declared.plans.Answer.the-variants as answer
-use Rattle.unit.specs.Cores.{Core}
 use Rattle.unit.specs.Mounts.{mountCall, mountRefusal, mountSwept}
 use Rattle.entries.specs.Entries.{usedIn}
 use Rattle.worlds.specs.declared.Session.{Session}
 use Rattle.worlds.specs.Worlds.{sessionOf}
 use Rattle.worlds.specs.Refusals.{journalLimit}
 use Rattle.worlds.specs.Calls.{mountOn, mountedBy, session}
-use Rattle.sessions.specs.Session.{Moment}
-use Rattle.sessions.specs.Calling.{Noted, journalOf, ledgerOf, lengthOf, stepKind, worldFrom}
-use Rattle.sessions.specs.Good.{Fresh}
-use Rattle.sessions.proofs.Mounting.{mount-session, mountMoment, mounted, mounted-fit}
+use Rattle.sessions.specs.Calling.{Here, journalOf, ledgerOf, lengthOf, stepKind, worldFrom}
+use Rattle.sessions.specs.Good.{Fresh, mountMoment}
+use Rattle.sessions.proofs.Mounting.{mount-session, mounted, mounted-fit}
 use Rattle.ts11.specs.Block.{Block, blockOf, sessionIn}
 use Rattle.ts11.specs.Given.{Host, Mounts, holding, worldIn}
 use Rattle.ts11.proofs.Blocks.{block-back, block-is}
@@ -64,7 +62,7 @@ module _ (h : Host) (e : ℕ) (online locked : Bool) {b′ : List ℕ} {k : ℕ}
   abbrev after : Host
   after = holding b′ (h .memory) (h .reel) (h .journal)
 
-  abbrev moment : Moment Core Noted
+  abbrev moment : Here
   moment = mountMoment old (h .memory) (h .reel) n e online locked
 
   done : mountOn old (length (h .memory)) (h .reel) n e online locked .answer ≡ answer.Done false

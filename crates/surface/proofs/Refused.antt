@@ -13,8 +13,8 @@ use Rattle.worlds.specs.declared.Outcome.{Outcome}
 use Rattle.worlds.specs.Worlds.{Answered, World, sessionOf}
 use Rattle.worlds.specs.Calls.{backOn, refusedAs}
 use Rattle.sessions.specs.Session.{stepped}
-use Rattle.sessions.specs.Calling.{Call, onCall, stepKind}
-use Rattle.sessions.proofs.Taken.{Left, refused-none, stays, step-done}
+use Rattle.sessions.specs.Calling.{Call, Left, onCall, stepKind}
+use Rattle.sessions.proofs.Taken.{refused-none, stays, step-done}
 use Rattle.sessions.proofs.Backs.{back-left}
 use Rattle.ts11.specs.Block.{isBlock}
 use Rattle.ts11.specs.Given.{Gives, Host, Mounts, backGiven, blockAfter, opened, worldIn}

@@ -4,12 +4,11 @@ use mathlib.Core.Path.{_≡_}
 use Prim.Native.Nat.{ℕ}
 use lib.ListN.{length}
 use Rattle.lists.specs.Words.{Bytes}
-use Rattle.unit.specs.Cores.{Core}
 use Rattle.entries.specs.Entries.{usedIn}
 use Rattle.worlds.specs.Worlds.{Answered}
 use Rattle.worlds.specs.Passes.{Fit}
-use Rattle.sessions.specs.Session.{Moment, stepped}
-use Rattle.sessions.specs.Calling.{Call, Noted, journalOf, kindOf, lengthOf, onCall, worldFrom}
+use Rattle.sessions.specs.Session.{stepped}
+use Rattle.sessions.specs.Calling.{Call, Here, Noted, journalOf, kindOf, lengthOf, onCall, worldFrom}
 use Rattle.kept.specs.Formed.{Formed}
 use Rattle.sessions.specs.Good.{Fresh}
 use Rattle.ts11.specs.Block.{Block, sessionIn}
@@ -57,13 +56,13 @@ pub data Round : Host → Host → Type 0 where
       → Round h₂ h₃ → Returned h₃ (backGiven h₃) l h₄ → Round h h₄
 
 -- the host h is at the moment s of a session with a journal of n bytes: it holds that moment's world, as some session's block
-pub record AtMoment (n : ℕ) (s : Moment Core Noted) (h : Host) : Type 0 where
+pub record AtMoment (n : ℕ) (s : Here) (h : Host) : Type 0 where
   pub world : worldFrom n s ≡ worldIn h
   pub block : Block (h .block)
   pub long : length (h .journal) ≡ n
 
 -- the moment that h holds, with no entry
-abbrev pub first : Host → Moment Core Noted
+abbrev pub first : Host → Here
 first h = record { core = worldIn h .core; entries = [] }
 
 -- what a host holds when a session begins

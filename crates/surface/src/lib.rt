@@ -18,4 +18,4 @@
 //                                                                                           proofs/Always.antt
 //   a step back leads where the session's leads                   host-back, host-none
 //
-// specs/Hosting.antt says what a host holds and what its calls are; proofs/Following.antt what it is for a host's log to follow a session's.
+// specs/Hosting.antt says what a host holds and what its calls are; specs/Following.antt what it is for a host's log to follow a session's.

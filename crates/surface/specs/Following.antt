@@ -1,11 +1,10 @@
--- A host's log beside a session's. These definitions name the machine `calls`, which carries its laws, and so stand here and not in specs/.
+-- A host's log beside a session's, and what it is for the one to follow the other.
 use mathlib.Core.List.{List, [], _∷_}
 use mathlib.Core.Path.{_≡_}
 use Prim.Native.Nat.{ℕ}
 use Rattle.commands.specs.Answers.{numberOf}
 use Rattle.sessions.specs.Session.{Done, Ran, did, not, saw, strike, undid}
-use Rattle.sessions.specs.Calling.{Call, Said}
-use Rattle.sessions.proofs.Calls.{Here, calls}
+use Rattle.sessions.specs.Calling.{Call, Here, Said, calls}
 use Rattle.ts11.specs.Given.{Host}
 use Rattle.surface.specs.Hosting.{AtMoment, Line, back, made}
 
