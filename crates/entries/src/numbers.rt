@@ -19,7 +19,7 @@ fn low(x: usize) -> u32
 }
 
 fn bit_of(b: bool) -> u32
-    ensures { λ r. ⌜ r ≡ bit b ⌝ }
+    ensures { λ r. ⌜ r ≡ bitOf b ⌝ }
 {
     if b { 1 } else { 0 }
 }

@@ -85,8 +85,8 @@ fn seal(b: &mut [u8]) {
     if b.len() != Geometry::BLOCK {
         return;
     }
-    let sum = word_sum(b, 255);
-    put_word(b, 510, sum % 65535);
+    let sum = word_sum(b, Geometry::SUMMED_WORDS);
+    put_word(b, Geometry::SUMMED, sum % Geometry::CHECK_MODULUS);
 }
 
 fn seal_block(reel: &mut [u8], k: usize) -> Check {

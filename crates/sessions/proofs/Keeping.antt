@@ -18,7 +18,7 @@ use Rattle.kept.specs.Formed.{Formed}
 use Rattle.kept.proofs.Advanced.{advanced-kept}
 use Rattle.kept.proofs.Standing.{unlaid}
 use Rattle.unit.specs.Asks.{Ask, advance, host-store, operate, write-tsdb, write-tssr}
-use Rattle.unit.specs.Cores.{Accepted, Core}
+use Rattle.unit.specs.Cores.{Admitted, Core}
 use Rattle.unit.specs.Steps.{Step, carried, changed, stepOf, storeWrong, stored}
 use Rattle.sessions.specs.Good.{CoreFormed}
 
@@ -62,7 +62,7 @@ module _ (c : Core) (f : CoreFormed c) where
   unfolding stored
   store-keeps place bytes = either (λ (x : Step). CoreFormed (x .after)) (storeWrong (length (c .memory)) place (length bytes)) _ _ f f
 
-  pub keeping : Accepted c → (k : Ask) → CoreFormed (stepOf k c .after)
+  pub keeping : Admitted c → (k : Ask) → CoreFormed (stepOf k c .after)
   unfolding stepOf carried
   keeping a (write-tsdb word) = tsdb-keeps word
   keeping a write-tssr = tssr-keeps

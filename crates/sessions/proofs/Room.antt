@@ -9,7 +9,7 @@ use Rattle.commands.specs.declared.plans.Answer.the-variants as answer
 use Rattle.unit.specs.Steps.{Step, stepOf}
 use Rattle.entries.specs.Entries.{entryLength}
 use Rattle.worlds.specs.Worlds.{World}
-use Rattle.worlds.specs.Calls.{entryFor, noRoom, stepOn, takenAs, takenBy}
+use Rattle.worlds.specs.Calls.{entryFor, tooFull, stepOn, takenAs, takenBy}
 use Rattle.worlds.specs.Passes.{Fit}
 use Rattle.sessions.specs.Session.{refused, stepped}
 use Rattle.sessions.specs.Calling.{Call, doing, entryAt, onCall, read-register, step, stepKind}
@@ -27,7 +27,7 @@ module _ (w : World) (x : Step) where
   as-room i =
       let free : ℕ = w .ledger .length - w .ledger .used in
       let long : ℕ = entryLength (entryFor (w .core) x) in (
-        (λ r. by-test (noRoom (w .ledger) (entryFor (w .core) x))
+        (λ r. by-test (tooFull (w .ledger) (entryFor (w .core) x))
             (λ t. ltb-true free long t)
             (λ t. let z : answer.Done i ≡ answer.Refused 9 = rw t at r in not-done i 9 z)),
         (λ h. rw (lt-ltb free long h)),

@@ -12,17 +12,17 @@ use Rattle.state.proofs.Tests.{either}
 use Rattle.commands.specs.declared.plans.Answer.{Answer}
 use Rattle.commands.specs.declared.plans.Answer.the-variants as answer
 use Rattle.unit.specs.Asks.{Ask}
-use Rattle.unit.specs.Cores.{Accepted}
+use Rattle.unit.specs.Cores.{Admitted}
 use Rattle.unit.specs.Steps.{Sound, Step, stepOf}
 use Rattle.unit.proofs.Stepping.{sound}
 use Rattle.entries.specs.Entries.{entryLength}
 use Rattle.worlds.specs.Worlds.{Answered, World, answered, sessionOf}
 use Rattle.worlds.specs.Refusals.{checked}
-use Rattle.worlds.specs.Calls.{backOn, entryFor, guarded, noRoom, refusedAs, stepOn, takenAs, takenBy}
+use Rattle.worlds.specs.Calls.{backOn, entryFor, guarded, tooFull, refusedAs, stepOn, takenAs, takenBy}
 use Rattle.worlds.proofs.Passing.{core-accepted, passed}
 use Rattle.worlds.specs.Passes.{Fit}
 use Rattle.sessions.specs.Session.{looked, refused, stepped}
-use Rattle.sessions.specs.Calling.{Call, Left, Took, doing, entryAt, kindOf, onCall, read-register, readKind, step, stepKind}
+use Rattle.sessions.specs.Calling.{Call, Left, Took, doing, entryAt, callKind, onCall, read-register, readKind, step, stepKind}
 use Rattle.sessions.specs.Good.{CoreFormed}
 use Rattle.sessions.proofs.Keeping.{keeping}
 use Rattle.worlds.proofs.Undoing.{fit-after, taken-undone}
@@ -42,8 +42,8 @@ read-none (answer.Refused j) k = refused-none k
 read-none (answer.BadBlock j) k = refused-none k
 
 -- a step is what is answered "done"
-pub step-done : (c : Call) (a : Answer) → kindOf c a ≡ stepped → stepKind a ≡ stepped
-unfolding kindOf
+pub step-done : (c : Call) (a : Answer) → callKind c a ≡ stepped → stepKind a ≡ stepped
+unfolding callKind
 step-done (step b h) a k = k
 step-done (read-register r) a k = read-none a k
 
@@ -62,8 +62,8 @@ module _ (n : ℕ) (w : World) where
       let c : ℕ = checked (sessionOf w) (length (w .core .memory)) (length (w .core .reel)) n in
       by-test (eqb c 0) (λ t. eqb-true c 0 t) (λ t. let z : refused ≡ stepped = rw t at k in refused-none z)
 
-  pub sound-step : (c : Call) → kindOf c (onCall n c w .answer) ≡ stepped → Checked
-  unfolding onCall kindOf stepOn
+  pub sound-step : (c : Call) → callKind c (onCall n c w .answer) ≡ stepped → Checked
+  unfolding onCall callKind stepOn
   sound-step (step a h) k = sound-guarded _ k
   sound-step (read-register r) k = read-none _ k
 
@@ -71,7 +71,7 @@ module _ (w : World) (x : Step) where
   took-as : (a : Answer) → stepKind (takenAs w x a .answer) ≡ stepped → Took w (takenAs w x a .world) x
   unfolding takenAs stepKind
   took-as a k =
-      by-test (noRoom (w .ledger) (entryFor (w .core) x))
+      by-test (tooFull (w .ledger) (entryFor (w .core) x))
       (λ t. let z : refused ≡ stepped = rw t at k in refused-none z)
       (λ t. record { is = rw t; room = t })
 
@@ -82,8 +82,8 @@ module _ (w : World) (x : Step) where
   took-by (answer.Refused j) k = refused-none k
   took-by (answer.BadBlock j) k = refused-none k
 
-pub took : (n : ℕ) (c : Call) (w : World) → kindOf c (onCall n c w .answer) ≡ stepped → Took w (onCall n c w .world) (doing c (w .core))
-unfolding onCall kindOf doing stepOn
+pub took : (n : ℕ) (c : Call) (w : World) → callKind c (onCall n c w .answer) ≡ stepped → Took w (onCall n c w .world) (doing c (w .core))
+unfolding onCall callKind doing stepOn
 took n (step a h) w k =
     let pass = let-through n w (sound-guarded n w _ k) (takenBy w (stepOf a (w .core)) (stepOf a (w .core) .answer)) in
     rw pass (took-by w (stepOf a (w .core)) (stepOf a (w .core) .answer) (rw pass at k))
@@ -91,20 +91,20 @@ took n (read-register r) w k = read-none _ k
 
 -- what is known of the step: it changed nothing but what it touched, and kept what every step keeps
 module _ (n : ℕ) (w : World) (fit : Fit n w) where
-  accepts : Accepted (w .core)
+  accepts : Admitted (w .core)
   accepts = core-accepted w n (passed (sessionOf w) (length (w .core .memory)) (length (w .core .reel)) n (fit .sound))
 
-  pub doing-sound : (c : Call) → kindOf c (onCall n c w .answer) ≡ stepped → Sound (w .core) (doing c (w .core))
-  unfolding doing kindOf onCall
+  pub doing-sound : (c : Call) → callKind c (onCall n c w .answer) ≡ stepped → Sound (w .core) (doing c (w .core))
+  unfolding doing callKind onCall
   doing-sound (step a h) k = sound (w .core) accepts a h
   doing-sound (read-register r) k = read-none _ k
 
-  pub doing-keeps : (c : Call) → kindOf c (onCall n c w .answer) ≡ stepped → CoreFormed (w .core) → CoreFormed (doing c (w .core) .after)
-  unfolding doing kindOf onCall
+  pub doing-keeps : (c : Call) → callKind c (onCall n c w .answer) ≡ stepped → CoreFormed (w .core) → CoreFormed (doing c (w .core) .after)
+  unfolding doing callKind onCall
   doing-keeps (step a h) k f = keeping (w .core) f accepts a
   doing-keeps (read-register r) k f = read-none _ k
 
-  module _ (c : Call) (k : kindOf c (onCall n c w .answer) ≡ stepped) where
+  module _ (c : Call) (k : callKind c (onCall n c w .answer) ≡ stepped) where
     has-room : w .ledger .used + entryLength (entryAt c (w .core)) ≤ w .ledger .length
     has-room =
         let p = passed (sessionOf w) (length (w .core .memory)) (length (w .core .reel)) n (fit .sound) in
@@ -129,7 +129,7 @@ module _ (n : ℕ) (w : World) where
 
   as-left : (x : Step) (i : Bool) → Left w (takenAs w x (answer.Done i))
   unfolding takenAs stepKind
-  as-left x i = either (Left w) (noRoom (w .ledger) (entryFor (w .core) x)) (refusedAs 9 w) _ (λ g. refl) (λ g. absurd (g refl))
+  as-left x i = either (Left w) (tooFull (w .ledger) (entryFor (w .core) x)) (refusedAs 9 w) _ (λ g. refl) (λ g. absurd (g refl))
 
   by-left : (x : Step) (a : Answer) → Left w (takenBy w x a)
   unfolding takenBy
@@ -142,7 +142,7 @@ module _ (n : ℕ) (w : World) where
   unfolding stepOn
   step-left a = guarded-left _ (by-left (stepOf a (w .core)) (stepOf a (w .core) .answer))
 
-pub stays : (n : ℕ) (c : Call) (w : World) → (kindOf c (onCall n c w .answer) ≡ stepped → ⊥) → onCall n c w .world ≡ w
-unfolding onCall kindOf
+pub stays : (n : ℕ) (c : Call) (w : World) → (callKind c (onCall n c w .answer) ≡ stepped → ⊥) → onCall n c w .world ≡ w
+unfolding onCall callKind
 stays n (step a h) w g = step-left n w a g
 stays n (read-register r) w g = refl

@@ -3,7 +3,7 @@ use mathlib.Core.List.{List}
 use mathlib.Core.Path.{_≡_, ap, sym, _∙_}
 use Prim.Native.Nat.{ℕ}
 use Rattle.commands.specs.declared.plans.Answer.{Answer}
-use Rattle.worlds.specs.Worlds.{Answered, Leaves, World, sessionOf, worldOf}
+use Rattle.worlds.specs.Worlds.{Answered, Leaves, sessionOf, worldOf}
 use Rattle.worlds.specs.declared.Session.{Session}
 use Rattle.worlds.specs.declared.Outcome.{Outcome}
 

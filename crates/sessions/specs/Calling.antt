@@ -13,7 +13,7 @@ use Rattle.unit.specs.declared.registers.Register.{Register}
 use Rattle.entries.specs.Entries.{entryBytes, entryLength}
 use Rattle.entries.specs.declared.Entry.{Entry}
 use Rattle.worlds.specs.Worlds.{Answered, Ledger, World, answered, sessionOf}
-use Rattle.worlds.specs.Calls.{entryFor, noRoom, noted, registerOn, stepOn, undone}
+use Rattle.worlds.specs.Calls.{entryFor, tooFull, noted, registerOn, stepOn, undone}
 use Rattle.sessions.specs.Session.{Kind, Machine, Moment, looked, refused, stepped}
 
 -- a call of a session
@@ -48,9 +48,9 @@ readKind answer.Idle = looked
 readKind (answer.Refused k) = refused
 readKind (answer.BadBlock k) = refused
 
-unfoldable pub kindOf : Call → Answer → Kind
-kindOf (step b h) a = stepKind a
-kindOf (read-register r) a = readKind a
+unfoldable pub callKind : Call → Answer → Kind
+callKind (step b h) a = stepKind a
+callKind (read-register r) a = readKind a
 
 -- what a call does to the core, if it takes a step
 unfoldable pub doing : Call → Core → Step
@@ -68,7 +68,7 @@ takenTo w x = record { core = x .after; ledger = noted (w .ledger) (entryFor (w 
 -- the step took w to next, and its entry had room
 pub record Took (w next : World) (x : Step) : Type 0 where
   pub is : next ≡ takenTo w x
-  pub room : noRoom (w .ledger) (entryFor (w .core) x) ≡ false
+  pub room : tooFull (w .ledger) (entryFor (w .core) x) ≡ false
 
 -- a call that took no step left the world as it was: refusals, an idle advance and a reading
 abbrev pub Left : World → Answered → Type 0
@@ -115,7 +115,7 @@ broughtBack k c = undone (k .entry) (k .saved) c
 
 -- whether a call takes a step at a moment, looks, or is refused
 abbrev pub kindNow : ℕ → Call → Here → Kind
-kindNow n c s = kindOf c (onCall n c (worldFrom n s) .answer)
+kindNow n c s = callKind c (onCall n c (worldFrom n s) .answer)
 
 -- the moment after a step
 abbrev pub stepTo : Call → Here → Here

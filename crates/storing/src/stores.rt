@@ -7,13 +7,14 @@ ghost use mathlib.Core.Path.{_≡_};
 ghost use Prim.Native.Nat.{_+_, _*_, _≤_, _%_};
 ghost use lib.ListN.{length};
 ghost use lib.Seq.{sets};
+ghost use Rattle.tape.specs.Numbers.{blockBytes};
 ghost use Rattle.tape.specs.Objects.{imagesOf};
 ghost use Rattle.motions.specs.Parts.{objectBlocks};
 ghost use Rattle.storing.specs.Stored.{Storable, StoredPlan, LaidFits, MovedFits, laidObject, laidOn, movedOn};
 
 fn lay_object(reel: &mut [u8], at: usize, l: Laid, mem: &[u8])
-    requires { ⌜ (512 * (at + objectBlocks (l .object) (l .length)) ≤ length (now reel)) × (l .pointer + l .length ≤ length (now mem)) × (length (now mem) % 2 ≡ 0) ⌝ }
-    ensures { λ _. ⌜ now (reel .exit) ≡ sets (now (reel .entry)) (512 * at) (imagesOf (laidObject (now (mem .entry)) l (l .object))) ⌝ }
+    requires { ⌜ (blockBytes * (at + objectBlocks (l .object) (l .length)) ≤ length (now reel)) × (l .pointer + l .length ≤ length (now mem)) × (length (now mem) % 2 ≡ 0) ⌝ }
+    ensures { λ _. ⌜ now (reel .exit) ≡ sets (now (reel .entry)) (blockBytes * at) (imagesOf (laidObject (now (mem .entry)) l (l .object))) ⌝ }
 {
     let o = l.object;
     match o {

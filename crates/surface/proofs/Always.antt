@@ -36,7 +36,7 @@ module _ {h₀ h : Host} {d : List Line} (s : Begins h₀) (r : Hosted h₀ d h)
       }
 
   -- one entry for each step that stands
-  pub host-journal : Entries h (standing (calls n) (stands follows))
+  pub host-journal : Entries h (standing (calls n) (stands (host-ran s r)))
   host-journal =
       record {
         noted = follows .moment .entries;
@@ -52,10 +52,10 @@ module _ {h₀ h : Host} {d : List Line} (s : Begins h₀) (r : Hosted h₀ d h)
 
   -- a step back leads where the model's leads, to the moment before the newest step that stands; where none stands it returns 6 and changes nothing
   module _ {h′ : Host} {k : ℕ} (g : Returned h (backGiven h) k h′) where
-    pub host-back : {e : Noted} {es : List Noted} → follows .moment .entries ≡ e ∷ es → (k ≡ 0) × AtMoment n (back (calls n) (follows .moment)) h′
+    pub host-back : {e : Noted} {es : List Noted} → host-ran s r .moment .entries ≡ e ∷ es → (k ≡ 0) × AtMoment n (back (calls n) (host-ran s r .moment)) h′
     host-back = back-one follows (s .fresh) g
 
-    pub host-none : follows .moment .entries ≡ [] → (k ≡ 6) × Unchanged h h′
+    pub host-none : host-ran s r .moment .entries ≡ [] → (k ≡ 6) × Unchanged h h′
     host-none q =
         let z = back-empty follows (s .fresh) g q in
         (z .0, world-bytes (follows .here .block) (z .1 .block) (sym (z .1 .world) ∙ follows .here .world))

@@ -28,7 +28,7 @@ module _ (h : Host) (k : Block (h .block)) where
   unfolding backGiven
   back-is = opens h does k
 
-  pub back-as : {i : ℕ} {h′ : Host} → Returned h (backGiven h) i h′ → Block (h′ .block) × (worldIn h′ ≡ does .world)
+  pub back-as : {i : ℕ} {h′ : Host} → Returned h (backGiven h) i h′ → Block (h′ .block) × (worldIn h′ ≡ backOn (worldIn h) (length (h .journal)) .world)
   back-as {i} {h′} g =
       leaves k (subst (λ (x : Answered). Gives h x i h′) back-is (g .gives)) (g .bytes)
       (went-as (length (h .journal)) (worldIn h) does (went-back-as (length (h .journal)) (worldIn h)))

@@ -12,7 +12,7 @@ use Rattle.worlds.specs.Worlds.{Answered, World, sessionOf}
 use Rattle.sessions.specs.Session.{stepped}
 use Rattle.sessions.specs.Calling.{stepKind}
 use Rattle.sessions.proofs.Taken.{looked-none, refused-none}
-use Rattle.ts11.specs.Block.{Block, blockOf, entryWith, sessionIn}
+use Rattle.ts11.specs.Block.{Block, stateBlock, entryWith, sessionIn}
 use Rattle.ts11.specs.Given.{Gives, Host, blockAfter, opened, worldIn}
 use Rattle.ts11.proofs.Blocks.{block-back, block-is, block-own, same-block}
 use Rattle.surface.specs.Hosting.{Unchanged}
@@ -23,7 +23,7 @@ unfolding opened
 opens h x k = rw (k .right)
 
 -- the block after an answer: that of the new session after a step, and the same where the session is the same
-pub block-stepped : (b : List ℕ) (a : Answer) (s : Session) → stepKind a ≡ stepped → blockAfter b a s ≡ blockOf s
+pub block-stepped : (b : List ℕ) (a : Answer) (s : Session) → stepKind a ≡ stepped → blockAfter b a s ≡ stateBlock s
 unfolding blockAfter stepKind
 block-stepped b (answer.Done i) s k = refl
 block-stepped b answer.Idle s k = looked-none k
@@ -55,7 +55,7 @@ module _ {h h′ : Host} {x : Answered} {n : ℕ} (k : Block (h .block)) (g : Gi
   pub leaves : Went (worldIn h) x → Block (h′ .block) × (worldIn h′ ≡ x .world)
   leaves (went step small) =
       let s : Session = sessionOf (x .world) in
-      let is : h′ .block ≡ blockOf s = g .state ∙ block-stepped (h .block) (x .answer) s step in
+      let is : h′ .block ≡ stateBlock s = g .state ∙ block-stepped (h .block) (x .answer) s step in
       (subst Block (sym is) (block-is s (subst Bytes is bytes)), buffers (ap sessionIn is ∙ block-back s small))
   leaves (stayed e) =
       let old : sessionOf (x .world) ≡ sessionIn (h .block) = ap sessionOf e in

@@ -24,7 +24,7 @@ use Rattle.worlds.specs.Calls.{mountOn, mountedBy, session}
 use Rattle.sessions.specs.Calling.{Here, journalOf, ledgerOf, lengthOf, stepKind, worldFrom}
 use Rattle.sessions.specs.Good.{Fresh, mountMoment}
 use Rattle.sessions.proofs.Mounting.{mount-session, mounted, mounted-fit}
-use Rattle.ts11.specs.Block.{Block, blockOf, sessionIn}
+use Rattle.ts11.specs.Block.{Block, stateBlock, sessionIn}
 use Rattle.ts11.specs.Given.{Host, Mounts, holding, worldIn}
 use Rattle.ts11.proofs.Blocks.{block-back, block-is}
 use Rattle.surface.specs.Hosting.{Begins, first}
@@ -68,7 +68,7 @@ module _ (h : Host) (e : ℕ) (online locked : Bool) {b′ : List ℕ} {k : ℕ}
   done : mountOn old (length (h .memory)) (h .reel) n e online locked .answer ≡ answer.Done false
   done = mount-zero old (length (h .memory)) (h .reel) n e online locked (sym (g .answer))
 
-  its-block : b′ ≡ blockOf new
+  its-block : b′ ≡ stateBlock new
   unfolding stepKind
   its-block = g .state ∙ block-stepped (h .block) (mountOn old (length (h .memory)) (h .reel) n e online locked .answer) new (ap stepKind done)
 
@@ -82,7 +82,7 @@ module _ (h : Host) (e : ℕ) (online locked : Bool) {b′ : List ℕ} {k : ℕ}
   read-as : sessionOf (worldFrom n moment) ≡ sessionIn b′
   read-as =
       sym (block-back (sessionOf (worldFrom n moment)) (small-fit n (worldFrom n moment) (mounted-fit old (h .memory) (h .reel) n e online locked done)))
-      ∙ ap sessionIn (ap blockOf new-is ∙ sym its-block)
+      ∙ ap sessionIn (ap stateBlock new-is ∙ sym its-block)
 
   its-moment : moment ≡ first after
   its-moment = λ i. record { core = record { unit = read-as i .unit; memory = h .memory; reel = h .reel }; entries = [] }
@@ -92,7 +92,7 @@ module _ (h : Host) (e : ℕ) (online locked : Bool) {b′ : List ℕ} {k : ℕ}
   unfolding usedIn lengthOf journalOf
   its-ledger = λ i. record { used = read-as i .used; length = read-as i .journal; bytes = usedIn (read-as i .used) (h .journal) }
 
-  pub mounted-host : Bytes b′ → Begins after
+  pub mounted-host : Bytes b′ → Begins (holding b′ (h .memory) (h .reel) (h .journal))
   mounted-host bytes =
       record {
         fresh = subst (Fresh n) its-moment (mounted old (h .memory) (h .reel) n e online locked done all);

@@ -4,7 +4,7 @@ use Prim.Native.Nat.{ℕ}
 use lib.ListN.{length}
 use Rattle.worlds.specs.Worlds.{Answered}
 use Rattle.sessions.specs.Session.{stepped}
-use Rattle.sessions.specs.Calling.{Call, kindOf}
+use Rattle.sessions.specs.Calling.{Call, callKind}
 use Rattle.sessions.proofs.Taken.{stays}
 use Rattle.ts11.specs.Block.{Block}
 use Rattle.ts11.specs.Given.{Host, backGiven, worldIn}
@@ -23,17 +23,17 @@ joined : {h h₁ h₂ : Host} → Same h h₁ → Same h₁ h₂ → Same h h₂
 joined x y = record { block = y .block; world = y .world ∙ x .world; long = y .long ∙ x .long }
 
 module _ (c : Call) (h : Host) (b : Block (h .block)) {h₁ : Host} {k : ℕ} (g : Returned h (given c h) k h₁) where
-  none-same : (kindOf c (given c h .answer) ≡ stepped → ⊥) → Same h h₁
+  none-same : (callKind c (given c h .answer) ≡ stepped → ⊥) → Same h h₁
   none-same t =
       let z = runs-as c h b g in
-      let kind = ap (λ (x : Answered). kindOf c (x .answer)) (given-is c h b) in
+      let kind = ap (λ (x : Answered). callKind c (x .answer)) (given-is c h b) in
       record {
         block = z .0;
         world = z .1 ∙ stays (length (h .journal)) c (worldIn h) (λ s. t (kind ∙ s));
         long = g .long;
       }
 
-  undone-same : {h₂ h₃ : Host} {l : ℕ} → kindOf c (given c h .answer) ≡ stepped → Same h₁ h₂ → Returned h₂ (backGiven h₂) l h₃ → Same h h₃
+  undone-same : {h₂ h₃ : Host} {l : ℕ} → callKind c (given c h .answer) ≡ stepped → Same h₁ h₂ → Returned h₂ (backGiven h₂) l h₃ → Same h h₃
   undone-same t s u =
       let z = runs-as c h b g in
       let x = world-undone c h b t (s .block) (s .long ∙ g .long) (s .world ∙ z .1) u in

@@ -5,7 +5,7 @@ use lib.ListN.{length}
 use Rattle.worlds.specs.Worlds.{Answered}
 use Rattle.worlds.specs.Passes.{Fit}
 use Rattle.sessions.specs.Session.{Kind, looked, refused, stepped}
-use Rattle.sessions.specs.Calling.{Call, kindOf, onCall}
+use Rattle.sessions.specs.Calling.{Call, callKind, onCall}
 use Rattle.sessions.proofs.Taken.{looked-none, refused-none, sound-step, stays, step-done, step-fit}
 use Rattle.ts11.specs.Block.{Block}
 use Rattle.ts11.specs.Given.{Gives, Host, worldIn}
@@ -26,13 +26,13 @@ module _ (c : Call) (h : Host) (k : Block (h .block)) where
   given-is = opens h does k
 
   -- a step is taken from a fit world only
-  pub fit-before : kindOf c (does .answer) ≡ stepped → Fit n (worldIn h)
+  pub fit-before : callKind c (does .answer) ≡ stepped → Fit n (worldIn h)
   fit-before t = fit-in h (sound-step n (worldIn h) c t)
 
-  call-went-by : (z : Kind) → kindOf c (does .answer) ≡ z → Went (worldIn h) does
+  call-went-by : (z : Kind) → callKind c (does .answer) ≡ z → Went (worldIn h) does
   call-went-by stepped t = went (step-done c (does .answer) t) (small-fit n (does .world) (step-fit n (worldIn h) (fit-before t) c t))
   call-went-by refused t = stayed (stays n c (worldIn h) (λ s. refused-none (sym t ∙ s)))
   call-went-by looked t = stayed (stays n c (worldIn h) (λ s. looked-none (sym t ∙ s)))
 
-  pub runs-as : {i : ℕ} {h′ : Host} → Returned h (given c h) i h′ → Block (h′ .block) × (worldIn h′ ≡ does .world)
-  runs-as {i} {h′} g = leaves k (subst (λ (x : Answered). Gives h x i h′) given-is (g .gives)) (g .bytes) (call-went-by (kindOf c (does .answer)) refl)
+  pub runs-as : {i : ℕ} {h′ : Host} → Returned h (given c h) i h′ → Block (h′ .block) × (worldIn h′ ≡ onCall (length (h .journal)) c (worldIn h) .world)
+  runs-as {i} {h′} g = leaves k (subst (λ (x : Answered). Gives h x i h′) given-is (g .gives)) (g .bytes) (call-went-by (callKind c (does .answer)) refl)

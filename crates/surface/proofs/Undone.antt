@@ -8,7 +8,7 @@ use Rattle.commands.specs.declared.plans.Answer.the-variants as answer
 use Rattle.worlds.specs.Worlds.{Answered, World, answered}
 use Rattle.worlds.specs.Calls.{backOn}
 use Rattle.sessions.specs.Session.{stepped}
-use Rattle.sessions.specs.Calling.{Call, kindOf, onCall, stepKind}
+use Rattle.sessions.specs.Calling.{Call, callKind, onCall, stepKind}
 use Rattle.sessions.proofs.Taken.{step-undone}
 use Rattle.ts11.specs.Block.{Block}
 use Rattle.ts11.specs.Given.{Gives, Host, backGiven, worldIn}
@@ -18,12 +18,12 @@ use Rattle.surface.proofs.Goes.{leaves, went, world-bytes}
 use Rattle.surface.proofs.Backs.{back-is}
 use Rattle.surface.proofs.Runs.{fit-before, given-is, runs-as}
 
-module _ (c : Call) (h : Host) (k : Block (h .block)) (t : kindOf c (given c h .answer) ≡ stepped) where
+module _ (c : Call) (h : Host) (k : Block (h .block)) (t : callKind c (given c h .answer) ≡ stepped) where
   abbrev n : ℕ
   n = length (h .journal)
 
-  its-kind : kindOf c (onCall n c (worldIn h) .answer) ≡ stepped
-  its-kind = ap (λ (x : Answered). kindOf c (x .answer)) (sym (given-is c h k)) ∙ t
+  its-kind : callKind c (onCall n c (worldIn h) .answer) ≡ stepped
+  its-kind = ap (λ (x : Answered). callKind c (x .answer)) (sym (given-is c h k)) ∙ t
 
   -- a step back from the world that the step left
   module _ {h′ h″ : Host} {i : ℕ} (b : Block (h′ .block)) (long : length (h′ .journal) ≡ n) (there : worldIn h′ ≡ onCall n c (worldIn h) .world) (g : Returned h′ (backGiven h′) i h″) where

@@ -8,7 +8,7 @@ use Rattle.entries.specs.Entries.{usedIn}
 use Rattle.worlds.specs.Worlds.{Answered}
 use Rattle.worlds.specs.Passes.{Fit}
 use Rattle.sessions.specs.Session.{stepped}
-use Rattle.sessions.specs.Calling.{Call, Here, Noted, journalOf, kindOf, lengthOf, onCall, worldFrom}
+use Rattle.sessions.specs.Calling.{Call, Here, Noted, journalOf, callKind, lengthOf, onCall, worldFrom}
 use Rattle.kept.specs.Formed.{Formed}
 use Rattle.sessions.specs.Good.{Fresh}
 use Rattle.ts11.specs.Block.{Block, sessionIn}
@@ -50,9 +50,9 @@ pub data Hosted (h₀ : Host) : List Line → Host → Type 0 where
 pub data Round : Host → Host → Type 0 where
   still : {h : Host} → Round h h
   and-none : {h h₁ h₂ : Host} {k : ℕ} (c : Call)
-      → Round h h₁ → Returned h₁ (given c h₁) k h₂ → (kindOf c (given c h₁ .answer) ≡ stepped → ⊥) → Round h h₂
+      → Round h h₁ → Returned h₁ (given c h₁) k h₂ → (callKind c (given c h₁ .answer) ≡ stepped → ⊥) → Round h h₂
   and-undone : {h h₁ h₂ h₃ h₄ : Host} {k l : ℕ} (c : Call)
-      → Round h h₁ → Returned h₁ (given c h₁) k h₂ → kindOf c (given c h₁ .answer) ≡ stepped
+      → Round h h₁ → Returned h₁ (given c h₁) k h₂ → callKind c (given c h₁ .answer) ≡ stepped
       → Round h₂ h₃ → Returned h₃ (backGiven h₃) l h₄ → Round h h₄
 
 -- the host h is at the moment s of a session with a journal of n bytes: it holds that moment's world, as some session's block
