@@ -1,18 +1,23 @@
 /*
  * The library against plain C: the same operations on the same inputs, in one run.
  *
- * Each line runs both sides in turn for some rounds, and keeps the quickest of each side's times, so that what else the machine does falls
- * out. A side's state is put back between two operations by copying its 128 bytes, so every operation starts from the same place.
+ * Timed, each line runs both sides in turn for some rounds, and keeps the quickest of each side's times, so that what else the machine does
+ * falls out. Counted, each line marks where a run of operations begins and ends, and the emulator's plugin insn.c tells how many
+ * instructions lie between; a third side that does nothing has the harness's own share. A side's state is put back between two operations
+ * by copying its 128 bytes, so every operation starts from the same place.
  */
+#define _DEFAULT_SOURCE /* syscall */
 #include <stdio.h>
 #include <stdlib.h>
 #include <string.h>
 #include <time.h>
 
+#include "mark.h"
 #include "plain.h"
 #include "ts11.h"
 
 static int rounds = 9;
+static bool counting = false;
 #define PACKET 0x100  /* where the command packet stands */
 #define MESSAGE 0x200 /* the message buffer */
 #define DATA 0x1000   /* the data buffer */
@@ -22,6 +27,8 @@ typedef struct side {
 	const char *name;
 	ts11_answer (*mount)(ts11_state *, size_t, const uint8_t *, size_t, size_t, size_t, bool, bool, size_t *);
 	ts11_answer (*write_tsdb)(ts11_state *, uint8_t *, size_t, uint8_t *, size_t, uint8_t *, size_t, uint16_t);
+	ts11_answer (*write_tssr)(ts11_state *, uint8_t *, size_t, uint8_t *, size_t, uint8_t *, size_t, uint16_t);
+	ts11_answer (*operate)(ts11_state *, uint8_t *, size_t, uint8_t *, size_t, uint8_t *, size_t, bool, bool);
 	ts11_answer (*host_store)(ts11_state *, uint8_t *, size_t, const uint8_t *, size_t, uint8_t *, size_t, size_t,
 	                          const uint8_t *, size_t);
 	ts11_answer (*advance)(ts11_state *, uint8_t *, size_t, uint8_t *, size_t, uint8_t *, size_t, bool *, bool *,
@@ -29,9 +36,54 @@ typedef struct side {
 	ts11_answer (*step_back)(ts11_state *, uint8_t *, size_t, uint8_t *, size_t, const uint8_t *, size_t);
 } side;
 
-static const side LIBRARY = { "library", ts11_mount, ts11_write_tsdb, ts11_host_store, ts11_advance, ts11_step_back };
-static const side PLAIN = { "plain C", plain_mount, plain_write_tsdb, plain_host_store, plain_advance,
-	                    plain_step_back };
+static const side LIBRARY = { "library",    ts11_mount,      ts11_write_tsdb, ts11_write_tssr,
+	                      ts11_operate, ts11_host_store, ts11_advance,    ts11_step_back };
+static const side PLAIN = { "plain C",     plain_mount,      plain_write_tsdb, plain_write_tssr,
+	                    plain_operate, plain_host_store, plain_advance,    plain_step_back };
+
+/* A side that does nothing: what a line counts for it is the harness's own. */
+#define UNUSED __attribute__((unused))
+#define BUFFERS \
+	UNUSED ts11_state *s, UNUSED uint8_t *m, UNUSED size_t ml, UNUSED uint8_t *r, UNUSED size_t rl, UNUSED uint8_t *j, \
+	        UNUSED size_t jl
+static ts11_answer no_mount(UNUSED ts11_state *s, UNUSED size_t m, UNUSED const uint8_t *r, UNUSED size_t rl,
+                            UNUSED size_t j, UNUSED size_t e, UNUSED bool on, UNUSED bool lock, UNUSED size_t *k)
+{
+	return TS11_DONE;
+}
+
+static ts11_answer no_write(BUFFERS, UNUSED uint16_t w)
+{
+	return TS11_DONE;
+}
+
+static ts11_answer no_act(BUFFERS, UNUSED bool which, UNUSED bool on)
+{
+	return TS11_DONE;
+}
+
+static ts11_answer no_store(UNUSED ts11_state *s, UNUSED uint8_t *m, UNUSED size_t ml, UNUSED const uint8_t *r,
+                            UNUSED size_t rl, UNUSED uint8_t *j, UNUSED size_t jl, UNUSED size_t at,
+                            UNUSED const uint8_t *b, UNUSED size_t n)
+{
+	return TS11_DONE;
+}
+
+static bool no_step = true; /* what an advance that does nothing tells */
+
+static ts11_answer no_advance(BUFFERS, bool *stepped, UNUSED bool *interrupt, UNUSED size_t *k)
+{
+	*stepped = no_step;
+	return TS11_DONE;
+}
+
+static ts11_answer no_back(UNUSED ts11_state *s, UNUSED uint8_t *m, UNUSED size_t ml, UNUSED uint8_t *r,
+                           UNUSED size_t rl, UNUSED const uint8_t *j, UNUSED size_t jl)
+{
+	return TS11_DONE;
+}
+
+static const side NOTHING = { "nothing", no_mount, no_write, no_write, no_act, no_store, no_advance, no_back };
 
 /* A host: a state and its three buffers. */
 typedef struct host {
@@ -107,14 +159,35 @@ static void tsdb(host *h)
 		wrong("TSDB write", h, a);
 }
 
-static void advance(host *h)
+static void tssr(host *h)
+{
+	size_t a = h->with->write_tssr(&h->state, h->memory, h->memory_length, h->reel, h->reel_length, h->journal,
+	                               h->journal_length, 0);
+	if (a != TS11_DONE)
+		wrong("TSSR write", h, a);
+}
+
+static void operate(host *h, bool which, bool on)
+{
+	size_t a = h->with->operate(&h->state, h->memory, h->memory_length, h->reel, h->reel_length, h->journal,
+	                            h->journal_length, which, on);
+	if (a != TS11_DONE)
+		wrong("operator act", h, a);
+}
+
+static void advance_to(host *h, bool step)
 {
 	bool stepped, interrupt;
 	size_t block;
 	size_t a = h->with->advance(&h->state, h->memory, h->memory_length, h->reel, h->reel_length, h->journal,
 	                            h->journal_length, &stepped, &interrupt, &block);
-	if (a != TS11_DONE || !stepped)
+	if (a != TS11_DONE || stepped != step)
 		wrong("advance", h, a);
+}
+
+static void advance(host *h)
+{
+	advance_to(h, true);
 }
 
 static void back(host *h)
@@ -200,6 +273,47 @@ static void many_advances(host *h, const ts11_state *from, size_t times)
 	}
 }
 
+static void many_idles(host *h, const ts11_state *from, size_t times)
+{
+	for (size_t i = 0; i < times; i++) {
+		h->state = *from;
+		advance_to(h, false);
+	}
+}
+
+static void many_tsdbs(host *h, const ts11_state *from, size_t times)
+{
+	for (size_t i = 0; i < times; i++) {
+		h->state = *from;
+		tsdb(h);
+	}
+}
+
+static void many_tssrs(host *h, const ts11_state *from, size_t times)
+{
+	for (size_t i = 0; i < times; i++) {
+		h->state = *from;
+		tssr(h);
+	}
+}
+
+/* The write lock, set: a switch that stood the other way. */
+static void many_acts(host *h, const ts11_state *from, size_t times)
+{
+	for (size_t i = 0; i < times; i++) {
+		h->state = *from;
+		operate(h, true, true);
+	}
+}
+
+static void many_stores(host *h, const ts11_state *from, size_t times)
+{
+	for (size_t i = 0; i < times; i++) {
+		h->state = *from;
+		store(h, 64);
+	}
+}
+
 static void many_writes_and_backs(host *h, const ts11_state *from, size_t times)
 {
 	for (size_t i = 0; i < times; i++) {
@@ -251,9 +365,8 @@ static double timed(operation *op, host *h, const ts11_state *from, size_t times
 }
 
 /* Seconds for one operation, the least of all rounds, for each side in turn. */
-static void measure(operation *op, host h[2], size_t times, double best[2])
+static void measure(operation *op, host h[2], const ts11_state from[2], size_t times, double best[2])
 {
-	const ts11_state from[2] = { h[0].state, h[1].state };
 	best[0] = best[1] = 1e9;
 	for (int round = 0; round < rounds; round++)
 		for (int i = 0; i < 2; i++) {
@@ -274,12 +387,25 @@ static void same(const char *line, const host h[2])
 	}
 }
 
-/* One line of the table. Bytes are those that an operation must look at or move; 0 where calls are what counts. */
-static void report(const char *line, operation *op, host h[2], size_t times, size_t bytes)
+/* The same line counted: marks around each side's run, the side that does nothing first. Its name goes to the standard output. */
+static void counted(const char *line, operation *op, host h[2], const ts11_state from[2], size_t times)
 {
-	double best[2];
-	measure(op, h, times, best);
+	host none = h[0];
+	none.with = &NOTHING;
+	mark();
+	op(&none, &from[0], times);
+	for (int i = 0; i < 2; i++) {
+		mark();
+		op(&h[i], &from[i], times);
+	}
+	mark();
 	same(line, h);
+	printf("%zu %s\n", times, line);
+}
+
+/* Bytes are those that an operation must look at or move; 0 where calls are what counts. */
+static void told(const char *line, const double best[2], size_t bytes)
+{
 	printf("| %-42s |", line);
 	for (int i = 0; i < 2; i++) {
 		if (bytes != 0)
@@ -289,6 +415,22 @@ static void report(const char *line, operation *op, host h[2], size_t times, siz
 	}
 	printf(" %5.2f |\n", best[0] / best[1]);
 	fflush(stdout);
+}
+
+/* One line of the table, timed or counted. Both sides then stand where they stood before it. */
+static void report(const char *line, operation *op, host h[2], size_t times, size_t bytes)
+{
+	const ts11_state from[2] = { h[0].state, h[1].state };
+	if (counting) {
+		counted(line, op, h, from, times < COUNTED ? times : COUNTED);
+	} else {
+		double best[2];
+		measure(op, h, from, times, best);
+		same(line, h);
+		told(line, best, bytes);
+	}
+	for (int i = 0; i < 2; i++)
+		h[i].state = from[i];
 }
 
 static void both(host h[2], size_t memory, size_t blocks, size_t journal)
@@ -339,6 +481,7 @@ static const struct {
 
 static void bench_transfer(const char *what, unsigned command, operation *op)
 {
+	unsigned code = command & ~(unsigned)TS11_SWB;
 	for (size_t k = 0; k < sizeof SIZES / sizeof SIZES[0]; k++) {
 		host h[2];
 		size_t n = SIZES[k].bytes;
@@ -346,7 +489,7 @@ static void bench_transfer(const char *what, unsigned command, operation *op)
 		both(h, TS11_MEMORY_MAX, 4096, 1 << 20);
 		for (int i = 0; i < 2; i++) {
 			write_records(&h[i], 1, n);
-			if (command == TS11_READ_NEXT)
+			if (code == TS11_READ_NEXT)
 				rewind_tape(&h[i]);
 			packet(&h[i], command | TS11_ACK, DATA, 0, n);
 			tsdb(&h[i]);
@@ -361,12 +504,20 @@ static void bench_steps(void)
 {
 	host h[2];
 	both(h, TS11_MEMORY_MAX, 4096, 1 << 20);
+	report("TSDB write", many_tsdbs, h, 50000, 0);
 	report("TSDB write and its step back", many_writes_and_backs, h, 50000, 0);
+	report("TSSR write", many_tssrs, h, 50000, 0);
+	report("operator act", many_acts, h, 50000, 0);
+	no_step = false;
+	report("idle advance", many_idles, h, 50000, 0);
+	no_step = true;
+	report("host store of 64 bytes", many_stores, h, 50000, 0);
 	report("host store of 64 bytes and its step back", many_stores_and_backs, h, 50000, 0);
 	for (int i = 0; i < 2; i++) {
 		packet(&h[i], TS11_GET_STATUS | TS11_ACK, 0, 0, 0);
 		tsdb(&h[i]);
 	}
+	report("get status", many_advances, h, 50000, 0);
 	report("get status and its step back", many_advances_and_backs, h, 50000, 0);
 	both_freed(h);
 }
@@ -394,17 +545,22 @@ static void bench_back(void)
 	}
 }
 
-/* `bench ROUNDS`: fewer rounds are quicker and less exact. */
+/* `bench ROUNDS`: fewer rounds are quicker and less exact. `bench count`: marks for the plugin, and each line's name and times. */
 int main(int argc, char **argv)
 {
-	if (argc > 1)
+	counting = argc > 1 && strcmp(argv[1], "count") == 0;
+	if (argc > 1 && !counting)
 		rounds = atoi(argv[1]);
-	printf("| %-42s | %-25s | %-25s | ratio |\n", "operation", "library", "plain C");
-	printf("|---|---|---|---|\n");
+	if (!counting) {
+		printf("| %-42s | %-25s | %-25s | ratio |\n", "operation", "library", "plain C");
+		printf("|---|---|---|---|\n");
+	}
 	bench_mount();
 	bench_space();
 	bench_transfer("read", TS11_READ_NEXT, many_advances);
 	bench_transfer("write", TS11_WRITE, many_advances);
+	bench_transfer("swapped read", TS11_READ_NEXT | TS11_SWB, many_advances);
+	bench_transfer("swapped write", TS11_WRITE | TS11_SWB, many_advances);
 	bench_transfer("write and its step back", TS11_WRITE, many_advances_and_backs);
 	bench_transfer("read and its step back", TS11_READ_NEXT, many_advances_and_backs);
 	bench_steps();
