@@ -35,37 +35,37 @@ module _ {h₀ h : Host} {d : List Line} (s : Begins h₀) (r : Hosted h₀ d h)
         formed = subst (λ (w : World). Formed (w .core .reel) (w .core .unit .tape)) (follows .here .world) (good .formed);
       }
 
-  -- one entry for each step that stands
-  pub host-journal : Entries h (standing (calls n) (stands (host-ran s r)))
-  host-journal =
-      record {
-        noted = follows .moment .entries;
-        count = one-each n (s .fresh) (follows .ran);
-        used = ap (λ (w : World). w .ledger .used) (sym (follows .here .world));
-        bytes = ap (λ (w : World). w .ledger .bytes) (sym (follows .here .world));
-      }
-
   -- a step is refused for room exactly when its entry doesn't fit
   pub host-room : (c : Call) → Steppable c (worldIn h .core) → Exactly (worldIn h) (entryAt c (worldIn h .core)) (given c h)
   host-room c x =
       subst (Exactly (worldIn h) (entryAt c (worldIn h .core))) (sym (given-is c h (follows .here .block))) (room-exactly (length (h .journal)) c (worldIn h) (host-good .fit) x)
 
+-- Whatever session of the model the host's log follows; `host-ran` says that there is one.
+module _ {h₀ h : Host} {d : List Line} (s : Begins h₀) (f : Follows (length (h₀ .journal)) (first h₀) d h) where
+  -- one entry for each step that stands
+  pub host-journal : Entries h (standing (calls (length (h₀ .journal))) (stands f))
+  host-journal =
+      record {
+        noted = f .moment .entries;
+        count = one-each (length (h₀ .journal)) (s .fresh) (f .ran);
+        used = ap (λ (w : World). w .ledger .used) (sym (f .here .world));
+        bytes = ap (λ (w : World). w .ledger .bytes) (sym (f .here .world));
+      }
+
   -- a step back leads where the model's leads, to the moment before the newest step that stands; where none stands it returns 6 and changes nothing
   module _ {h′ : Host} {k : ℕ} (g : Returned h (backGiven h) k h′) where
-    pub host-back : {e : Noted} {es : List Noted} → host-ran s r .moment .entries ≡ e ∷ es → (k ≡ 0) × AtMoment n (back (calls n) (host-ran s r .moment)) h′
-    host-back = back-one follows (s .fresh) g
+    pub host-back : {e : Noted} {es : List Noted} → f .moment .entries ≡ e ∷ es → (k ≡ 0) × AtMoment (length (h₀ .journal)) (back (calls (length (h₀ .journal))) (f .moment)) h′
+    host-back = back-one f (s .fresh) g
 
-    pub host-none : host-ran s r .moment .entries ≡ [] → (k ≡ 6) × Unchanged h h′
+    pub host-none : f .moment .entries ≡ [] → (k ≡ 6) × Unchanged h h′
     host-none q =
-        let z = back-empty follows (s .fresh) g q in
-        (z .0, world-bytes (follows .here .block) (z .1 .block) (sym (z .1 .world) ∙ follows .here .world))
+        let z = back-empty f (s .fresh) g q in
+        (z .0, world-bytes (f .here .block) (z .1 .block) (sym (z .1 .world) ∙ f .here .world))
 
 -- what was undone never was, byte for byte: two runs whose steps that stand are the same end in the same block, memory, reel and used journal
-pub same-bytes : {h₀ h h₂ : Host} {d d₂ : List Line} (s : Begins h₀) (r : Hosted h₀ d h) (r₂ : Hosted h₀ d₂ h₂) → stands (host-ran s r) ≡ stands (host-ran s r₂) → Unchanged h h₂
-same-bytes {h₀} {h} {h₂} s r r₂ e =
+pub same-bytes : {h₀ h h₂ : Host} {d d₂ : List Line} → Begins h₀ → (f : Follows (length (h₀ .journal)) (first h₀) d h) (g : Follows (length (h₀ .journal)) (first h₀) d₂ h₂) → stands f ≡ stands g → Unchanged h h₂
+same-bytes {h₀} {h} {h₂} s f g e =
     let n : ℕ = length (h₀ .journal) in
-    let f = host-ran s r in
-    let g = host-ran s r₂ in
     let last : Ran (calls n) (first h₀) (stands g) (f .moment) = subst (λ (l : List (Done (calls n))). Ran (calls n) (first h₀) l (f .moment)) e (never-was n (s .fresh) (f .ran)) in
     let same : g .moment ≡ f .moment = one-end (calls n) (never-was n (s .fresh) (g .ran)) last in
     world-bytes (f .here .block) (g .here .block) (sym (g .here .world) ∙ ap (worldFrom n) same ∙ f .here .world)
