@@ -5,14 +5,16 @@ use crate::FRONT;
 use crate::bytes::put_head;
 use crate::bytes::put_number;
 use crate::numbers::numbers_of;
+use lists::gather;
 use touched::save;
 use touched::saved_length;
+ghost use mathlib.Core.List.{[]};
 ghost use mathlib.Core.Path.{_≡_};
-ghost use Prim.Native.Nat.{_+_, _≤_};
+ghost use Prim.Native.Nat.{_+_, _≤_, _%_};
 ghost use lib.ListN.{length};
 ghost use lib.Seq.{sets};
-ghost use Rattle.touched.specs.Touches.{TouchedIn};
-ghost use Rattle.entries.specs.Entries.{entryBytes, entryLength};
+ghost use Rattle.touched.specs.Touches.{TouchedIn, none, runOf};
+ghost use Rattle.entries.specs.Entries.{entryBare, entryBytes, entryLength};
 
 // "Entry length is 128 + stored memory bytes + stored reel bytes". The lengths of memory and reel are in bytes.
 pub fn entry_length(e: Entry, memory: usize, reel: usize) -> usize
@@ -34,5 +36,26 @@ pub fn enter(jrnl: &mut [u8], used: usize, e: Entry, mem: &[u8], reel: &[u8])
     let head = from + saved;
     put_number(jrnl, used, (BARE + saved) as u32);
     save(&mut jrnl[from..head], t, mem, reel);
+    put_head(jrnl, head, numbers_of(e));
+}
+
+// An entry that saves no byte, of a step that changes the state alone.
+pub fn enter_bare(jrnl: &mut [u8], used: usize, e: Entry)
+    requires { ⌜ (used + entryBare ≤ length (now jrnl)) × (e .touched ≡ none) ⌝ }
+    ensures { λ _. ⌜ now (jrnl .exit) ≡ sets (now (jrnl .entry)) used (entryBytes e [] []) ⌝ }
+{
+    put_number(jrnl, used, BARE as u32);
+    put_head(jrnl, used + FRONT, numbers_of(e));
+}
+
+// An entry that saves n bytes of memory and no more: a host store's.
+pub fn enter_run(jrnl: &mut [u8], used: usize, e: Entry, mem: &[u8], at: usize, n: usize)
+    requires { ⌜ (used + entryBare + n ≤ length (now jrnl)) × (at + n ≤ length (now mem)) × (length (now mem) % 2 ≡ 0) × (length (now mem) ≤ 1073741824) × (e .touched ≡ runOf at n) ⌝ }
+    ensures { λ _. ⌜ now (jrnl .exit) ≡ sets (now (jrnl .entry)) used (entryBytes e (now (mem .entry)) []) ⌝ }
+{
+    let from = used + FRONT;
+    let head = from + n;
+    put_number(jrnl, used, (BARE + n) as u32);
+    gather(&mut jrnl[from..head], mem, at, false);
     put_head(jrnl, head, numbers_of(e));
 }

@@ -10,6 +10,8 @@ pub use bytes::number_at;
 pub use bytes::put_head;
 pub use bytes::put_number;
 pub use entering::enter;
+pub use entering::enter_bare;
+pub use entering::enter_run;
 pub use entering::entry_length;
 pub use numbers::entry_of;
 pub use numbers::numbers_of;

@@ -11,7 +11,7 @@ use Rattle.state.proofs.Tests.{neither}
 use Rattle.commands.specs.declared.plans.Plan.{Plan}
 use Rattle.storing.specs.Stored.{Storable}
 use Rattle.advance.specs.Steps.{advanced}
-use Rattle.touched.specs.Touches.{Sizes, TouchedIn, none}
+use Rattle.touched.specs.Touches.{Sizes, TouchedIn}
 use Rattle.touched.specs.declared.Touched.{Touched}
 use Rattle.unit.specs.Steps.{hostLimit, storeWrong}
 use Rattle.unit.specs.Touching.{hostTouched, touchedBy}
@@ -29,11 +29,6 @@ module _ (s : Session) (m r : List ℕ) (journal : ℕ) (k : Unrefused s (length
 
   pub step-in : (p : Plan) (t : Touched) → t ≡ touchedBy p → Storable p (length m) (length r) → TouchedIn t (length m) (length r)
   step-in p t h f = subst (λ (x : Touched). TouchedIn x (length m) (length r)) (sym h) (plan-in p m r f sound-sizes)
-
-  pub change-in : (t : Touched) → t ≡ none → TouchedIn t (length m) (length r)
-  change-in t h =
-      subst (λ (x : Touched). TouchedIn x (length m) (length r)) (sym h)
-      (record { in-memory = omega arith; message-in-memory = omega arith; in-reel = omega arith; sizes = sound-sizes })
 
   pub store-in : (place : ℕ) (bytes : List ℕ) (t : Touched) → t ≡ hostTouched place (length bytes) → place + length bytes ≤ length m → TouchedIn t (length m) (length r)
   store-in place bytes t h i =

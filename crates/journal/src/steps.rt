@@ -5,6 +5,8 @@ use entries::BARE;
 use entries::Entry;
 use entries::bring_entry_back;
 use entries::enter;
+use entries::enter_bare;
+use entries::enter_run;
 use entries::entry_fits;
 use entries::entry_length;
 use entries::newest_entry;
@@ -71,7 +73,7 @@ pub fn change(s: Session, next: Unit, mem: &mut [u8], reel: &mut [u8], jrnl: &mu
     if s.journal - s.used < BARE {
         return refused(s, 9);
     }
-    enter(jrnl, s.used, e, mem, reel);
+    enter_bare(jrnl, s.used, e);
     Outcome {
         answer: Answer::Done(false),
         session: Session {
@@ -101,7 +103,7 @@ pub fn host_step(
     if s.journal - s.used < n {
         return refused(s, 9);
     }
-    enter(jrnl, s.used, e, mem, reel);
+    enter_run(jrnl, s.used, e, mem, place, bytes.len());
     put_host(mem, place, bytes);
     let same = s.unit;
     Outcome {

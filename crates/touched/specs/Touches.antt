@@ -10,17 +10,21 @@ use Rattle.lists.specs.Places.{gathered, place, placed}
 use Rattle.tape.specs.Numbers.{blockBytes}
 use Rattle.touched.specs.declared.Touched.{Touched}
 
-abbrev pub none : Touched
-none =
+-- n bytes of memory at a place, and no more
+abbrev pub runOf : ℕ → ℕ → Touched
+runOf at n =
     record {
-      «data_at» = 0;
-      «data_length» = 0;
+      «data_at» = at;
+      «data_length» = n;
       swb = false;
       «message_at» = 0;
       «message_length» = 0;
       «reel_at» = 0;
       «reel_blocks» = 0;
     }
+
+abbrev pub none : Touched
+none = runOf 0 0
 
 abbrev pub savedLength : Touched → ℕ
 savedLength t = t .«data_length» + t .«message_length» + blockBytes * t .«reel_blocks»

@@ -20,12 +20,6 @@ ghost use Rattle.ts11.specs.Given.{blockAfter};
 // The block's length.
 pub const STATE: usize = 128;
 
-// What a block is read as, and whether it is that session's own block.
-pub struct Opened {
-    pub right: bool,
-    pub session: Session,
-}
-
 fn entry_with(s: Session) -> Entry
     ensures { λ r. ⌜ r ≡ entryWith s ⌝ }
 {
@@ -72,15 +66,19 @@ fn rest_zero(n: [u32; 31]) -> bool
     (n[23] == 0) & ((n[24] == 0) & ((n[25] == 0) & ((n[26] == 0) & ((n[27] == 0) & free))))
 }
 
-pub fn open(b: &[u8; 128]) -> Opened
-    ensures { λ r. ⌜ (r .right ≡ isBlock (now (b .entry))) × (r .session ≡ sessionIn (now (b .entry))) ⌝ }
+// Whether the bytes are the block of some session.
+pub fn block_right(b: &[u8; 128]) -> bool
+    ensures { λ r. ⌜ r ≡ isBlock (now (b .entry)) ⌝ }
 {
     let n = head_at(b, 0);
-    let session = session_with(entry_of(n));
-    Opened {
-        right: flags_right(n) & (rest_zero(n) & (number_at(b, HEAD) == 0)),
-        session,
-    }
+    flags_right(n) & (rest_zero(n) & (number_at(b, HEAD) == 0))
+}
+
+// What a block is read as; every block is read as some session.
+pub fn session_in(b: &[u8; 128]) -> Session
+    ensures { λ r. ⌜ r ≡ sessionIn (now (b .entry)) ⌝ }
+{
+    session_with(entry_of(head_at(b, 0)))
 }
 
 // The session after a step is written over the block; any other answer leaves the block alone.

@@ -1,6 +1,7 @@
 // The exported calls. A buffer is a pointer and a length; buffers do not overlap.
+use crate::block::block_right;
 use crate::block::close;
-use crate::block::open;
+use crate::block::session_in;
 use commands::Answer;
 use state::Act;
 use unit::Register;
@@ -59,8 +60,7 @@ pub extern "C" fn ts11_mount(
 ) -> usize
     ensures { λ r. ⌜ Mounts (now (state .entry)) (mountOn (sessionIn (now (state .entry))) «memory_length» (now (reel .entry)) «journal_length» end online locked) r (now (state .exit)) (now (block .exit)) ⌝ }
 {
-    let old = open(state);
-    let session = old.session;
+    let session = session_in(state);
     let o = journal::mount(
         session,
         memory_length,
@@ -85,13 +85,12 @@ pub extern "C" fn ts11_write_tsdb(
 ) -> usize
     ensures { λ r. ⌜ Gives (holding (now (state .entry)) (now (memory .entry)) (now (reel .entry)) (now (journal .entry))) (stepGiven (Ask.write-tsdb word) (holding (now (state .entry)) (now (memory .entry)) (now (reel .entry)) (now (journal .entry)))) r (holding (now (state .exit)) (now (memory .exit)) (now (reel .exit)) (now (journal .exit))) ⌝ }
 {
-    let s = open(state);
-    if !s.right {
+    if !block_right(state) {
         return 1;
     }
     close(
         state,
-        journal::write_tsdb(s.session, memory, reel, journal, word),
+        journal::write_tsdb(session_in(state), memory, reel, journal, word),
     )
 }
 
@@ -105,11 +104,13 @@ pub extern "C" fn ts11_write_tssr(
 ) -> usize
     ensures { λ r. ⌜ Gives (holding (now (state .entry)) (now (memory .entry)) (now (reel .entry)) (now (journal .entry))) (stepGiven Ask.write-tssr (holding (now (state .entry)) (now (memory .entry)) (now (reel .entry)) (now (journal .entry)))) r (holding (now (state .exit)) (now (memory .exit)) (now (reel .exit)) (now (journal .exit))) ⌝ }
 {
-    let s = open(state);
-    if !s.right {
+    if !block_right(state) {
         return 1;
     }
-    close(state, journal::write_tssr(s.session, memory, reel, journal))
+    close(
+        state,
+        journal::write_tssr(session_in(state), memory, reel, journal),
+    )
 }
 
 fn act_of(write_lock: bool, on: bool) -> Act
@@ -133,13 +134,18 @@ pub extern "C" fn ts11_operate(
 ) -> usize
     ensures { λ r. ⌜ Gives (holding (now (state .entry)) (now (memory .entry)) (now (reel .entry)) (now (journal .entry))) (stepGiven (Ask.operate (actOf «write_lock» on)) (holding (now (state .entry)) (now (memory .entry)) (now (reel .entry)) (now (journal .entry)))) r (holding (now (state .exit)) (now (memory .exit)) (now (reel .exit)) (now (journal .exit))) ⌝ }
 {
-    let s = open(state);
-    if !s.right {
+    if !block_right(state) {
         return 1;
     }
     close(
         state,
-        journal::operate(s.session, memory, reel, journal, act_of(write_lock, on)),
+        journal::operate(
+            session_in(state),
+            memory,
+            reel,
+            journal,
+            act_of(write_lock, on),
+        ),
     )
 }
 
@@ -164,12 +170,11 @@ fn number_in(a: Answer) -> usize
 pub extern "C" fn ts11_read_register(state: &[u8; 128], tssr: bool, word: &mut u16) -> usize
     ensures { λ r. ⌜ Reads (registerGiven (now (state .entry)) tssr) r (now (word .exit)) ⌝ }
 {
-    let s = open(state);
-    if !s.right {
+    if !block_right(state) {
         *word = 0;
         return 1;
     }
-    let session = s.session;
+    let session = session_in(state);
     let r = journal::read_register(session, register_of(tssr));
     let answer = r.answer;
     *word = r.word;
@@ -187,13 +192,12 @@ pub extern "C" fn ts11_host_store(
 ) -> usize
     ensures { λ r. ⌜ Gives (holding (now (state .entry)) (now (memory .entry)) (now (reel .entry)) (now (journal .entry))) (stepGiven (Ask.host-store place (now (bytes .entry))) (holding (now (state .entry)) (now (memory .entry)) (now (reel .entry)) (now (journal .entry)))) r (holding (now (state .exit)) (now (memory .exit)) (now (reel .entry)) (now (journal .exit))) ⌝ }
 {
-    let s = open(state);
-    if !s.right {
+    if !block_right(state) {
         return 1;
     }
     close(
         state,
-        journal::host_store(s.session, memory, reel, journal, place, bytes),
+        journal::host_store(session_in(state), memory, reel, journal, place, bytes),
     )
 }
 
@@ -210,14 +214,13 @@ pub extern "C" fn ts11_advance(
     ensures { λ r. ⌜ Gives (holding (now (state .entry)) (now (memory .entry)) (now (reel .entry)) (now (journal .entry))) (stepGiven Ask.advance (holding (now (state .entry)) (now (memory .entry)) (now (reel .entry)) (now (journal .entry)))) r (holding (now (state .exit)) (now (memory .exit)) (now (reel .exit)) (now (journal .exit))) ⌝ }
     ensures { λ _. ⌜ Tells (stepGiven Ask.advance (holding (now (state .entry)) (now (memory .entry)) (now (reel .entry)) (now (journal .entry)))) (now (stepped .exit)) (now (interrupt .exit)) (now (block .exit)) ⌝ }
 {
-    let s = open(state);
-    if !s.right {
+    if !block_right(state) {
         *stepped = false;
         *interrupt = false;
         *block = 0;
         return 1;
     }
-    let session = s.session;
+    let session = session_in(state);
     let o = journal::advance(session, memory, reel, journal);
     let answer = o.answer;
     *stepped = is_step(answer);
@@ -235,9 +238,11 @@ pub extern "C" fn ts11_step_back(
 ) -> usize
     ensures { λ r. ⌜ Gives (holding (now (state .entry)) (now (memory .entry)) (now (reel .entry)) (now (journal .entry))) (backGiven (holding (now (state .entry)) (now (memory .entry)) (now (reel .entry)) (now (journal .entry)))) r (holding (now (state .exit)) (now (memory .exit)) (now (reel .exit)) (now (journal .entry))) ⌝ }
 {
-    let s = open(state);
-    if !s.right {
+    if !block_right(state) {
         return 1;
     }
-    close(state, journal::step_back(s.session, memory, reel, journal))
+    close(
+        state,
+        journal::step_back(session_in(state), memory, reel, journal),
+    )
 }

@@ -22,7 +22,7 @@ use Rattle.storing.specs.Stored.{Storable, memoryAfter, reelAfter}
 use Rattle.storing.proofs.DataPlaces.{data-inside}
 use Rattle.storing.proofs.Lengths.{length-memory, length-reel}
 use Rattle.storing.proofs.Staying.{memory-kept, reel-kept-above, reel-kept-below}
-use Rattle.touched.specs.Touches.{OffRun, Only, Sizes, TouchedIn}
+use Rattle.touched.specs.Touches.{OffRun, Only, Sizes, TouchedIn, runOf}
 use Rattle.unit.specs.Touching.{hostTouched, movedPlace, touchedBy}
 
 -- no place of the message's run, where one goes out
@@ -93,3 +93,8 @@ module _ (m s : List ℕ) (place : ℕ) (bytes : List ℕ) where
   pub host-in : Sizes (length m) (length s) → place + length bytes ≤ length m → TouchedIn (hostTouched place (length bytes)) (length m) (length s)
   unfolding hostTouched
   host-in z h = record { in-memory = h; message-in-memory = omega arith; in-reel = omega arith; sizes = z }
+
+-- what a host store touches is a run of memory
+pub host-run : (place n : ℕ) → hostTouched place n ≡ runOf place n
+unfolding hostTouched
+host-run place n = refl

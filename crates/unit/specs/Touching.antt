@@ -8,6 +8,7 @@ use Rattle.signals.specs.Message.{messageBytes}
 use Rattle.motions.specs.Parts.{laidBlocks, movedLength}
 use Rattle.motions.specs.declared.parts.Moved.{Moved}
 use Rattle.commands.specs.declared.plans.Plan.{Plan}
+use Rattle.touched.specs.Touches.{runOf}
 use Rattle.touched.specs.declared.Touched.{Touched}
 
 -- where a Read's bytes go
@@ -28,13 +29,4 @@ touchedBy p =
 
 -- a host store of n bytes at a place
 unfoldable pub hostTouched : ℕ → ℕ → Touched
-hostTouched place n =
-    record {
-      «data_at» = place;
-      «data_length» = n;
-      swb = false;
-      «message_at» = 0;
-      «message_length» = 0;
-      «reel_at» = 0;
-      «reel_blocks» = 0;
-    }
+hostTouched place n = runOf place n

@@ -1,7 +1,9 @@
 -- `change` meets its contract: refusal 9, or an entry that saves no bytes.
+use mathlib.Core.Path.{ap, sym, _∙_}
+use lib.Seq.{sets}
+use Rattle.entries.proofs.Joined.{bare-bytes}
 use Rattle.journal.proofs.Outs.{taken-goes, taken-stops}
 use Rattle.journal.proofs.Entered.{bare-length, change-after, change-entry}
-use Rattle.journal.proofs.Readies.{change-in}
 use Rattle.worlds.specs.Worlds.{worldOf}
 use Rattle.worlds.proofs.Passing.{passed, room}
 use native.Mathlib.Omega.{arith}
@@ -21,13 +23,12 @@ refused-requires c κs = search needs
 returns : tie.Need-returns
 returns c = taken-stops _ _ _ _ _ _ _ (change-entry _ (c .before .before .before .before .before .before .before .before .args .next) _ (c .before .before .before .nothing .ensures)) (bare-length _ _ (c .before .before .before .nothing .ensures)) _ _ (c .before .if1 .taken) (c .refused .ensures .0) (c .refused .ensures .1)
 
-enter-requires : tie.Need-enter-requires
-enter-requires c κs =
-    let s = c .before .before .before .before .before .before .before .before .before .before in
-    let w = worldOf (s .args .s) (s .args .mem .now) (s .args .reel .now) (s .args .jrnl .now) in (
-      room w _ (passed _ _ _ _ (s .pre .right)) _ _ (bare-length _ _ (c .before .before .before .before .before .nothing .ensures)) (c .before .before .before .if1 .left),
-      change-in (s .args .s) (s .args .mem .now) (s .args .reel .now) _ (s .pre) _ (c .before .before .before .before .before .nothing .ensures),
-    )
+enter-bare-requires : tie.Need-enter-bare-requires
+enter-bare-requires c κs =
+    let s = c .before .before .before .before .before .before .before .before in
+    let w = worldOf (s .args .s) (s .args .mem .now) (s .args .reel .now) (s .args .jrnl .now) in
+    let bare = bare-length (s .args .s .unit) _ (c .before .before .before .nothing .ensures) in
+    (omega (arith, bare, room w _ (passed _ _ _ _ (s .pre .right)) _ _ bare (c .before .if1 .left)), c .before .before .before .nothing .ensures)
 
 add-t9 : tie.Need-add-t9
 add-t9 c = search needs
@@ -35,17 +36,13 @@ add-t9 c = search needs
 same-length : tie.Need-same-length
 same-length c = search needs
 
-same-length-2 : tie.Need-same-length-2
-same-length-2 c = search needs
-
-same-length-3 : tie.Need-same-length-3
-same-length-3 c = search needs
-
 returns-2 : tie.Need-returns-2
 returns-2 c =
-    let s = c .before .before .before .before .before .before .before .before .before .before .before .before .before .before in
+    let s = c .before .before .before .before .before .before .before .before .before .before .before .before in
     let w = worldOf (s .args .s) (s .args .mem .now) (s .args .reel .now) (s .args .jrnl .now) in
-    taken-goes (s .args .s) _ _ _ _ _ _ (change-entry (w .core) (s .args .next) _ (c .before .before .before .before .before .before .before .before .before .nothing .ensures)) (bare-length _ _ (c .before .before .before .before .before .before .before .before .before .nothing .ensures)) _ (s .args .next) _ _ _ (c .before .before .before .before .before .before .before .if1 .left) (room w _ (passed _ _ _ _ (s .pre .right)) _ _ (bare-length _ _ (c .before .before .before .before .before .before .before .before .before .nothing .ensures)) (c .before .before .before .before .before .before .before .if1 .left)) (c .before .before .before .enter .ensures) (change-after (w .core) (s .args .next))
+    let bare = c .before .before .before .before .before .before .before .nothing .ensures in
+    let fits = c .before .before .before .before .before .if1 .left in
+    taken-goes (s .args .s) _ _ _ _ _ _ (change-entry (w .core) (s .args .next) _ bare) (bare-length _ _ bare) _ (s .args .next) _ _ _ fits (room w _ (passed _ _ _ _ (s .pre .right)) _ _ (bare-length _ _ bare) fits) (c .before .before .before .enter-bare .ensures ∙ sym (ap (sets (s .args .jrnl .now) (s .args .s .used)) (bare-bytes _ (s .args .mem .now) (s .args .reel .now) bare))) (change-after (w .core) (s .args .next))
 
 pub change-spec : {M : Type 1} → statement M
 change-spec =
@@ -55,9 +52,7 @@ change-spec =
     sub-if1
     refused-requires
     returns
-    enter-requires
+    enter-bare-requires
     add-t9
     same-length
-    same-length-2
-    same-length-3
     returns-2)

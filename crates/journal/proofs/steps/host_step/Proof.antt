@@ -1,4 +1,8 @@
 -- `host_step` meets its contract: refusal 9, or the entry first and then the bytes.
+use mathlib.Core.Path.{ap, sym, _∙_}
+use lib.Seq.{sets}
+use Rattle.entries.proofs.Joined.{run-bytes, run-whole}
+use Rattle.unit.proofs.Touches.{host-run}
 use Rattle.journal.proofs.Outs.{taken-goes, taken-stops}
 use Rattle.journal.proofs.Entered.{store-after, store-entry, store-right}
 use Rattle.journal.proofs.Readies.{sound-sizes, store-in}
@@ -28,12 +32,18 @@ returns c =
     let s = c .before .before .before .before .before .before .before .before .before .before in
     taken-stops _ _ _ _ _ _ _ (store-entry _ _ _ (store-right _ _ _ (s .pre .short) (s .pre .inside)) _ (c .before .before .before .before .host-touched .ensures)) (c .before .before .before .entry-length .ensures) _ _ (c .before .if1 .taken) (c .refused .ensures .0) (c .refused .ensures .1)
 
-enter-requires : tie.Need-enter-requires
-enter-requires c κs =
+enter-run-requires : tie.Need-enter-run-requires
+enter-run-requires c κs =
     let s = c .before .before .before .before .before .before .before .before .before .before .before in
-    let w = worldOf (s .args .s) (s .args .mem .now) (s .args .reel .now) (s .args .jrnl .now) in (
-      room w _ (passed _ _ _ _ (s .pre .sound .right)) _ _ (c .before .before .before .before .entry-length .ensures) (c .before .before .if1 .left),
-      store-in (s .args .s) (s .args .mem .now) (s .args .reel .now) _ (s .pre .sound) _ (s .args .bytes .now) _ (c .before .before .before .before .before .host-touched .ensures) (s .pre .inside),
+    let w = worldOf (s .args .s) (s .args .mem .now) (s .args .reel .now) (s .args .jrnl .now) in
+    let touched = c .before .before .before .before .before .host-touched .ensures ∙ host-run _ _ in
+    let sizes = sound-sizes (s .args .s) (s .args .mem .now) (s .args .reel .now) _ (s .pre .sound) in
+    let long = run-whole (record { unit = s .args .s .unit; touched = _ }) _ _ touched in (
+      omega (arith, long, room w _ (passed _ _ _ _ (s .pre .sound .right)) _ _ (c .before .before .before .before .entry-length .ensures) (c .before .before .if1 .left)),
+      s .pre .inside,
+      sizes .even,
+      sizes .memory-small,
+      touched,
     )
 
 put-host-requires : tie.Need-put-host-requires
@@ -41,8 +51,8 @@ put-host-requires c κs =
     let s = c .before .before .before .before .before .before .before .before .before .before .before .before .before .before .before in
     (s .pre .inside, sound-sizes (s .args .s) (s .args .mem .now) (s .args .reel .now) _ (s .pre .sound) .even)
 
-add-t13 : tie.Need-add-t13
-add-t13 c = search needs
+add-t12 : tie.Need-add-t12
+add-t12 c = search needs
 
 same-length : tie.Need-same-length
 same-length c = search needs
@@ -55,7 +65,10 @@ returns-2 c =
     let s = c .before .before .before .before .before .before .before .before .before .before .before .before .before .before .before .before .before .before .before .before in
     let w = worldOf (s .args .s) (s .args .mem .now) (s .args .reel .now) (s .args .jrnl .now) in
     let right = store-right _ _ _ (s .pre .short) (s .pre .inside) in
-    taken-goes (s .args .s) _ _ _ _ _ _ (store-entry (w .core) _ _ right _ (c .before .before .before .before .before .before .before .before .before .before .before .before .before .before .host-touched .ensures)) (c .before .before .before .before .before .before .before .before .before .before .before .before .before .entry-length .ensures) _ _ _ _ _ (c .before .before .before .before .before .before .before .before .before .before .before .if1 .left) (room w _ (passed _ _ _ _ (s .pre .sound .right)) _ _ (c .before .before .before .before .before .before .before .before .before .before .before .before .before .entry-length .ensures) (c .before .before .before .before .before .before .before .before .before .before .before .if1 .left)) (c .before .before .before .before .before .before .before .before .enter .ensures) (store-after (w .core) _ _ right _ (c .before .before .before .before .put-host .ensures))
+    let touched = c .before .before .before .before .before .before .before .before .before .before .before .before .before .before .host-touched .ensures in
+    let long = c .before .before .before .before .before .before .before .before .before .before .before .before .before .entry-length .ensures in
+    let fits = c .before .before .before .before .before .before .before .before .before .before .before .if1 .left in
+    taken-goes (s .args .s) _ _ _ _ _ _ (store-entry (w .core) _ _ right _ touched) long _ _ _ _ _ fits (room w _ (passed _ _ _ _ (s .pre .sound .right)) _ _ long fits) (c .before .before .before .before .before .before .before .before .enter-run .ensures ∙ sym (ap (sets (s .args .jrnl .now) (s .args .s .used)) (run-bytes _ (s .args .mem .now) (s .args .reel .now) _ _ (touched ∙ host-run _ _)))) (store-after (w .core) _ _ right _ (c .before .before .before .before .put-host .ensures))
 
 pub host-step-spec : {M : Type 1} → statement M
 host-step-spec =
@@ -66,9 +79,9 @@ host-step-spec =
     sub-if1
     refused-requires
     returns
-    enter-requires
+    enter-run-requires
     put-host-requires
-    add-t13
+    add-t12
     same-length
     same-length-2
     returns-2)

@@ -4,11 +4,14 @@ use borrow.Author.Needs.{needs}
 use Rattle.ts11.proofs.calls.ts11_host_store.Statement.{statement}
 use Rattle.ts11.proofs.calls.ts11_host_store.Tie as tie
 
-open-requires : tie.Need-open-requires
-open-requires c κs = search needs
+block-right-requires : tie.Need-block-right-requires
+block-right-requires c κs = search needs
 
 returns : tie.Need-returns
-returns c = step-stops _ _ (c .before .before .«open» .ensures .0) (c .if1 .taken) _
+returns c = step-stops _ _ (c .before .block-right .ensures) (c .if1 .taken) _
+
+session-in-requires : tie.Need-session-in-requires
+session-in-requires c κs = search needs
 
 host-store-requires : tie.Need-host-store-requires
 host-store-requires c κs = search needs
@@ -23,14 +26,15 @@ same-length-2 : tie.Need-same-length-2
 same-length-2 c = search needs
 
 returns-2 : tie.Need-returns-2
-returns-2 c = step-goes _ _ (c .before .before .before .before .before .before .before .before .before .before .before .«open» .ensures .0) _ _ _ _ _ (c .before .before .before .before .before .before .before .before .before .if1 .left) (c .before .before .before .before .before .before .before .before .before .before .before .«open» .ensures .1) _ (c .before .before .before .before .before .host-store .ensures) (c .close .ensures .0) (c .close .ensures .1)
+returns-2 c = step-goes _ _ (c .before .before .before .before .before .before .before .before .before .before .before .before .block-right .ensures) _ _ _ _ _ (c .before .before .before .before .before .before .before .before .before .before .before .if1 .left) (c .before .before .before .before .before .before .before .before .session-in .ensures) _ (c .before .before .before .before .before .host-store .ensures) (c .close .ensures .0) (c .close .ensures .1)
 
 pub ts11-host-store-spec : {M : Type 1} → statement M
 ts11-host-store-spec =
     tie.close
     (tie.spec
-    open-requires
+    block-right-requires
     returns
+    session-in-requires
     host-store-requires
     close-requires
     same-length

@@ -6,11 +6,14 @@ use borrow.Author.Needs.{needs}
 use Rattle.ts11.proofs.calls.ts11_operate.Statement.{statement}
 use Rattle.ts11.proofs.calls.ts11_operate.Tie as tie
 
-open-requires : tie.Need-open-requires
-open-requires c κs = search needs
+block-right-requires : tie.Need-block-right-requires
+block-right-requires c κs = search needs
 
 returns : tie.Need-returns
-returns c = step-stops _ _ (c .before .before .«open» .ensures .0) (c .if1 .taken) _
+returns c = step-stops _ _ (c .before .block-right .ensures) (c .if1 .taken) _
+
+session-in-requires : tie.Need-session-in-requires
+session-in-requires c κs = search needs
 
 act-of-requires : tie.Need-act-of-requires
 act-of-requires c κs = search needs
@@ -31,14 +34,15 @@ same-length-3 : tie.Need-same-length-3
 same-length-3 c = search needs
 
 returns-2 : tie.Need-returns-2
-returns-2 c = step-goes _ _ (c .before .before .before .before .before .before .before .before .before .before .before .before .before .before .before .«open» .ensures .0) _ _ _ _ _ (c .before .before .before .before .before .before .before .before .before .before .before .before .before .if1 .left) (c .before .before .before .before .before .before .before .before .before .before .before .before .before .before .before .«open» .ensures .1) _ (asked _ _ _ _ _ _ _ _ (ap Ask.operate (c .before .before .before .before .before .before .before .before .act-of .ensures)) (c .before .before .before .before .before .before .before .operate .ensures)) (c .close .ensures .0) (c .close .ensures .1)
+returns-2 c = step-goes _ _ (c .before .before .before .before .before .before .before .before .before .before .before .before .before .before .before .before .block-right .ensures) _ _ _ _ _ (c .before .before .before .before .before .before .before .before .before .before .before .before .before .before .before .if1 .left) (c .before .before .before .before .before .before .before .before .before .before .before .before .session-in .ensures) _ (asked _ _ _ _ _ _ _ _ (ap Ask.operate (c .before .before .before .before .before .before .before .before .act-of .ensures)) (c .before .before .before .before .before .before .before .operate .ensures)) (c .close .ensures .0) (c .close .ensures .1)
 
 pub ts11-operate-spec : {M : Type 1} → statement M
 ts11-operate-spec =
     tie.close
     (tie.spec
-    open-requires
+    block-right-requires
     returns
+    session-in-requires
     act-of-requires
     operate-requires
     close-requires

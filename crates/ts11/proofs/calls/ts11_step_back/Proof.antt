@@ -4,11 +4,14 @@ use borrow.Author.Needs.{needs}
 use Rattle.ts11.proofs.calls.ts11_step_back.Statement.{statement}
 use Rattle.ts11.proofs.calls.ts11_step_back.Tie as tie
 
-open-requires : tie.Need-open-requires
-open-requires c κs = search needs
+block-right-requires : tie.Need-block-right-requires
+block-right-requires c κs = search needs
 
 returns : tie.Need-returns
-returns c = back-stops _ _ (c .before .before .«open» .ensures .0) (c .if1 .taken)
+returns c = back-stops _ _ (c .before .block-right .ensures) (c .if1 .taken)
+
+session-in-requires : tie.Need-session-in-requires
+session-in-requires c κs = search needs
 
 step-back-requires : tie.Need-step-back-requires
 step-back-requires c κs = search needs
@@ -23,14 +26,15 @@ same-length-2 : tie.Need-same-length-2
 same-length-2 c = search needs
 
 returns-2 : tie.Need-returns-2
-returns-2 c = back-goes _ _ (c .before .before .before .before .before .before .before .before .before .before .before .«open» .ensures .0) _ _ _ _ _ (c .before .before .before .before .before .before .before .before .before .if1 .left) (c .before .before .before .before .before .before .before .before .before .before .before .«open» .ensures .1) (c .before .before .before .before .before .step-back .ensures) (c .close .ensures .0) (c .close .ensures .1)
+returns-2 c = back-goes _ _ (c .before .before .before .before .before .before .before .before .before .before .before .before .block-right .ensures) _ _ _ _ _ (c .before .before .before .before .before .before .before .before .before .before .before .if1 .left) (c .before .before .before .before .before .before .before .before .session-in .ensures) (c .before .before .before .before .before .step-back .ensures) (c .close .ensures .0) (c .close .ensures .1)
 
 pub ts11-step-back-spec : {M : Type 1} → statement M
 ts11-step-back-spec =
     tie.close
     (tie.spec
-    open-requires
+    block-right-requires
     returns
+    session-in-requires
     step-back-requires
     close-requires
     same-length
