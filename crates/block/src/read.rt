@@ -62,7 +62,7 @@ fn used_of(k: usize, n: usize, i: usize) -> usize
 }
 
 // Padding and check in one pass: the words in use are summed, then those that must be 0. An odd last data byte shares its word.
-fn body_right(b: &[u8], used: usize) -> bool
+fn padded_right(b: &[u8], used: usize) -> bool
     requires { ⌜ (length (now b) ≡ blockBytes) × (used ≤ dataBytes) ⌝ }
     ensures { λ r. ⌜ r ≡ bodyRight (now (b .entry)) used ⌝ }
 {
@@ -72,6 +72,24 @@ fn body_right(b: &[u8], used: usize) -> bool
     let rest = check_sum(&b[cut..Geometry::SUMMED], Geometry::SUMMED_WORDS - words);
     let shared = (used % 2 == 0) | (wide(b[Geometry::HEAD + used]) == 0);
     (shared & (rest == 0)) & (word(b, Geometry::SUMMED) == (head + rest) % Geometry::CHECK_MODULUS)
+}
+
+// All data bytes are in use, so there is no padding. Its own function, since the sum then runs over a fixed number of words.
+fn full_right(b: &[u8]) -> bool
+    requires { ⌜ length (now b) ≡ blockBytes ⌝ }
+    ensures { λ r. ⌜ r ≡ bodyRight (now (b .entry)) dataBytes ⌝ }
+{
+    word(b, Geometry::SUMMED) == check_sum(b, Geometry::SUMMED_WORDS) % Geometry::CHECK_MODULUS
+}
+
+fn body_right(b: &[u8], used: usize) -> bool
+    requires { ⌜ (length (now b) ≡ blockBytes) × (used ≤ dataBytes) ⌝ }
+    ensures { λ r. ⌜ r ≡ bodyRight (now (b .entry)) used ⌝ }
+{
+    if used == Geometry::DATA {
+        return full_right(b);
+    }
+    padded_right(b, used)
 }
 
 fn kind_of(k: usize, n: usize, i: usize) -> Block
