@@ -1,11 +1,14 @@
 // Advance, in order: a function for each step of the paper, each going on to the next.
 use commands::Answer;
+use commands::Course;
+use commands::How;
 use commands::Plan;
 use commands::carry_out;
+use commands::plan_of;
 use commands::still_plan;
-use commands::tell;
-use commands::untell;
+use commands::told_course;
 use lists::word;
+use motions::Motion;
 use motions::rest;
 use signals::ByteCount;
 use signals::Command;
@@ -21,12 +24,14 @@ ghost use mathlib.Core.Path.{_≡_};
 ghost use Prim.Native.Nat.{_<_, _≤_};
 ghost use Rattle.tape.specs.Numbers.{capacityLimit};
 ghost use Rattle.signals.specs.Numbers.{pointerLimit};
+ghost use Rattle.lists.specs.Pick.{pick};
+ghost use Rattle.commands.specs.Ends.{planOf};
 ghost use Rattle.advance.specs.Rules.{hasExtent, isIllegal, isTape, lengthWrong, notExecutable, reverseFirst, wholeCount, writes};
 ghost use Rattle.advance.specs.Steps.{advanced, attended, rejected, stepAttention, stepExecutable, stepExtent, stepFetch, stepHeader, stepIllegal, stepNoBuffer, stepOwner, stepPointer, stepVolume};
 
 // What a rejected command says: class 3, or 5 with NXM.
-fn reject(u: Unit, ie: bool, class: usize, found: u16, residual: Residual) -> Plan
-    ensures { λ r. ⌜ r ≡ rejected u ie class found residual ⌝ }
+fn reject(u: Unit, ie: bool, class: usize, found: u16, residual: Residual) -> Course
+    ensures { λ r. ⌜ planOf r ≡ rejected u ie class found residual ⌝ }
 {
     let end = End {
         class,
@@ -35,7 +40,7 @@ fn reject(u: Unit, ie: bool, class: usize, found: u16, residual: Residual) -> Pl
         residual,
     };
     let t = u.tape;
-    tell(u, ie, rest(end, t))
+    told_course(u, ie, Motion::Ended(rest(end, t)))
 }
 
 // The whole count: bytes for Read, records or marks for Position modes 0 to 3, else 0.
@@ -118,9 +123,9 @@ fn is_illegal(c: Command) -> bool
 }
 
 // 10. Data extent past the end of memory: NXM, class 5.
-fn step_extent(u: Unit, mem: &[u8], reel: &[u8], h: Header, p: Packet) -> Plan
+fn step_extent(u: Unit, mem: &[u8], reel: &[u8], h: Header, p: Packet) -> Course
     requires { ⌜ (u .tape .end ≤ capacityLimit) × (p .pointer < pointerLimit) ⌝ }
-    ensures { λ r. ⌜ r ≡ stepExtent u (now (mem .entry)) (now (reel .entry)) h p ⌝ }
+    ensures { λ r. ⌜ planOf r ≡ stepExtent u (now (mem .entry)) (now (reel .entry)) h p ⌝ }
 {
     if has_extent(h) & (mem.len() < p.pointer + p.count as usize) {
         return reject(u, h.ie, 5, 0, whole_count(h, p.count));
@@ -136,9 +141,9 @@ fn not_executable(u: Unit, h: Header, p: Packet) -> bool
 }
 
 // 9. Off line or VCK: NEF. Write lock: NEF and WLE. Reverse at block 0, a written length out of range: NEF.
-fn step_executable(u: Unit, mem: &[u8], reel: &[u8], h: Header, p: Packet) -> Plan
+fn step_executable(u: Unit, mem: &[u8], reel: &[u8], h: Header, p: Packet) -> Course
     requires { ⌜ (u .tape .end ≤ capacityLimit) × (p .pointer < pointerLimit) ⌝ }
-    ensures { λ r. ⌜ r ≡ stepExecutable u (now (mem .entry)) (now (reel .entry)) h p ⌝ }
+    ensures { λ r. ⌜ planOf r ≡ stepExecutable u (now (mem .entry)) (now (reel .entry)) h p ⌝ }
 {
     if is_tape(h) & ((!u.panel.online) | u.panel.vck) {
         return reject(u, h.ie, 3, signals::NEF, whole_count(h, p.count));
@@ -159,9 +164,9 @@ fn step_executable(u: Unit, mem: &[u8], reel: &[u8], h: Header, p: Packet) -> Pl
 }
 
 // 8. Pointer bits above A17, or odd pointer in Write Characteristics: ILA, class 3.
-fn step_pointer(u: Unit, mem: &[u8], reel: &[u8], h: Header, p: Packet) -> Plan
+fn step_pointer(u: Unit, mem: &[u8], reel: &[u8], h: Header, p: Packet) -> Course
     requires { ⌜ (u .tape .end ≤ capacityLimit) × (p .pointer < pointerLimit) ⌝ }
-    ensures { λ r. ⌜ r ≡ stepPointer u (now (mem .entry)) (now (reel .entry)) h p ⌝ }
+    ensures { λ r. ⌜ planOf r ≡ stepPointer u (now (mem .entry)) (now (reel .entry)) h p ⌝ }
 {
     if p.high | ((h.code == 4) & (p.pointer % 2 == 1)) {
         return reject(u, h.ie, 3, signals::ILA, whole_count(h, p.count));
@@ -170,9 +175,9 @@ fn step_pointer(u: Unit, mem: &[u8], reel: &[u8], h: Header, p: Packet) -> Plan
 }
 
 // 7. The words that the command uses, outside memory: NXM, class 5.
-fn step_fetch(u: Unit, mem: &[u8], reel: &[u8], h: Header) -> Plan
+fn step_fetch(u: Unit, mem: &[u8], reel: &[u8], h: Header) -> Course
     requires { ⌜ (u .tape .end ≤ capacityLimit) × (u .registers .pointer < pointerLimit) ⌝ }
-    ensures { λ r. ⌜ r ≡ stepFetch u (now (mem .entry)) (now (reel .entry)) h ⌝ }
+    ensures { λ r. ⌜ planOf r ≡ stepFetch u (now (mem .entry)) (now (reel .entry)) h ⌝ }
 {
     let at = u.registers.pointer;
     if mem.len() < at + 2 * signals::words_of(h.code) {
@@ -182,9 +187,9 @@ fn step_fetch(u: Unit, mem: &[u8], reel: &[u8], h: Header) -> Plan
 }
 
 // 6. NBA set and not Write Characteristics: class 3.
-fn step_no_buffer(u: Unit, mem: &[u8], reel: &[u8], h: Header) -> Plan
+fn step_no_buffer(u: Unit, mem: &[u8], reel: &[u8], h: Header) -> Course
     requires { ⌜ (u .tape .end ≤ capacityLimit) × (u .registers .pointer < pointerLimit) ⌝ }
-    ensures { λ r. ⌜ r ≡ stepNoBuffer u (now (mem .entry)) (now (reel .entry)) h ⌝ }
+    ensures { λ r. ⌜ planOf r ≡ stepNoBuffer u (now (mem .entry)) (now (reel .entry)) h ⌝ }
 {
     if u.registers.nba & (h.code != 4) {
         return reject(u, h.ie, 3, 0, Residual::Nothing);
@@ -193,9 +198,9 @@ fn step_no_buffer(u: Unit, mem: &[u8], reel: &[u8], h: Header) -> Plan
 }
 
 // 5. Bits 7:5 neither 000 nor 100, or unknown code or mode: ILC, class 3.
-fn step_illegal(u: Unit, mem: &[u8], reel: &[u8], h: Header) -> Plan
+fn step_illegal(u: Unit, mem: &[u8], reel: &[u8], h: Header) -> Course
     requires { ⌜ (u .tape .end ≤ capacityLimit) × (u .registers .pointer < pointerLimit) ⌝ }
-    ensures { λ r. ⌜ r ≡ stepIllegal u (now (mem .entry)) (now (reel .entry)) h ⌝ }
+    ensures { λ r. ⌜ planOf r ≡ stepIllegal u (now (mem .entry)) (now (reel .entry)) h ⌝ }
 {
     if (!h.plain) | is_illegal(signals::decode(h.code, h.mode)) {
         return reject(u, h.ie, 3, signals::ILC, Residual::Nothing);
@@ -204,9 +209,9 @@ fn step_illegal(u: Unit, mem: &[u8], reel: &[u8], h: Header) -> Plan
 }
 
 // 4. CVC clears VCK.
-fn step_volume(u: Unit, mem: &[u8], reel: &[u8], h: Header) -> Plan
+fn step_volume(u: Unit, mem: &[u8], reel: &[u8], h: Header) -> Course
     requires { ⌜ (u .tape .end ≤ capacityLimit) × (u .registers .pointer < pointerLimit) ⌝ }
-    ensures { λ r. ⌜ r ≡ stepVolume u (now (mem .entry)) (now (reel .entry)) h ⌝ }
+    ensures { λ r. ⌜ planOf r ≡ stepVolume u (now (mem .entry)) (now (reel .entry)) h ⌝ }
 {
     let mut v = u;
     let vck = u.panel.vck & !h.cvc;
@@ -215,8 +220,8 @@ fn step_volume(u: Unit, mem: &[u8], reel: &[u8], h: Header) -> Plan
 }
 
 // An attention goes out: class 1, and none is pending then.
-fn attend(u: Unit, ie: bool) -> Plan
-    ensures { λ r. ⌜ r ≡ attended u ie ⌝ }
+fn attend(u: Unit, ie: bool) -> Course
+    ensures { λ r. ⌜ planOf r ≡ attended u ie ⌝ }
 {
     let mut v = u;
     v.attention.pending = false;
@@ -224,9 +229,9 @@ fn attend(u: Unit, ie: bool) -> Plan
 }
 
 // 3. Attention pending and the unit owns the buffer: the command is lost.
-fn step_attention(u: Unit, mem: &[u8], reel: &[u8], h: Header) -> Plan
+fn step_attention(u: Unit, mem: &[u8], reel: &[u8], h: Header) -> Course
     requires { ⌜ (u .tape .end ≤ capacityLimit) × (u .registers .pointer < pointerLimit) ⌝ }
-    ensures { λ r. ⌜ r ≡ stepAttention u (now (mem .entry)) (now (reel .entry)) h ⌝ }
+    ensures { λ r. ⌜ planOf r ≡ stepAttention u (now (mem .entry)) (now (reel .entry)) h ⌝ }
 {
     if u.attention.pending {
         return attend(u, h.ie);
@@ -235,41 +240,57 @@ fn step_attention(u: Unit, mem: &[u8], reel: &[u8], h: Header) -> Plan
 }
 
 // 2. ACK gives the message buffer to the unit. No ACK while the CPU owns it: class 0, no message, the command isn't run.
-fn step_owner(u: Unit, mem: &[u8], reel: &[u8], h: Header) -> Plan
+fn step_owner(u: Unit, mem: &[u8], reel: &[u8], h: Header) -> Course
     requires { ⌜ (u .tape .end ≤ capacityLimit) × (u .registers .pointer < pointerLimit) ⌝ }
-    ensures { λ r. ⌜ r ≡ stepOwner u (now (mem .entry)) (now (reel .entry)) h ⌝ }
+    ensures { λ r. ⌜ planOf r ≡ stepOwner u (now (mem .entry)) (now (reel .entry)) h ⌝ }
 {
     let owns = u.attention.unit_owns | h.ack;
     let mut v = u;
     v.attention.unit_owns = owns;
     if !owns {
-        return untell(v, 0, h.ie);
+        return Course {
+            unit: v,
+            ie: h.ie,
+            how: How::Untold(0),
+        };
     }
     step_attention(v, mem, reel, h)
 }
 
 // 1. Header word outside memory: NXM, class 5, no message, no interrupt, the message buffer's owner kept.
-fn step_header(u: Unit, mem: &[u8], reel: &[u8]) -> Plan
+fn step_header(u: Unit, mem: &[u8], reel: &[u8]) -> Course
     requires { ⌜ (u .tape .end ≤ capacityLimit) × (u .registers .pointer < pointerLimit) ⌝ }
-    ensures { λ r. ⌜ r ≡ stepHeader u (now (mem .entry)) (now (reel .entry)) ⌝ }
+    ensures { λ r. ⌜ planOf r ≡ stepHeader u (now (mem .entry)) (now (reel .entry)) ⌝ }
 {
     let at = u.registers.pointer;
     if mem.len() < at + 2 {
-        return untell(u, 5, false);
+        return Course {
+            unit: u,
+            ie: false,
+            how: How::Untold(5),
+        };
     }
     step_owner(u, mem, reel, signals::header_of(word(mem, at)))
 }
 
-// What an advance is about to do. With no command waiting, an attention that the unit may send goes out with the release's IE.
+// The command that waits, or the attention that goes out with the release's IE.
+fn course(u: Unit, mem: &[u8], reel: &[u8]) -> Course
+    requires { ⌜ (u .tape .end ≤ capacityLimit) × (u .registers .pointer < pointerLimit) ⌝ }
+    ensures { λ r. ⌜ planOf r ≡ pick (u .registers .ssr) (attended u (u .attention .«release_ie»)) (stepHeader u (now (mem .entry)) (now (reel .entry))) ⌝ }
+{
+    if u.registers.ssr {
+        return attend(u, u.attention.release_ie);
+    }
+    step_header(u, mem, reel)
+}
+
+// What an advance is about to do. With no command waiting, and no attention that the unit may send, nothing.
 pub fn plan_advance(u: Unit, mem: &[u8], reel: &[u8]) -> Plan
     requires { ⌜ (u .tape .end ≤ capacityLimit) × (u .registers .pointer < pointerLimit) ⌝ }
     ensures { λ r. ⌜ r ≡ advanced u (now (mem .entry)) (now (reel .entry)) ⌝ }
 {
-    if !u.registers.ssr {
-        return step_header(u, mem, reel);
+    if u.registers.ssr & !(u.attention.pending & u.attention.unit_owns) {
+        return still_plan(u, Answer::Idle);
     }
-    if u.attention.pending & u.attention.unit_owns {
-        return attend(u, u.attention.release_ie);
-    }
-    still_plan(u, Answer::Idle)
+    plan_of(course(u, mem, reel))
 }

@@ -16,6 +16,9 @@ use Rattle.motions.specs.Parts.{laidBlocks, noLay, noMove}
 use Rattle.commands.specs.declared.plans.Answer.{Answer}
 use Rattle.commands.specs.declared.plans.Answer.the-variants as answer
 use Rattle.commands.specs.declared.plans.Plan.{Plan}
+use Rattle.commands.specs.declared.plans.Course.{Course}
+use Rattle.commands.specs.declared.plans.How.{How}
+use Rattle.commands.specs.declared.plans.How.the-variants as how
 use Rattle.motions.specs.declared.parts.Ending.{Ending}
 use Rattle.motions.specs.declared.parts.Motion.{Motion}
 use Rattle.motions.specs.declared.parts.Motion.the-variants as motion
@@ -121,3 +124,12 @@ untold u class interrupts = still (ended u class) (answer.Done interrupts)
 unfoldable pub motionPlan : Unit → Bool → Motion → Plan
 motionPlan u ie (motion.Ended x) = told u ie x
 motionPlan u ie (motion.Fault k) = still u (answer.BadBlock k)
+
+-- told or not, as a plan
+unfoldable pub planBy : Unit → Bool → How → Plan
+planBy u ie (how.Told m) = motionPlan u ie m
+planBy u ie (how.Untold class) = untold u class ie
+
+-- the plan that an advance comes to, told or not
+unfoldable pub planOf : Course → Plan
+planOf c = planBy (c .unit) (c .ie) (c .how)

@@ -1,8 +1,7 @@
 // The commands, carried out.
-use crate::ends::plan_motion;
-use crate::ends::tell;
-use crate::ends::untell;
-use crate::plans::Plan;
+use crate::ends::told_course;
+use crate::plans::Course;
+use crate::plans::How;
 use lists::word;
 use motions::Buffer;
 use motions::Laid;
@@ -28,6 +27,7 @@ ghost use mathlib.Core.Path.{_≡_};
 ghost use Prim.Native.Nat.{_+_, _≤_};
 ghost use lib.ListN.{length};
 ghost use Rattle.tape.specs.Numbers.{capacityLimit};
+ghost use Rattle.commands.specs.Ends.{planOf};
 ghost use Rattle.commands.specs.Commands.{DataFit, asked, carriedOut, characteristicsAt, characterized, laidHere, laying, modeWord, motionOf, plainEnd, positioning, refusedCharacteristics, released, takenCharacteristics, unloaded};
 
 fn plain_end() -> End
@@ -43,17 +43,21 @@ fn plain_end() -> End
 }
 
 // A release carried out is not told, and leaves its IE for an idle attention.
-fn release(u: Unit, ie: bool) -> Plan
-    ensures { λ r. ⌜ r ≡ released u ie ⌝ }
+fn release(u: Unit, ie: bool) -> Course
+    ensures { λ r. ⌜ planOf r ≡ released u ie ⌝ }
 {
     let mut v = u;
     v.attention.release_ie = ie;
-    untell(v, 0, false)
+    Course {
+        unit: v,
+        ie: false,
+        how: How::Untold(0),
+    }
 }
 
 // Rewind and unload ends off line, with no attention.
-fn unload(u: Unit, ie: bool) -> Plan
-    ensures { λ r. ⌜ r ≡ unloaded u ie ⌝ }
+fn unload(u: Unit, ie: bool) -> Course
+    ensures { λ r. ⌜ planOf r ≡ unloaded u ie ⌝ }
 {
     let mut v = u;
     v.panel.online = false;
@@ -61,7 +65,7 @@ fn unload(u: Unit, ie: bool) -> Plan
         position: 0,
         end: u.tape.end,
     };
-    tell(v, ie, rest(plain_end(), start))
+    told_course(v, ie, Motion::Ended(rest(plain_end(), start)))
 }
 
 // The mode word, 0 if the count is under 8.
@@ -93,8 +97,8 @@ fn characteristics_at(mem: &[u8], p: Packet) -> Characteristics
 }
 
 // NBA set, class 3, all old values kept.
-fn refuse_characteristics(u: Unit, ie: bool) -> Plan
-    ensures { λ r. ⌜ r ≡ refusedCharacteristics u ie ⌝ }
+fn refuse_characteristics(u: Unit, ie: bool) -> Course
+    ensures { λ r. ⌜ planOf r ≡ refusedCharacteristics u ie ⌝ }
 {
     let mut v = u;
     v.registers.nba = true;
@@ -106,23 +110,23 @@ fn refuse_characteristics(u: Unit, ie: bool) -> Plan
         residual,
     };
     let t = u.tape;
-    tell(v, ie, rest(end, t))
+    told_course(v, ie, Motion::Ended(rest(end, t)))
 }
 
 // NBA clears and all are taken.
-fn take_characteristics(u: Unit, c: Characteristics, ie: bool) -> Plan
-    ensures { λ r. ⌜ r ≡ takenCharacteristics u c ie ⌝ }
+fn take_characteristics(u: Unit, c: Characteristics, ie: bool) -> Course
+    ensures { λ r. ⌜ planOf r ≡ takenCharacteristics u c ie ⌝ }
 {
     let mut v = u;
     v.registers.nba = false;
     v.characteristics = c;
     let t = u.tape;
-    tell(v, ie, rest(plain_end(), t))
+    told_course(v, ie, Motion::Ended(rest(plain_end(), t)))
 }
 
-fn characterize(u: Unit, mem: &[u8], p: Packet, ie: bool) -> Plan
+fn characterize(u: Unit, mem: &[u8], p: Packet, ie: bool) -> Course
     requires { ⌜ p .pointer + p .count ≤ length (now mem) ⌝ }
-    ensures { λ r. ⌜ r ≡ characterized u (now (mem .entry)) p ie ⌝ }
+    ensures { λ r. ⌜ planOf r ≡ characterized u (now (mem .entry)) p ie ⌝ }
 {
     if p.count < 6 {
         return refuse_characteristics(u, ie);
@@ -227,9 +231,9 @@ fn move_tape(u: Unit, reel: &[u8], h: Header, p: Packet, c: Command) -> Motion
 }
 
 // All but three commands end as their motion does.
-pub fn carry_out(u: Unit, mem: &[u8], reel: &[u8], h: Header, p: Packet, c: Command) -> Plan
+pub fn carry_out(u: Unit, mem: &[u8], reel: &[u8], h: Header, p: Packet, c: Command) -> Course
     requires { ⌜ (u .tape .end ≤ capacityLimit) × DataFit c p (now mem) ⌝ }
-    ensures { λ r. ⌜ r ≡ carriedOut u (now (mem .entry)) (now (reel .entry)) h p c ⌝ }
+    ensures { λ r. ⌜ planOf r ≡ carriedOut u (now (mem .entry)) (now (reel .entry)) h p c ⌝ }
 {
     if let Command::WriteCharacteristics = c {
         return characterize(u, mem, p, h.ie);
@@ -240,5 +244,5 @@ pub fn carry_out(u: Unit, mem: &[u8], reel: &[u8], h: Header, p: Packet, c: Comm
     if let Command::Unload = c {
         return unload(u, h.ie);
     }
-    plan_motion(u, h.ie, move_tape(u, reel, h, p, c))
+    told_course(u, h.ie, move_tape(u, reel, h, p, c))
 }

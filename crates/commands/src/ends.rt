@@ -1,5 +1,7 @@
 // How a command, or an attention, ends: the state that it leaves, what it says, and whether it is told.
 use crate::plans::Answer;
+use crate::plans::Course;
+use crate::plans::How;
 use crate::plans::Plan;
 use motions::Ending;
 use motions::Motion;
@@ -11,7 +13,7 @@ use signals::message_of;
 use state::Unit;
 use tape::Geometry;
 ghost use mathlib.Core.Path.{_≡_};
-ghost use Rattle.commands.specs.Ends.{ended, motionPlan, quiet, statusOf, still, told, untold};
+ghost use Rattle.commands.specs.Ends.{ended, motionPlan, planOf, quiet, statusOf, still, told, untold};
 
 fn quiet_message() -> [u16; 7]
     ensures { λ r. ⌜ r ≡ quiet ⌝ }
@@ -67,7 +69,7 @@ fn status_of(u: Unit, ie: bool, mot: bool) -> Status
 }
 
 // The CPU owns the message buffer, and the message goes out if NBA is clear. MOT: the position differs, or blocks are laid.
-pub fn tell(u: Unit, ie: bool, x: Ending) -> Plan
+fn tell(u: Unit, ie: bool, x: Ending) -> Plan
     ensures { λ r. ⌜ r ≡ told u ie x ⌝ }
 {
     let end = x.end;
@@ -92,18 +94,41 @@ pub fn tell(u: Unit, ie: bool, x: Ending) -> Plan
 }
 
 // No message, and the message buffer's owner is kept.
-pub fn untell(u: Unit, class: usize, interrupts: bool) -> Plan
+fn untell(u: Unit, class: usize, interrupts: bool) -> Plan
     ensures { λ r. ⌜ r ≡ untold u class interrupts ⌝ }
 {
     still_plan(ended_unit(u, class), Answer::Done(interrupts))
 }
 
 // A motion that ended is told; a block at fault refuses with 7.
-pub fn plan_motion(u: Unit, ie: bool, m: Motion) -> Plan
+fn plan_motion(u: Unit, ie: bool, m: Motion) -> Plan
     ensures { λ r. ⌜ r ≡ motionPlan u ie m ⌝ }
 {
     match m {
         Motion::Ended(x) => tell(u, ie, x),
         Motion::Fault(k) => still_plan(u, Answer::BadBlock(k)),
+    }
+}
+
+// A motion that is told.
+pub fn told_course(unit: Unit, ie: bool, m: Motion) -> Course
+    ensures { λ r. ⌜ planOf r ≡ motionPlan unit ie m ⌝ }
+{
+    Course {
+        unit,
+        ie,
+        how: How::Told(m),
+    }
+}
+
+// The one place where a plan is made of what an advance came to.
+pub fn plan_of(c: Course) -> Plan
+    ensures { λ r. ⌜ r ≡ planOf c ⌝ }
+{
+    let unit = c.unit;
+    let how = c.how;
+    match how {
+        How::Told(m) => plan_motion(unit, c.ie, m),
+        How::Untold(class) => untell(unit, class, c.ie),
     }
 }

@@ -1,5 +1,6 @@
 // What a step is about to do, as a value.
 use motions::Laid;
+use motions::Motion;
 use motions::Moved;
 use state::Unit;
 
@@ -12,6 +13,22 @@ pub enum Answer {
     Refused(usize),
     // Refusal 7, and the block it names.
     BadBlock(usize),
+}
+
+// Whether an advance tells how it ended.
+pub enum How {
+    // With a message, if the unit has a buffer for it.
+    Told(Motion),
+    // The class alone.
+    Untold(usize),
+}
+
+// What an advance comes to, before its plan is made of it: the state that it ends from, whether it interrupts, and how it ends. Every way
+// through an advance meets here in one small value, so that the plan is made in one place.
+pub struct Course {
+    pub unit: Unit,
+    pub ie: bool,
+    pub how: How,
 }
 
 // All that a step is about to store.

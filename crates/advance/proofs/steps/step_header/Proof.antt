@@ -1,6 +1,7 @@
 -- `step_header` meets its contract: its test is the definition's, and the header is that of the word in memory.
 use borrow.Author.Needs.{needs}
 use borrow.Author.Tests.{le-ltb, lt-ltb}
+use Rattle.commands.specs.Ends.{planBy, planOf}
 use Rattle.advance.specs.Steps.{stepHeader}
 use Rattle.advance.proofs.steps.step_header.Statement.{statement}
 use Rattle.advance.proofs.steps.step_header.Tie as tie
@@ -8,12 +9,9 @@ use Rattle.advance.proofs.steps.step_header.Tie as tie
 add-if1 : tie.Need-add-if1
 add-if1 c = search needs
 
-untell-requires : tie.Need-untell-requires
-untell-requires c κs = search needs
-
 returns : tie.Need-returns
-unfolding stepHeader
-returns c = rw (lt-ltb _ _ (c .before .if1 .taken)) (c .untell .ensures)
+unfolding stepHeader planOf planBy
+returns c = rw (lt-ltb _ _ (c .if1 .taken))
 
 word-requires : tie.Need-word-requires
 word-requires c κs = search needs
@@ -33,7 +31,6 @@ step-header-spec =
     tie.close
     (tie.spec
     add-if1
-    untell-requires
     returns
     word-requires
     header-of-requires

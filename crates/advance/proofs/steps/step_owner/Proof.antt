@@ -2,18 +2,16 @@
 use borrow.Author.Needs.{needs}
 use mathlib.Core.Bool.{_||_}
 use borrow.Author.Tests.{not-true, not-false}
+use Rattle.commands.specs.Ends.{planBy, planOf}
 use Rattle.advance.specs.Steps.{stepOwner}
 use Rattle.advance.proofs.steps.step_owner.Statement.{statement}
 use Rattle.advance.proofs.steps.step_owner.Tie as tie
 
-untell-requires : tie.Need-untell-requires
-untell-requires c κs = search needs
-
 returns : tie.Need-returns
-unfolding stepOwner
+unfolding stepOwner planOf planBy
 returns c =
-    let a = c .before .before .before .before .before .before .before .args in
-    rw (← c .untell .ensures, not-true (a .u .attention .«unit_owns» || a .h .ack) (c .before .if1 .taken))
+    let a = c .before .before .before .before .before .before .args in
+    rw (not-true (a .u .attention .«unit_owns» || a .h .ack) (c .if1 .taken))
 
 step-attention-requires : tie.Need-step-attention-requires
 step-attention-requires c κs = search needs
@@ -25,4 +23,4 @@ returns-2 c =
     rw (← c .step-attention .ensures, not-false (a .u .attention .«unit_owns» || a .h .ack) (c .before .if1 .left))
 
 pub step-owner-spec : {M : Type 1} → statement M
-step-owner-spec = tie.close (tie.spec untell-requires returns step-attention-requires returns-2)
+step-owner-spec = tie.close (tie.spec returns step-attention-requires returns-2)

@@ -40,13 +40,13 @@ returns-3 c = rw (c .before .enum-told3 .given .1) (c .unload .ensures)
 move-tape-requires : tie.Need-move-tape-requires
 move-tape-requires c κs = search needs
 
-plan-motion-requires : tie.Need-plan-motion-requires
-plan-motion-requires c κs = search needs
+told-course-requires : tie.Need-told-course-requires
+told-course-requires c κs = search needs
 
 returns-4 : tie.Need-returns-4
 returns-4 c =
     let s = c .before .before .before .before .before .before .before .args in
-    c .plan-motion .ensures
+    c .told-course .ensures
     ∙ ap (motionPlan (s .u) (s .h .ie)) (c .before .move-tape .ensures)
     ∙ ends-as-moved (s .u) (s .mem .now) (s .reel .now) (s .h) (s .p) (s .c) (c .before .before .before .before .match .keys2) (c .before .before .before .match2 .keys2) (c .before .before .match3 .keys2)
 
@@ -64,5 +64,5 @@ carry-out-spec =
     unload-requires
     returns-3
     move-tape-requires
-    plan-motion-requires
+    told-course-requires
     returns-4)
