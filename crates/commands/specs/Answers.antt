@@ -1,4 +1,5 @@
 -- The answers of the calls, and the paper's numbers.
+use mathlib.Core.Bool.{Bool, true, false}
 use Prim.Native.Nat.{ℕ}
 use Rattle.commands.specs.declared.plans.Answer.{Answer}
 use Rattle.commands.specs.declared.plans.Answer.the-variants as answer
@@ -9,3 +10,24 @@ numberOf (answer.Done i) = 0
 numberOf answer.Idle = 0
 numberOf (answer.Refused n) = n
 numberOf (answer.BadBlock k) = 7
+
+-- "answered 0 it adds one entry", "Advance .. answers Idle .., and is no step taken"
+unfoldable pub isStep : Answer → Bool
+isStep (answer.Done i) = true
+isStep answer.Idle = false
+isStep (answer.Refused n) = false
+isStep (answer.BadBlock k) = false
+
+-- "its answer says whether it interrupts"
+unfoldable pub interruptIn : Answer → Bool
+interruptIn (answer.Done i) = i
+interruptIn answer.Idle = false
+interruptIn (answer.Refused n) = false
+interruptIn (answer.BadBlock k) = false
+
+-- "7 a block .. is damaged or out of place (its number is given)"
+unfoldable pub faultIn : Answer → ℕ
+faultIn (answer.Done i) = 0
+faultIn answer.Idle = 0
+faultIn (answer.Refused n) = 0
+faultIn (answer.BadBlock k) = k

@@ -24,8 +24,3 @@ sweptFrom (suc turns) s p e = sweptOn (passed s false p e) (λ q. sweptFrom turn
 -- each object takes a block or more, so e objects are enough (law `swept-whole`)
 unfoldable pub sweptBelow : List ℕ → ℕ → Swept
 sweptBelow s e = sweptFrom e s 0 e
-
--- the paper's numbers
-unfoldable pub sweepRefusal : Swept → ℕ
-sweepRefusal swept.Whole = 0
-sweepRefusal (swept.Bad k) = 7

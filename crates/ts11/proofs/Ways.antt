@@ -4,7 +4,7 @@ use mathlib.Core.Bool.{Bool, true, false, not}
 use mathlib.Core.List.{List}
 use Prim.Native.Nat.{ℕ}
 use lib.ListN.{length}
-use Rattle.commands.specs.Answers.{numberOf}
+use Rattle.commands.specs.Answers.{faultIn, interruptIn, isStep, numberOf}
 use Rattle.commands.specs.declared.plans.Answer.{Answer}
 use Rattle.unit.specs.Asks.{Ask}
 use Rattle.unit.specs.declared.registers.Register.{Register}
@@ -15,7 +15,7 @@ use Rattle.worlds.specs.declared.Session.{Session}
 use Rattle.worlds.specs.declared.Outcome.{Outcome}
 use Rattle.worlds.specs.declared.RegisterRead.{RegisterRead}
 use Rattle.ts11.specs.Block.{isBlock, sessionIn}
-use Rattle.ts11.specs.Given.{Gives, Host, Mounts, Reads, Tells, backGiven, blockAfter, faultIn, holding, interruptIn, isStep, opened, registerGiven, registerOf, stepGiven, worldIn}
+use Rattle.ts11.specs.Given.{Gives, Host, Mounts, Reads, Tells, backGiven, blockAfter, holding, opened, registerGiven, registerOf, stepGiven, worldIn}
 
 -- the test `!right`, as it comes out
 no-block : (right : Bool) → not right ≡ true → right ≡ false

@@ -7,7 +7,7 @@ use lib.ListN.{length}
 use Rattle.lists.specs.Pick.{pick}
 use Rattle.state.specs.declared.act.Act.{Act}
 use Rattle.state.specs.declared.act.Act.the-variants as act
-use Rattle.commands.specs.Answers.{numberOf}
+use Rattle.commands.specs.Answers.{faultIn, interruptIn, isStep, numberOf}
 use Rattle.commands.specs.declared.plans.Answer.{Answer}
 use Rattle.commands.specs.declared.plans.Answer.the-variants as answer
 use Rattle.unit.specs.Asks.{Ask}
@@ -20,27 +20,6 @@ use Rattle.worlds.specs.declared.Session.{Session}
 use Rattle.worlds.specs.declared.Outcome.{Outcome}
 use Rattle.worlds.specs.declared.RegisterRead.{RegisterRead}
 use Rattle.ts11.specs.Block.{stateBlock, isBlock, sessionIn}
-
--- "answered 0 it adds one entry", "Advance .. answers Idle .., and is no step taken"
-unfoldable pub isStep : Answer → Bool
-isStep (answer.Done i) = true
-isStep answer.Idle = false
-isStep (answer.Refused n) = false
-isStep (answer.BadBlock k) = false
-
--- "its answer says whether it interrupts"
-unfoldable pub interruptIn : Answer → Bool
-interruptIn (answer.Done i) = i
-interruptIn answer.Idle = false
-interruptIn (answer.Refused n) = false
-interruptIn (answer.BadBlock k) = false
-
--- "7 a block .. is damaged or out of place (its number is given)"
-unfoldable pub faultIn : Answer → ℕ
-faultIn (answer.Done i) = 0
-faultIn answer.Idle = 0
-faultIn (answer.Refused n) = 0
-faultIn (answer.BadBlock k) = k
 
 -- the block after an answer: the new session's, or, idle or refused, the very bytes that it was
 unfoldable pub blockAfter : List ℕ → Answer → Session → List ℕ

@@ -6,11 +6,11 @@ use commands::Answer;
 use state::Act;
 use unit::Register;
 ghost use mathlib.Core.Path.{_≡_};
-ghost use Rattle.commands.specs.Answers.{numberOf};
+ghost use Rattle.commands.specs.Answers.{faultIn, interruptIn, isStep, numberOf};
 ghost use Rattle.unit.specs.Asks.{Ask};
 ghost use Rattle.worlds.specs.Calls.{mountOn};
 ghost use Rattle.ts11.specs.Block.{sessionIn};
-ghost use Rattle.ts11.specs.Given.{Gives, Mounts, Reads, Tells, actOf, backGiven, faultIn, holding, interruptIn, isStep, registerGiven, registerOf, stepGiven};
+ghost use Rattle.ts11.specs.Given.{Gives, Mounts, Reads, Tells, actOf, backGiven, holding, registerGiven, registerOf, stepGiven};
 
 // The block at fault, with refusal 7, else 0.
 fn fault_in(a: Answer) -> usize

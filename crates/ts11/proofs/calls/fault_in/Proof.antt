@@ -1,5 +1,5 @@
 -- `fault_in` meets its contract, answer by answer.
-use Rattle.ts11.specs.Given.{faultIn}
+use Rattle.commands.specs.Answers.{faultIn}
 use borrow.Author.Needs.{needs}
 use Rattle.ts11.proofs.calls.fault_in.Statement.{statement}
 use Rattle.ts11.proofs.calls.fault_in.Tie as tie

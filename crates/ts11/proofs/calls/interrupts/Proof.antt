@@ -1,5 +1,5 @@
 -- `interrupts` meets its contract, answer by answer.
-use Rattle.ts11.specs.Given.{interruptIn}
+use Rattle.commands.specs.Answers.{interruptIn}
 use borrow.Author.Needs.{needs}
 use Rattle.ts11.proofs.calls.interrupts.Statement.{statement}
 use Rattle.ts11.proofs.calls.interrupts.Tie as tie

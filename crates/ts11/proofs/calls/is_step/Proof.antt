@@ -1,5 +1,5 @@
 -- `is_step` meets its contract, answer by answer.
-use Rattle.ts11.specs.Given.{isStep}
+use Rattle.commands.specs.Answers.{isStep}
 use borrow.Author.Needs.{needs}
 use Rattle.ts11.proofs.calls.is_step.Statement.{statement}
 use Rattle.ts11.proofs.calls.is_step.Tie as tie
