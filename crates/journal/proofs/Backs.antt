@@ -25,27 +25,27 @@ module _ (s : Session) (m r j : List ℕ) (e : Entry) (f w : Bool) (de : e ≡ n
   pub undo-fits : Sizes (length m) (length r) → not (f && not w) ≡ false → Fitting e (s .used) (s .unit .lengths) (length m) (length r)
   undo-fits z t = fitting e (s .used) (s .unit .lengths) (length m) (length r) z (sym df ∙ and-eq-true-iff f (not w) .0 (not-false (f && not w) t) .0)
 
-  pub undo-stops : (o : Outcome) → not (f && not w) ≡ true → o .answer ≡ answer.Refused 8 → o .session ≡ s → Leaves (undoOn (worldOf s m r j)) o m r j
+  pub undo-stops : (o : Outcome) → not (f && not w) ≡ true → o .answer ≡ answer.Refused 8 → o .session ≡ s → Leaves (undoOn (worldOf s m r j)) j o m r j
   unfolding undoOn undoBy entryWrong
   undo-stops o t k l = rw (← de, ← df, ← dw, not-true (f && not w) t) (left-alone s m r j (answer.Refused 8) o k l)
 
-  pub undo-goes : (n : ℕ) (m′ r′ : List ℕ) → not (f && not w) ≡ false → n ≡ entryLength e → Restored (e .touched) (savedIn e (usedIn (s .used) j)) m r m′ r′ → Leaves (undoOn (worldOf s m r j)) (outcome (answer.Done false) (session (e .unit) (s .used - n) (s .journal))) m′ r′ j
+  pub undo-goes : (n : ℕ) (m′ r′ : List ℕ) → not (f && not w) ≡ false → n ≡ entryLength e → Restored (e .touched) (savedIn e (usedIn (s .used) j)) m r m′ r′ → Leaves (undoOn (worldOf s m r j)) j (outcome (answer.Done false) (session (e .unit) (s .used - n) (s .journal))) m′ r′ j
   unfolding undoOn undoBy entryWrong undone without
   undo-goes n m′ r′ t dn b =
       let less : usedIn (s .used - n) (usedIn (s .used) j) ≡ usedIn (s .used - n) j = used-less (s .used - n) (s .used) j (omega arith) in
       rw (← de, ← df, ← dw, not-false (f && not w) t, ← dn)
-      (record { answer = refl; world = rw (b .memory, b .reel, less) })
+      (record { answer = refl; world = rw (b .memory, b .reel, less); unless-step = λ t. refl })
 
 -- the step back's own refusals, 6 and the 8 of a used journal too short for an entry
 module _ (s : Session) (m r j : List ℕ) (n : ℕ) (e : n ≡ checked s (length m) (length r) (length j)) (f : n ≡ 0) (o : Outcome) where
-  pub back-none : s .used ≡ 0 → o .answer ≡ answer.Refused 6 → o .session ≡ s → Leaves (backOn (worldOf s m r j) (length j)) o m r j
+  pub back-none : s .used ≡ 0 → o .answer ≡ answer.Refused 6 → o .session ≡ s → Leaves (backOn (worldOf s m r j) (length j)) j o m r j
   unfolding backOn
   back-none h p q = guarded-goes s m r j n _ o m r j e f (rw (eq-eqb (s .used) 0 h) (left-alone s m r j (answer.Refused 6) o p q))
 
-  pub back-short : (s .used ≡ 0 → ⊥) → s .used < entryBare → o .answer ≡ answer.Refused 8 → o .session ≡ s → Leaves (backOn (worldOf s m r j) (length j)) o m r j
+  pub back-short : (s .used ≡ 0 → ⊥) → s .used < entryBare → o .answer ≡ answer.Refused 8 → o .session ≡ s → Leaves (backOn (worldOf s m r j) (length j)) j o m r j
   unfolding backOn
   back-short g h p q = guarded-goes s m r j n _ o m r j e f (rw (ne-eqb (s .used) 0 g, lt-ltb (s .used) entryBare h) (left-alone s m r j (answer.Refused 8) o p q))
 
-  pub back-goes : (m′ r′ j′ : List ℕ) → (s .used ≡ 0 → ⊥) → entryBare ≤ s .used → Leaves (undoOn (worldOf s m r j)) o m′ r′ j′ → Leaves (backOn (worldOf s m r j) (length j)) o m′ r′ j′
+  pub back-goes : (m′ r′ j′ : List ℕ) → (s .used ≡ 0 → ⊥) → entryBare ≤ s .used → Leaves (undoOn (worldOf s m r j)) j o m′ r′ j′ → Leaves (backOn (worldOf s m r j) (length j)) j o m′ r′ j′
   unfolding backOn
   back-goes m′ r′ j′ g h k = guarded-goes s m r j n _ o m′ r′ j′ e f (rw (ne-eqb (s .used) 0 g, le-ltb (s .used) entryBare h) k)

@@ -24,10 +24,10 @@ module _ (s : Session) (m r j : List ℕ) where
   abbrev core : Core
   core = worldOf s m r j .core
 
-  pub change-takes : (v u : Unit) (o : Outcome) (m′ r′ j′ : List ℕ) → v ≡ u → Leaves (takenAs (worldOf s m r j) (carried core (changed v)) (answer.Done false)) o m′ r′ j′ → Leaves (takenBy (worldOf s m r j) (carried core (changed u)) (carried core (changed u) .answer)) o m′ r′ j′
+  pub change-takes : (v u : Unit) (o : Outcome) (m′ r′ j′ : List ℕ) → v ≡ u → Leaves (takenAs (worldOf s m r j) (carried core (changed v)) (answer.Done false)) j o m′ r′ j′ → Leaves (takenBy (worldOf s m r j) (carried core (changed u)) (carried core (changed u) .answer)) j o m′ r′ j′
   unfolding takenBy carried still
   change-takes v u o m′ r′ j′ e h =
-      subst (λ (x : Unit). Leaves (takenAs (worldOf s m r j) (carried core (changed x)) (answer.Done false)) o m′ r′ j′) e h
+      subst (λ (x : Unit). Leaves (takenAs (worldOf s m r j) (carried core (changed x)) (answer.Done false)) j o m′ r′ j′) e h
 
   -- tested by t for refusal 5
   module _ (place : ℕ) (bytes : List ℕ) (t : Bool) (dt : t ≡ storeWrong (length m) place (length bytes)) (o : Outcome) where
@@ -35,22 +35,22 @@ module _ (s : Session) (m r j : List ℕ) where
     unfolding stored
     refused-answer h = rw (← dt, h)
 
-    pub store-stops : t ≡ true → o .answer ≡ answer.Refused 5 → o .session ≡ s → Leaves (takenBy (worldOf s m r j) (stored core place bytes) (stored core place bytes .answer)) o m r j
+    pub store-stops : t ≡ true → o .answer ≡ answer.Refused 5 → o .session ≡ s → Leaves (takenBy (worldOf s m r j) (stored core place bytes) (stored core place bytes .answer)) j o m r j
     unfolding takenBy
     store-stops h k l = answer-rests s m r j (stored core place bytes) (answer.Refused 5) o (refused-answer h) refl k l
 
-    pub store-takes : (m′ r′ j′ : List ℕ) → t ≡ false → Leaves (takenAs (worldOf s m r j) (stored core place bytes) (answer.Done false)) o m′ r′ j′ → Leaves (takenBy (worldOf s m r j) (stored core place bytes) (stored core place bytes .answer)) o m′ r′ j′
+    pub store-takes : (m′ r′ j′ : List ℕ) → t ≡ false → Leaves (takenAs (worldOf s m r j) (stored core place bytes) (answer.Done false)) j o m′ r′ j′ → Leaves (takenBy (worldOf s m r j) (stored core place bytes) (stored core place bytes .answer)) j o m′ r′ j′
     store-takes m′ r′ j′ h k = answer-takes s m r j (stored core place bytes) false o m′ r′ j′ (store-answer core place bytes (sym dt ∙ h)) k
 
   -- by the plan's answer
   module _ (p : Plan) (dp : p ≡ advanced (s .unit) m r) where
-    pub advance-takes : (i : Bool) (o : Outcome) (m′ r′ j′ : List ℕ) → p .answer ≡ answer.Done i → Leaves (takenAs (worldOf s m r j) (carried core p) (p .answer)) o m′ r′ j′ → Leaves (takenBy (worldOf s m r j) (stepOf advance core) (stepOf advance core .answer)) o m′ r′ j′
+    pub advance-takes : (i : Bool) (o : Outcome) (m′ r′ j′ : List ℕ) → p .answer ≡ answer.Done i → Leaves (takenAs (worldOf s m r j) (carried core p) (p .answer)) j o m′ r′ j′ → Leaves (takenBy (worldOf s m r j) (stepOf advance core) (stepOf advance core .answer)) j o m′ r′ j′
     unfolding stepOf carried
     advance-takes i o m′ r′ j′ t h =
         rw (← dp)
         (answer-takes s m r j (carried core p) i o m′ r′ j′ t
-        (subst (λ (a : Answer). Leaves (takenAs (worldOf s m r j) (carried core p) a) o m′ r′ j′) t h))
+        (subst (λ (a : Answer). Leaves (takenAs (worldOf s m r j) (carried core p) a) j o m′ r′ j′) t h))
 
-    pub advance-rests : (a : Answer) → p .answer ≡ a → takenBy (worldOf s m r j) (carried core p) a ≡ answered a (worldOf s m r j) → Leaves (takenBy (worldOf s m r j) (stepOf advance core) (stepOf advance core .answer)) (outcome (p .answer) s) m r j
+    pub advance-rests : (a : Answer) → p .answer ≡ a → takenBy (worldOf s m r j) (carried core p) a ≡ answered a (worldOf s m r j) → Leaves (takenBy (worldOf s m r j) (stepOf advance core) (stepOf advance core .answer)) j (outcome (p .answer) s) m r j
     unfolding stepOf carried
     advance-rests a t q = rw (← dp) (answer-rests s m r j (carried core p) a (outcome (p .answer) s) t q t refl)

@@ -1,5 +1,5 @@
 -- Where the checks let pass, what a step touches lies inside memory and reel, and what an advance planned can be carried out.
-use mathlib.Core.Path.{_≡_, sym, subst, _∙_}
+use mathlib.Core.Path.{_≡_, sym, ap, subst, _∙_}
 use mathlib.Core.Bool.{Bool, false}
 use mathlib.Core.List.{List}
 use Prim.Native.Nat.{ℕ, _+_, _≤_}
@@ -8,6 +8,8 @@ use borrow.Author.Tests.{ltb-false}
 use lib.Dec.{ltb}
 use lib.ListN.{length}
 use Rattle.state.proofs.Tests.{neither}
+use Rattle.commands.specs.Answers.{isStep}
+use Rattle.commands.specs.declared.plans.Answer.the-variants as answer
 use Rattle.commands.specs.declared.plans.Plan.{Plan}
 use Rattle.storing.specs.Stored.{Storable}
 use Rattle.advance.specs.Steps.{advanced}
@@ -34,13 +36,15 @@ module _ (s : Session) (m r : List ℕ) (journal : ℕ) (k : Unrefused s (length
   store-in place bytes t h i =
       subst (λ (x : Touched). TouchedIn x (length m) (length r)) (sym h) (host-in m r place bytes sound-sizes i)
 
-pub advance-ready : (s : Session) (p : Plan) (m r : List ℕ) (journal n : ℕ) → n ≡ checked s (length m) (length r) journal → n ≡ 0 → p ≡ advanced (s .unit) m r → Ready s p (length m) (length r) journal
-advance-ready s p m r journal n e f q =
+pub advance-ready : (s : Session) (p : Plan) (m r : List ℕ) (journal n : ℕ) → n ≡ checked s (length m) (length r) journal → n ≡ 0 → p ≡ advanced (s .unit) m r → (i : Bool) → p .answer ≡ answer.Done i → Ready s p (length m) (length r) journal
+unfolding isStep
+advance-ready s p m r journal n e f q i d =
     let right = sym e ∙ f in
     let a = core-accepted (worldOf s m r m) journal (passed s (length m) (length r) journal right) in
     record {
       sound = record { right = right };
       storable = subst (λ (x : Plan). Storable x (length m) (length r)) (sym q) (advanced-fits (worldOf s m r m .core) a);
+      done = ap isStep d;
     }
 
 pub host-ready : (s : Session) (memory reel journal place n k : ℕ) (t : Bool) → k ≡ checked s memory reel journal → k ≡ 0 → t ≡ storeWrong memory place n → t ≡ false → HostReady s memory reel journal place n

@@ -28,7 +28,7 @@ pub fn write_tsdb(
     jrnl: &mut [u8],
     word: u16,
 ) -> Outcome
-    ensures { λ r. ⌜ Leaves (stepOn (worldOf s (now (mem .entry)) (now (reel .entry)) (now (jrnl .entry))) (length (now (jrnl .entry))) (Ask.write-tsdb word)) r (now (mem .exit)) (now (reel .exit)) (now (jrnl .exit)) ⌝ }
+    ensures { λ r. ⌜ Leaves (stepOn (worldOf s (now (mem .entry)) (now (reel .entry)) (now (jrnl .entry))) (length (now (jrnl .entry))) (Ask.write-tsdb word)) (now (jrnl .entry)) r (now (mem .exit)) (now (reel .exit)) (now (jrnl .exit)) ⌝ }
 {
     let n = check(s, mem.len(), reel.len(), jrnl.len());
     if n != 0 {
@@ -40,7 +40,7 @@ pub fn write_tsdb(
 
 // Any value initializes.
 pub fn write_tssr(s: Session, mem: &mut [u8], reel: &mut [u8], jrnl: &mut [u8]) -> Outcome
-    ensures { λ r. ⌜ Leaves (stepOn (worldOf s (now (mem .entry)) (now (reel .entry)) (now (jrnl .entry))) (length (now (jrnl .entry))) Ask.write-tssr) r (now (mem .exit)) (now (reel .exit)) (now (jrnl .exit)) ⌝ }
+    ensures { λ r. ⌜ Leaves (stepOn (worldOf s (now (mem .entry)) (now (reel .entry)) (now (jrnl .entry))) (length (now (jrnl .entry))) Ask.write-tssr) (now (jrnl .entry)) r (now (mem .exit)) (now (reel .exit)) (now (jrnl .exit)) ⌝ }
 {
     let n = check(s, mem.len(), reel.len(), jrnl.len());
     if n != 0 {
@@ -51,7 +51,7 @@ pub fn write_tssr(s: Session, mem: &mut [u8], reel: &mut [u8], jrnl: &mut [u8]) 
 }
 
 pub fn operate(s: Session, mem: &mut [u8], reel: &mut [u8], jrnl: &mut [u8], act: Act) -> Outcome
-    ensures { λ r. ⌜ Leaves (stepOn (worldOf s (now (mem .entry)) (now (reel .entry)) (now (jrnl .entry))) (length (now (jrnl .entry))) (Ask.operate act)) r (now (mem .exit)) (now (reel .exit)) (now (jrnl .exit)) ⌝ }
+    ensures { λ r. ⌜ Leaves (stepOn (worldOf s (now (mem .entry)) (now (reel .entry)) (now (jrnl .entry))) (length (now (jrnl .entry))) (Ask.operate act)) (now (jrnl .entry)) r (now (mem .exit)) (now (reel .exit)) (now (jrnl .exit)) ⌝ }
 {
     let n = check(s, mem.len(), reel.len(), jrnl.len());
     if n != 0 {
@@ -86,7 +86,7 @@ pub fn host_store(
     place: usize,
     bytes: &[u8],
 ) -> Outcome
-    ensures { λ r. ⌜ Leaves (stepOn (worldOf s (now (mem .entry)) (now (reel .entry)) (now (jrnl .entry))) (length (now (jrnl .entry))) (Ask.host-store place (now (bytes .entry)))) r (now (mem .exit)) (now (reel .entry)) (now (jrnl .exit)) ⌝ }
+    ensures { λ r. ⌜ Leaves (stepOn (worldOf s (now (mem .entry)) (now (reel .entry)) (now (jrnl .entry))) (length (now (jrnl .entry))) (Ask.host-store place (now (bytes .entry)))) (now (jrnl .entry)) r (now (mem .exit)) (now (reel .entry)) (now (jrnl .exit)) ⌝ }
 {
     let n = check(s, mem.len(), reel.len(), jrnl.len());
     if n != 0 {
@@ -99,7 +99,7 @@ pub fn host_store(
 }
 
 pub fn advance(s: Session, mem: &mut [u8], reel: &mut [u8], jrnl: &mut [u8]) -> Outcome
-    ensures { λ r. ⌜ Leaves (stepOn (worldOf s (now (mem .entry)) (now (reel .entry)) (now (jrnl .entry))) (length (now (jrnl .entry))) Ask.advance) r (now (mem .exit)) (now (reel .exit)) (now (jrnl .exit)) ⌝ }
+    ensures { λ r. ⌜ Leaves (stepOn (worldOf s (now (mem .entry)) (now (reel .entry)) (now (jrnl .entry))) (length (now (jrnl .entry))) Ask.advance) (now (jrnl .entry)) r (now (mem .exit)) (now (reel .exit)) (now (jrnl .exit)) ⌝ }
 {
     let n = check(s, mem.len(), reel.len(), jrnl.len());
     if n != 0 {
@@ -117,7 +117,7 @@ pub fn advance(s: Session, mem: &mut [u8], reel: &mut [u8], jrnl: &mut [u8]) -> 
 }
 
 pub fn step_back(s: Session, mem: &mut [u8], reel: &mut [u8], jrnl: &[u8]) -> Outcome
-    ensures { λ r. ⌜ Leaves (backOn (worldOf s (now (mem .entry)) (now (reel .entry)) (now (jrnl .entry))) (length (now (jrnl .entry)))) r (now (mem .exit)) (now (reel .exit)) (now (jrnl .entry)) ⌝ }
+    ensures { λ r. ⌜ Leaves (backOn (worldOf s (now (mem .entry)) (now (reel .entry)) (now (jrnl .entry))) (length (now (jrnl .entry)))) (now (jrnl .entry)) r (now (mem .exit)) (now (reel .exit)) (now (jrnl .entry)) ⌝ }
 {
     let n = check(s, mem.len(), reel.len(), jrnl.len());
     if n != 0 {

@@ -39,7 +39,7 @@ pub fn refused(s: Session, n: usize) -> Outcome
 // A step with plan p: refused with 9 where its entry doesn't fit, else entered and then carried out.
 pub fn step(s: Session, p: Plan, mem: &mut [u8], reel: &mut [u8], jrnl: &mut [u8]) -> Outcome
     requires { ⌜ Ready s p (length (now mem)) (length (now reel)) (length (now jrnl)) ⌝ }
-    ensures { λ r. ⌜ Leaves (takenAs (worldOf s (now (mem .entry)) (now (reel .entry)) (now (jrnl .entry))) (carried (record { unit = s .unit; memory = now (mem .entry); reel = now (reel .entry) }) p) (p .answer)) r (now (mem .exit)) (now (reel .exit)) (now (jrnl .exit)) ⌝ }
+    ensures { λ r. ⌜ Leaves (takenAs (worldOf s (now (mem .entry)) (now (reel .entry)) (now (jrnl .entry))) (carried (record { unit = s .unit; memory = now (mem .entry); reel = now (reel .entry) }) p) (p .answer)) (now (jrnl .entry)) r (now (mem .exit)) (now (reel .exit)) (now (jrnl .exit)) ⌝ }
 {
     let unit = s.unit;
     let touched = touched_by(p);
@@ -65,7 +65,7 @@ pub fn step(s: Session, p: Plan, mem: &mut [u8], reel: &mut [u8], jrnl: &mut [u8
 // A change of the state alone: its entry saves no bytes, and nothing is stored.
 pub fn change(s: Session, next: Unit, mem: &mut [u8], reel: &mut [u8], jrnl: &mut [u8]) -> Outcome
     requires { ⌜ Unrefused s (length (now mem)) (length (now reel)) (length (now jrnl)) ⌝ }
-    ensures { λ r. ⌜ Leaves (takenAs (worldOf s (now (mem .entry)) (now (reel .entry)) (now (jrnl .entry))) (carried (record { unit = s .unit; memory = now (mem .entry); reel = now (reel .entry) }) (changed next)) (Answer.Done false)) r (now (mem .exit)) (now (reel .exit)) (now (jrnl .exit)) ⌝ }
+    ensures { λ r. ⌜ Leaves (takenAs (worldOf s (now (mem .entry)) (now (reel .entry)) (now (jrnl .entry))) (carried (record { unit = s .unit; memory = now (mem .entry); reel = now (reel .entry) }) (changed next)) (Answer.Done false)) (now (jrnl .entry)) r (now (mem .exit)) (now (reel .exit)) (now (jrnl .exit)) ⌝ }
 {
     let unit = s.unit;
     let touched = nothing();
@@ -94,7 +94,7 @@ pub fn host_step(
     bytes: &[u8],
 ) -> Outcome
     requires { ⌜ HostReady s (length (now mem)) (length (now reel)) (length (now jrnl)) place (length (now bytes)) ⌝ }
-    ensures { λ r. ⌜ Leaves (takenAs (worldOf s (now (mem .entry)) (now (reel .entry)) (now (jrnl .entry))) (stored (record { unit = s .unit; memory = now (mem .entry); reel = now (reel .entry) }) place (now (bytes .entry))) (Answer.Done false)) r (now (mem .exit)) (now (reel .entry)) (now (jrnl .exit)) ⌝ }
+    ensures { λ r. ⌜ Leaves (takenAs (worldOf s (now (mem .entry)) (now (reel .entry)) (now (jrnl .entry))) (stored (record { unit = s .unit; memory = now (mem .entry); reel = now (reel .entry) }) place (now (bytes .entry))) (Answer.Done false)) (now (jrnl .entry)) r (now (mem .exit)) (now (reel .entry)) (now (jrnl .exit)) ⌝ }
 {
     let unit = s.unit;
     let touched = host_touched(place, bytes.len());
@@ -119,7 +119,7 @@ pub fn host_step(
 // The newest entry brought back, if its numbers fit and the state it holds is one that 1 accepts.
 pub fn undo(s: Session, mem: &mut [u8], reel: &mut [u8], jrnl: &[u8]) -> Outcome
     requires { ⌜ Undoable s (length (now mem)) (length (now reel)) (length (now jrnl)) ⌝ }
-    ensures { λ r. ⌜ Leaves (undoOn (worldOf s (now (mem .entry)) (now (reel .entry)) (now (jrnl .entry)))) r (now (mem .exit)) (now (reel .exit)) (now (jrnl .entry)) ⌝ }
+    ensures { λ r. ⌜ Leaves (undoOn (worldOf s (now (mem .entry)) (now (reel .entry)) (now (jrnl .entry)))) (now (jrnl .entry)) r (now (mem .exit)) (now (reel .exit)) (now (jrnl .entry)) ⌝ }
 {
     let e = newest_entry(jrnl, s.used);
     let unit = e.unit;

@@ -31,7 +31,7 @@ module _ (h : Host) (right : Bool) (told : right ≡ isBlock (h .block)) where
   module _ (t : not right ≡ true) where
     stops : (x : Answered) → Gives h (opened h x) 1 h
     unfolding opened numberOf blockAfter
-    stops x = rw (← told, no-block right t) (record { answer = refl; state = refl; memory = refl; reel = refl; journal = refl })
+    stops x = rw (← told, no-block right t) (record { answer = refl; state = refl; memory = refl; reel = refl; journal = refl; unless-step = λ z. refl })
 
     pub step-stops : (a : Ask) → Gives h (stepGiven a h) 1 h
     unfolding stepGiven
@@ -47,12 +47,12 @@ module _ (h : Host) (right : Bool) (told : right ≡ isBlock (h .block)) where
 
   -- the call f was made with the session that the block is read as
   module _ (s : Session) (o : Outcome) (m′ r′ j′ : List ℕ) (t : not right ≡ false) (read : s ≡ sessionIn (h .block)) where
-    module _ (f : World → ℕ → Answered) (left : Leaves (f (worldOf s (h .memory) (h .reel) (h .journal)) (length (h .journal))) o m′ r′ j′) where
+    module _ (f : World → ℕ → Answered) (left : Leaves (f (worldOf s (h .memory) (h .reel) (h .journal)) (length (h .journal))) (h .journal) o m′ r′ j′) where
       abbrev answers : Answered
       answers = f (worldIn h) (length (h .journal))
 
-      there : Leaves answers o m′ r′ j′
-      there = subst (λ (x : Session). Leaves (f (worldOf x (h .memory) (h .reel) (h .journal)) (length (h .journal))) o m′ r′ j′) read left
+      there : Leaves answers (h .journal) o m′ r′ j′
+      there = subst (λ (x : Session). Leaves (f (worldOf x (h .memory) (h .reel) (h .journal)) (length (h .journal))) (h .journal) o m′ r′ j′) read left
 
       goes : {n : ℕ} {b′ : List ℕ} → n ≡ numberOf (o .answer) → b′ ≡ blockAfter (h .block) (o .answer) (o .session) → Gives h (opened h answers) n (holding b′ m′ r′ j′)
       unfolding opened
@@ -64,6 +64,7 @@ module _ (h : Host) (right : Bool) (told : right ≡ isBlock (h .block)) where
             memory = ap (λ (w : World). w .core .memory) (there .world);
             reel = ap (λ (w : World). w .core .reel) (there .world);
             journal = ap (λ (w : World). usedIn (w .ledger .used) j′) (sym (there .world)) ∙ ap (λ (w : World). w .ledger .bytes) (there .world);
+            unless-step = there .unless-step;
           })
 
       goes-told : {p i : Bool} {k : ℕ} → p ≡ isStep (o .answer) → i ≡ interruptIn (o .answer) → k ≡ faultIn (o .answer) → Tells (opened h answers) p i k
@@ -76,7 +77,7 @@ module _ (h : Host) (right : Bool) (told : right ≡ isBlock (h .block)) where
             fault = z ∙ ap faultIn (there .answer);
           })
 
-    module _ (a : Ask) (left : Leaves (stepOn (worldOf s (h .memory) (h .reel) (h .journal)) (length (h .journal)) a) o m′ r′ j′) where
+    module _ (a : Ask) (left : Leaves (stepOn (worldOf s (h .memory) (h .reel) (h .journal)) (length (h .journal)) a) (h .journal) o m′ r′ j′) where
       pub step-goes : {n : ℕ} {b′ : List ℕ} → n ≡ numberOf (o .answer) → b′ ≡ blockAfter (h .block) (o .answer) (o .session) → Gives h (stepGiven a h) n (holding b′ m′ r′ j′)
       unfolding stepGiven
       step-goes p q = goes (λ w n. stepOn w n a) left p q
@@ -85,13 +86,13 @@ module _ (h : Host) (right : Bool) (told : right ≡ isBlock (h .block)) where
       unfolding stepGiven
       step-told x y z = goes-told (λ w n. stepOn w n a) left x y z
 
-    pub back-goes : Leaves (backOn (worldOf s (h .memory) (h .reel) (h .journal)) (length (h .journal))) o m′ r′ j′ → {n : ℕ} {b′ : List ℕ} → n ≡ numberOf (o .answer) → b′ ≡ blockAfter (h .block) (o .answer) (o .session) → Gives h (backGiven h) n (holding b′ m′ r′ j′)
+    pub back-goes : Leaves (backOn (worldOf s (h .memory) (h .reel) (h .journal)) (length (h .journal))) (h .journal) o m′ r′ j′ → {n : ℕ} {b′ : List ℕ} → n ≡ numberOf (o .answer) → b′ ≡ blockAfter (h .block) (o .answer) (o .session) → Gives h (backGiven h) n (holding b′ m′ r′ j′)
     unfolding backGiven
     back-goes left p q = goes backOn left p q
 
 -- what was asked, by the name that the definition gives it
-pub asked : (w : World) (n : ℕ) (o : Outcome) (m r j : List ℕ) (a c : Ask) → a ≡ c → Leaves (stepOn w n a) o m r j → Leaves (stepOn w n c) o m r j
-asked w n o m r j a c e h = subst (λ (x : Ask). Leaves (stepOn w n x) o m r j) e h
+pub asked : (w : World) (n : ℕ) (o : Outcome) (j m r j′ : List ℕ) (a c : Ask) → a ≡ c → Leaves (stepOn w n a) j o m r j′ → Leaves (stepOn w n c) j o m r j′
+asked w n o j m r j′ a c e h = subst (λ (x : Ask). Leaves (stepOn w n x) j o m r j′) e h
 
 -- a register, read from no session's block and from one
 pub unread : (b : List ℕ) (right tssr : Bool) → right ≡ isBlock b → not right ≡ true → Reads (registerGiven b tssr) 1 0

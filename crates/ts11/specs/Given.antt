@@ -76,6 +76,8 @@ pub record Gives (h : Host) (x : Answered) (number : ℕ) (h′ : Host) : Type 0
   pub memory : h′ .memory ≡ x .world .core .memory
   pub reel : h′ .reel ≡ x .world .core .reel
   pub journal : usedIn (x .world .ledger .used) (h′ .journal) ≡ x .world .ledger .bytes
+  -- and every byte of it where no step was taken
+  pub unless-step : isStep (x .answer) ≡ false → h′ .journal ≡ h .journal
 
 -- an advance's answer, told beside its number
 pub record Tells (x : Answered) (s i : Bool) (k : ℕ) : Type 0 where

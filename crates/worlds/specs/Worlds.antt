@@ -1,7 +1,9 @@
 -- All that a call can change, in two parts: the core that steps change and steps back bring back, and the ledger of the steps that stand.
+use mathlib.Core.Bool.{false}
 use mathlib.Core.Path.{_≡_}
 use mathlib.Core.List.{List}
 use Prim.Native.Nat.{ℕ}
+use Rattle.commands.specs.Answers.{isStep}
 use Rattle.commands.specs.declared.plans.Answer.{Answer}
 use Rattle.unit.specs.Cores.{Core}
 use Rattle.entries.specs.Entries.{usedIn}
@@ -38,7 +40,9 @@ worldOf s m r j =
 abbrev pub sessionOf : World → Session
 sessionOf w = record { unit = w .core .unit; used = w .ledger .used; journal = w .ledger .length }
 
--- what a call hands back and leaves in the slices is the definition's answer and world
-pub record Leaves (x : Answered) (o : Outcome) (m r j : List ℕ) : Type 0 where
+-- what a call that was lent the journal j hands back and leaves in the slices is the definition's answer and world; and where it takes no step,
+-- it leaves every byte of the journal, the unused ones too
+pub record Leaves (x : Answered) (j : List ℕ) (o : Outcome) (m r j′ : List ℕ) : Type 0 where
   pub answer : o .answer ≡ x .answer
-  pub world : worldOf (o .session) m r j ≡ x .world
+  pub world : worldOf (o .session) m r j′ ≡ x .world
+  pub unless-step : isStep (x .answer) ≡ false → j′ ≡ j

@@ -31,7 +31,7 @@ enum-told c = search needs
 step-requires : tie.Need-step-requires
 step-requires c κs =
     let s = c .before .before .before .before .before .before .before .before .before .before .before .before .before .before in
-    advance-ready _ _ (s .args .mem .now) (s .args .reel .now) _ _ (c .before .before .before .before .before .before .before .before .before .before .check .ensures) (c .before .before .before .before .before .before .before .before .before .if1 .left) (c .before .before .before .before .before .plan-advance .ensures)
+    advance-ready _ _ (s .args .mem .now) (s .args .reel .now) _ _ (c .before .before .before .before .before .before .before .before .before .before .check .ensures) (c .before .before .before .before .before .before .before .before .before .if1 .left) (c .before .before .before .before .before .plan-advance .ensures) _ (c .before .before .before .enum-told .given .1)
 
 enum-told-2 : tie.Need-enum-told-2
 enum-told-2 c = search needs

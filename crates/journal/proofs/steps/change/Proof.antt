@@ -1,5 +1,6 @@
 -- `change` meets its contract: refusal 9, or an entry that saves no bytes.
-use mathlib.Core.Path.{ap, sym, _∙_}
+use mathlib.Core.Path.{ap, refl, sym, _∙_}
+use Rattle.commands.specs.Answers.{isStep}
 use lib.Seq.{sets}
 use Rattle.entries.proofs.Joined.{bare-bytes}
 use Rattle.journal.proofs.Outs.{taken-goes, taken-stops}
@@ -37,12 +38,13 @@ same-length : tie.Need-same-length
 same-length c = search needs
 
 returns-2 : tie.Need-returns-2
+unfolding isStep
 returns-2 c =
     let s = c .before .before .before .before .before .before .before .before .before .before .before .before in
     let w = worldOf (s .args .s) (s .args .mem .now) (s .args .reel .now) (s .args .jrnl .now) in
     let bare = c .before .before .before .before .before .before .before .nothing .ensures in
     let fits = c .before .before .before .before .before .if1 .left in
-    taken-goes (s .args .s) _ _ _ _ _ _ (change-entry (w .core) (s .args .next) _ bare) (bare-length _ _ bare) _ (s .args .next) _ _ _ fits (room w _ (passed _ _ _ _ (s .pre .right)) _ _ (bare-length _ _ bare) fits) (c .before .before .before .enter-bare .ensures ∙ sym (ap (sets (s .args .jrnl .now) (s .args .s .used)) (bare-bytes _ (s .args .mem .now) (s .args .reel .now) bare))) (change-after (w .core) (s .args .next))
+    taken-goes (s .args .s) _ _ _ _ _ _ (change-entry (w .core) (s .args .next) _ bare) (bare-length _ _ bare) _ (s .args .next) _ _ _ refl fits (room w _ (passed _ _ _ _ (s .pre .right)) _ _ (bare-length _ _ bare) fits) (c .before .before .before .enter-bare .ensures ∙ sym (ap (sets (s .args .jrnl .now) (s .args .s .used)) (bare-bytes _ (s .args .mem .now) (s .args .reel .now) bare))) (change-after (w .core) (s .args .next))
 
 pub change-spec : {M : Type 1} → statement M
 change-spec =

@@ -1,5 +1,6 @@
 -- `host_step` meets its contract: refusal 9, or the entry first and then the bytes.
-use mathlib.Core.Path.{ap, sym, _∙_}
+use mathlib.Core.Path.{ap, refl, sym, _∙_}
+use Rattle.commands.specs.Answers.{isStep}
 use lib.Seq.{sets}
 use Rattle.entries.proofs.Joined.{run-bytes, run-whole}
 use Rattle.unit.proofs.Touches.{host-run}
@@ -61,6 +62,7 @@ same-length-2 : tie.Need-same-length-2
 same-length-2 c = search needs
 
 returns-2 : tie.Need-returns-2
+unfolding isStep
 returns-2 c =
     let s = c .before .before .before .before .before .before .before .before .before .before .before .before .before .before .before .before .before .before .before .before in
     let w = worldOf (s .args .s) (s .args .mem .now) (s .args .reel .now) (s .args .jrnl .now) in
@@ -68,7 +70,7 @@ returns-2 c =
     let touched = c .before .before .before .before .before .before .before .before .before .before .before .before .before .before .host-touched .ensures in
     let long = c .before .before .before .before .before .before .before .before .before .before .before .before .before .entry-length .ensures in
     let fits = c .before .before .before .before .before .before .before .before .before .before .before .if1 .left in
-    taken-goes (s .args .s) _ _ _ _ _ _ (store-entry (w .core) _ _ right _ touched) long _ _ _ _ _ fits (room w _ (passed _ _ _ _ (s .pre .sound .right)) _ _ long fits) (c .before .before .before .before .before .before .before .before .enter-run .ensures ∙ sym (ap (sets (s .args .jrnl .now) (s .args .s .used)) (run-bytes _ (s .args .mem .now) (s .args .reel .now) _ _ (touched ∙ host-run _ _)))) (store-after (w .core) _ _ right _ (c .before .before .before .before .put-host .ensures))
+    taken-goes (s .args .s) _ _ _ _ _ _ (store-entry (w .core) _ _ right _ touched) long _ _ _ _ _ refl fits (room w _ (passed _ _ _ _ (s .pre .sound .right)) _ _ long fits) (c .before .before .before .before .before .before .before .before .enter-run .ensures ∙ sym (ap (sets (s .args .jrnl .now) (s .args .s .used)) (run-bytes _ (s .args .mem .now) (s .args .reel .now) _ _ (touched ∙ host-run _ _)))) (store-after (w .core) _ _ right _ (c .before .before .before .before .put-host .ensures))
 
 pub host-step-spec : {M : Type 1} → statement M
 host-step-spec =

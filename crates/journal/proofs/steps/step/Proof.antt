@@ -53,7 +53,7 @@ returns-2 : tie.Need-returns-2
 returns-2 c =
     let s = c .before .before .before .before .before .before .before .before .before .before .before .before .before .before .before .before .before .before .before .before .before .before .before in
     let w = worldOf (s .args .s) (s .args .mem .now) (s .args .reel .now) (s .args .jrnl .now) in
-    taken-goes _ _ _ _ _ _ _ (step-entry _ _ _ (c .before .before .before .before .before .before .before .before .before .before .before .before .before .before .before .before .before .before .touched-by .ensures)) (c .before .before .before .before .before .before .before .before .before .before .before .before .before .before .before .before .before .entry-length .ensures) _ _ _ _ _ (c .before .before .before .before .before .before .before .before .before .before .before .before .before .before .before .if1 .left) (room w _ (passed _ _ _ _ (s .pre .sound .right)) _ _ (c .before .before .before .before .before .before .before .before .before .before .before .before .before .before .before .before .before .entry-length .ensures) (c .before .before .before .before .before .before .before .before .before .before .before .before .before .before .before .if1 .left)) (c .before .before .before .before .before .before .before .before .before .before .before .enter .ensures) (step-after _ _ _ _ (c .before .before .before .before .before .before .store .ensures))
+    taken-goes _ _ _ _ _ _ _ (step-entry _ _ _ (c .before .before .before .before .before .before .before .before .before .before .before .before .before .before .before .before .before .before .touched-by .ensures)) (c .before .before .before .before .before .before .before .before .before .before .before .before .before .before .before .before .before .entry-length .ensures) _ _ _ _ _ (s .pre .done) (c .before .before .before .before .before .before .before .before .before .before .before .before .before .before .before .if1 .left) (room w _ (passed _ _ _ _ (s .pre .sound .right)) _ _ (c .before .before .before .before .before .before .before .before .before .before .before .before .before .before .before .before .before .entry-length .ensures) (c .before .before .before .before .before .before .before .before .before .before .before .before .before .before .before .if1 .left)) (c .before .before .before .before .before .before .before .before .before .before .before .enter .ensures) (step-after _ _ _ _ (c .before .before .before .before .before .before .store .ensures))
 
 pub step-spec : {M : Type 1} → statement M
 step-spec =
