@@ -2,6 +2,7 @@
 -- what a space passed, what stays.
 pub mod Ways
 pub mod Commands
+pub mod Faults
 pub mod Reading
 pub mod ReadBack
 pub mod Spacing
