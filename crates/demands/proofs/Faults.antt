@@ -1,0 +1,110 @@
+-- Which block a refusal with 7 names: the first at fault that is met, and in which way it is at fault.
+use mathlib.Core.Bool.{Bool, true, false, _&&_, and-eq-true-iff}
+use mathlib.Core.List.{List}
+use mathlib.Core.Path.{_≡_, refl, sym, subst, _∙_}
+use Prim.Native.Nat.{ℕ, zero, suc, _+_, _-_, _<_, _≤_}
+use native.Mathlib.Omega.{arith}
+use borrow.Author.Tests.{eq-eqb, eqb-false, eqb-true, le-leb, leb-true, ne-eqb}
+use lib.Dec.{eqb, leb}
+use Rattle.lists.specs.Pick.{Always, pick}
+use Rattle.lists.proofs.Cases.{by-test, pick-told}
+use Rattle.tape.specs.Numbers.{piecesOf}
+use Rattle.tape.specs.Pass.{ahead, beyond, firstMet, isPiece, lowest, metBy, orderMet, passed, piecesMet, recordMet}
+use Rattle.tape.specs.Reading.{classAt}
+use Rattle.tape.specs.declared.Block.{Block}
+use Rattle.tape.specs.declared.Block.the-variants as block
+use Rattle.tape.specs.declared.Met.{Met}
+use Rattle.tape.specs.declared.Met.the-variants as met
+use Rattle.tape.proofs.Accepted.{clash}
+use Rattle.tape.proofs.Passes.{first-order, order-below}
+use Rattle.tape.proofs.ReadBlocks.{piece-read}
+use Rattle.demands.specs.Faults.{FaultAt, damaged, metAt, not-due, out-of-place}
+
+-- a block is piece i of a record of n bytes exactly where the test says so
+piece-true : (b : Block) (n i : ℕ) → isPiece b n i ≡ true → b ≡ block.Piece n i
+unfolding isPiece
+piece-true (block.Piece n′ i′) n i h =
+    let t = and-eq-true-iff (eqb n′ n) (eqb i′ i) .0 h in
+    cc (eqb-true n′ n (t .0), eqb-true i′ i (t .1))
+piece-true block.Mark n i h = cc
+piece-true block.Gap n i h = cc
+piece-true block.Damaged n i h = cc
+
+piece-is : (b : Block) (n i : ℕ) → b ≡ block.Piece n i → isPiece b n i ≡ true
+unfolding isPiece
+piece-is b n i h = rw (h, eq-eqb n n refl, eq-eqb i i refl)
+
+piece-false : (b : Block) (n i : ℕ) → isPiece b n i ≡ false → b ≡ block.Piece n i → ⊥
+piece-false b n i h y = clash (cc (piece-is b n i y))
+
+piece-not : (b : Block) (n i : ℕ) → (b ≡ block.Piece n i → ⊥) → isPiece b n i ≡ false
+piece-not b n i f = by-test (isPiece b n i) (λ t. absurd (f (piece-true b n i t))) (λ t. t)
+
+one-at-least : (n : ℕ) → (n ≡ 0 → ⊥) → 1 ≤ n
+one-at-least n f = omega arith
+
+-- what is said of the piece met as number j holds of one more
+and-next : (P : ℕ → Type 0) (j : ℕ) → ((i : ℕ) → i < j → P i) → P j → (i : ℕ) → i < suc j → P i
+and-next P j f h i l = by-test (eqb i j) (λ t. subst P (sym (eqb-true i j t)) h) (λ t. f i (less i j l (eqb-false i j t)))
+  where
+    less : (a b : ℕ) → a < suc b → (a ≡ b → ⊥) → a < b
+    less a b l f = omega arith
+
+module _ (s : List ℕ) (e : ℕ) (reverse : Bool) (q : ℕ) where
+  -- the block met as number j is the piece due there, of a record of n bytes
+  abbrev Due : ℕ → ℕ → Type 0
+  Due n j = classAt s (metAt s e reverse q (piecesOf n) j) ≡ block.Piece n (orderMet reverse (piecesOf n) j)
+
+  -- a pass that names a block names the first at fault
+  abbrev Faulty : Met → Type 0
+  Faulty (met.Bad k) = FaultAt s e reverse q k
+  Faulty (met.Record n q′) = Always
+  Faulty (met.Mark q′) = Always
+  Faulty (met.Gap q′) = Always
+  Faulty met.Nothing = Always
+
+  -- the pieces before number j were the ones due: the next that is not is the first at fault
+  pieces-faulty : (n j c : ℕ) → piecesOf n ≤ ahead reverse q e → 1 ≤ j → c ≤ piecesOf n - j → ((i : ℕ) → i < j → Due n i)
+      → Faulty (piecesMet s reverse n (lowest reverse q (piecesOf n)) (piecesOf n) j c (met.Record n (beyond reverse q (piecesOf n))))
+  unfolding piecesMet
+  pieces-faulty n j zero fits one all f = tt
+  pieces-faulty n j (suc c) fits one all f =
+      let m : ℕ = piecesOf n in
+      let i : ℕ = orderMet reverse m j in
+      let b : Block = classAt s (metAt s e reverse q m j) in
+      pick-told Faulty (isPiece b n i) _ _
+      (λ t. pieces-faulty n (suc j) c fits (omega arith) (omega arith) (and-next (Due n) j f (piece-true b n i t)))
+      (λ t. not-due fits one (omega arith) f (piece-false b n i t))
+
+  -- a record met at its piece i
+  record-faulty : (n i : ℕ) → 1 ≤ ahead reverse q e → classAt s (firstMet reverse q) ≡ block.Piece n i → Faulty (recordMet s reverse q e n i)
+  unfolding recordMet
+  record-faulty n i h c =
+      let m : ℕ = piecesOf n in
+      let first : Bool = eqb i (orderMet reverse m 0) in
+      let whole : Bool = leb m (ahead reverse q e) in
+      pick-told Faulty (first && whole) _ _
+      (λ t.
+      let both = and-eq-true-iff first whole .0 t in
+      let fits : m ≤ ahead reverse q e = leb-true m (ahead reverse q e) (both .1) in
+      let some : 1 ≤ m = omega (arith, piece-read s (firstMet reverse q) n i c .0) in
+      let due : Due n 0 = rw (← first-order reverse q e m some fits) (rw (eqb-true i (orderMet reverse m 0) (both .0)) at c) in
+      pieces-faulty n 1 (m - 1) fits (omega arith) (omega arith) (and-next (Due n) 0 (λ i l. absurd (omega arith)) due))
+      (λ t. out-of-place h c (λ a b. clash (cc (t, and-eq-true-iff first whole .1 (eq-eqb i (orderMet reverse m 0) a, le-leb m (ahead reverse q e) b)))))
+
+  block-faulty : (b : Block) → 1 ≤ ahead reverse q e → classAt s (firstMet reverse q) ≡ b → Faulty (metBy s reverse q e b)
+  unfolding metBy
+  block-faulty (block.Piece n i) h c = record-faulty n i h c
+  block-faulty block.Mark h c = tt
+  block-faulty block.Gap h c = tt
+  block-faulty block.Damaged h c = damaged h c
+
+  pass-faulty : Faulty (passed s reverse q e)
+  unfolding passed
+  pass-faulty =
+      let n : ℕ = ahead reverse q e in
+      pick-told Faulty (eqb n 0) _ _ (λ t. tt) (λ t. block-faulty (classAt s (firstMet reverse q)) (one-at-least n (eqb-false n 0 t)) refl)
+
+-- "the first at fault is named"
+pub bad-first : (s : List ℕ) (e : ℕ) (reverse : Bool) (q k : ℕ) → passed s reverse q e ≡ met.Bad k → FaultAt s e reverse q k
+bad-first s e reverse q k y = rw y at (pass-faulty s e reverse q)
