@@ -18,7 +18,8 @@ use Rattle.tape.specs.declared.Met.the-variants as met
 use Rattle.tape.proofs.Accepted.{clash}
 use Rattle.tape.proofs.Passes.{first-order, order-below}
 use Rattle.tape.proofs.ReadBlocks.{piece-read}
-use Rattle.demands.specs.Faults.{FaultAt, damaged, metAt, not-due, out-of-place}
+use Rattle.tape.proofs.Within.{gap-within, mark-within, pass-onward}
+use Rattle.demands.specs.Faults.{FaultAt, ReadOver, damaged, metAt, not-due, nothing-yet, out-of-place, then-gap, then-mark, then-record}
 
 -- a block is piece i of a record of n bytes exactly where the test says so
 piece-true : (b : Block) (n i : ℕ) → isPiece b n i ≡ true → b ≡ block.Piece n i
@@ -43,12 +44,12 @@ piece-not b n i f = by-test (isPiece b n i) (λ t. absurd (f (piece-true b n i t
 one-at-least : (n : ℕ) → (n ≡ 0 → ⊥) → 1 ≤ n
 one-at-least n f = omega arith
 
+below : (i j : ℕ) → i ≤ j → (i ≡ j → ⊥) → i < j
+below i j h f = omega arith
+
 -- what is said of the piece met as number j holds of one more
 and-next : (P : ℕ → Type 0) (j : ℕ) → ((i : ℕ) → i < j → P i) → P j → (i : ℕ) → i < suc j → P i
-and-next P j f h i l = by-test (eqb i j) (λ t. subst P (sym (eqb-true i j t)) h) (λ t. f i (less i j l (eqb-false i j t)))
-  where
-    less : (a b : ℕ) → a < suc b → (a ≡ b → ⊥) → a < b
-    less a b l f = omega arith
+and-next P j f h i l = by-test (eqb i j) (λ t. subst P (sym (eqb-true i j t)) h) (λ t. f i (below i j (omega arith) (eqb-false i j t)))
 
 module _ (s : List ℕ) (e : ℕ) (reverse : Bool) (q : ℕ) where
   -- the block met as number j is the piece due there, of a record of n bytes
@@ -108,3 +109,26 @@ module _ (s : List ℕ) (e : ℕ) (reverse : Bool) (q : ℕ) where
 -- "the first at fault is named"
 pub bad-first : (s : List ℕ) (e : ℕ) (reverse : Bool) (q k : ℕ) → passed s reverse q e ≡ met.Bad k → FaultAt s e reverse q k
 bad-first s e reverse q k y = rw y at (pass-faulty s e reverse q)
+
+-- the blocks ahead lie below the end
+first-below : (reverse : Bool) (q e : ℕ) → q ≤ e → 1 ≤ ahead reverse q e → firstMet reverse q < e
+first-below true q e h k = omega arith
+first-below false q e h k = omega arith
+
+lowest-below : (reverse : Bool) (q e m : ℕ) → q ≤ e → m ≤ ahead reverse q e → lowest reverse q m + m ≤ e
+lowest-below true q e m h k = omega arith
+lowest-below false q e m h k = omega arith
+
+-- a block at fault lies below the recorded end
+pub bad-below : (s : List ℕ) (e : ℕ) (reverse : Bool) (q k : ℕ) → q ≤ e → FaultAt s e reverse q k → k < e
+bad-below s e reverse q k h (damaged a c) = first-below reverse q e h a
+bad-below s e reverse q k h (out-of-place a c f) = first-below reverse q e h a
+bad-below s e reverse q k h (not-due {n = n} {j = j} fits one l f g) =
+    omega (arith, lowest-below reverse q e (piecesOf n) h fits, order-below reverse (piecesOf n) j l)
+
+-- what was read over leads to no position beyond the recorded end
+pub over-below : (s : List ℕ) (e : ℕ) {p q : ℕ} → p ≤ e → ReadOver s e p q → q ≤ e
+over-below s e h nothing-yet = h
+over-below s e h (then-record {q = q} o reverse y) = pass-onward s reverse q e (over-below s e h o) y .below
+over-below s e h (then-mark {q = q} o reverse y) = mark-within s reverse q e (over-below s e h o) y .below
+over-below s e h (then-gap {q = q} o reverse y) = gap-within s reverse q e (over-below s e h o) y .below
