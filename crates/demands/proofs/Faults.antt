@@ -132,3 +132,47 @@ over-below s e h nothing-yet = h
 over-below s e h (then-record {q = q} o reverse y) = pass-onward s reverse q e (over-below s e h o) y .below
 over-below s e h (then-mark {q = q} o reverse y) = mark-within s reverse q e (over-below s e h o) y .below
 over-below s e h (then-gap {q = q} o reverse y) = gap-within s reverse q e (over-below s e h o) y .below
+
+-- the first block met decides what is met
+pass-by : (s : List ℕ) (e : ℕ) (reverse : Bool) (q : ℕ) (b : Block) → 1 ≤ ahead reverse q e → classAt s (firstMet reverse q) ≡ b → passed s reverse q e ≡ metBy s reverse q e b
+unfolding passed
+pass-by s e reverse q b h c = rw (ne-eqb (ahead reverse q e) 0 (λ z. omega arith), c)
+
+module _ (s : List ℕ) (e : ℕ) (reverse : Bool) (q : ℕ) where
+  -- a piece that is not met first, or of a record that is cut off
+  record-cut : (n i : ℕ) → (i ≡ orderMet reverse (piecesOf n) 0 → piecesOf n ≤ ahead reverse q e → ⊥) → recordMet s reverse q e n i ≡ met.Bad (firstMet reverse q)
+  unfolding recordMet
+  record-cut n i f =
+      let m : ℕ = piecesOf n in
+      let first : Bool = eqb i (orderMet reverse m 0) in
+      let whole : Bool = leb m (ahead reverse q e) in
+      pick-told (λ x. x ≡ met.Bad (firstMet reverse q)) (first && whole) _ _
+      (λ t.
+      let both = and-eq-true-iff first whole .0 t in
+      absurd (f (eqb-true i (orderMet reverse m 0) (both .0)) (leb-true m (ahead reverse q e) (both .1))))
+      (λ t. refl)
+
+  -- the pieces before number j are the ones due and number j is not: from number i on it is the one named
+  pieces-bad : (n j i c : ℕ) (x : Met) → i ≤ j → j < i + c → ((i : ℕ) → i < j → Due s e reverse q n i) → (Due s e reverse q n j → ⊥)
+      → piecesMet s reverse n (lowest reverse q (piecesOf n)) (piecesOf n) i c x ≡ met.Bad (metAt s e reverse q (piecesOf n) j)
+  unfolding piecesMet
+  pieces-bad n j i zero x h l f g = absurd (omega arith)
+  pieces-bad n j i (suc c) x h l f g =
+      let m : ℕ = piecesOf n in
+      by-test (eqb i j)
+      (λ t. rw (eqb-true i j t, piece-not _ n (orderMet reverse m j) g))
+      (λ t.
+      let less : i < j = below i j h (eqb-false i j t) in
+      rw (piece-is _ n (orderMet reverse m i) (f i less)) (pieces-bad n j (suc i) c x less (omega arith) f g))
+
+-- and the other way: a block at fault in one of the three ways is the one that the pass names
+pub first-bad : (s : List ℕ) (e : ℕ) (reverse : Bool) (q k : ℕ) → FaultAt s e reverse q k → passed s reverse q e ≡ met.Bad k
+unfolding metBy recordMet
+first-bad s e reverse q k (damaged h c) = pass-by s e reverse q block.Damaged h c
+first-bad s e reverse q k (out-of-place {n = n} {i = i} h c f) = pass-by s e reverse q (block.Piece n i) h c ∙ record-cut s e reverse q n i f
+first-bad s e reverse q k (not-due {n = n} {j = j} fits one l f g) =
+    let m : ℕ = piecesOf n in
+    let i : ℕ = orderMet reverse m 0 in
+    let c : classAt s (firstMet reverse q) ≡ block.Piece n i = rw (first-order reverse q e m (omega arith) fits) (f 0 one) in
+    pass-by s e reverse q (block.Piece n i) (omega arith) c
+    ∙ rw (eq-eqb i i refl, le-leb m (ahead reverse q e) fits) (pieces-bad s e reverse q n j 1 (m - 1) _ one (omega arith) f g)
