@@ -19,7 +19,20 @@ use Rattle.tape.proofs.Accepted.{clash}
 use Rattle.tape.proofs.Passes.{first-order, order-below}
 use Rattle.tape.proofs.ReadBlocks.{piece-read}
 use Rattle.tape.proofs.Within.{gap-within, mark-within, pass-onward}
-use Rattle.demands.specs.Faults.{FaultAt, ReadOver, damaged, metAt, not-due, nothing-yet, out-of-place, then-gap, then-mark, then-record}
+use Rattle.tape.specs.Sweep.{sweptBelow, sweptFrom, sweptOn}
+use Rattle.tape.specs.declared.Swept.{Swept}
+use Rattle.tape.specs.declared.Swept.the-variants as swept
+use Rattle.moves.specs.Seeking.{sought, soughtFrom, soughtOn}
+use Rattle.moves.specs.Spacing.{markTurn, recordTurn, spaced, turnOf}
+use Rattle.moves.specs.declared.seeking.Sought.{Sought}
+use Rattle.moves.specs.declared.seeking.Sought.the-variants as sought-as
+use Rattle.moves.specs.declared.spacing.Rule.{Rule}
+use Rattle.moves.specs.declared.spacing.Span.{Span}
+use Rattle.moves.specs.declared.spacing.Stop.{Stop}
+use Rattle.moves.specs.declared.spacing.Stop.the-variants as stop-as
+use Rattle.moves.specs.declared.spacing.Turn.{Turn}
+use Rattle.moves.proofs.Rounds.{TurnHas, either, rounds}
+use Rattle.demands.specs.Faults.{FaultAt, FirstFault, ReadOver, damaged, metAt, not-due, nothing-yet, out-of-place, then-gap, then-mark, then-record}
 
 -- a block is piece i of a record of n bytes exactly where the test says so
 piece-true : (b : Block) (n i : ℕ) → isPiece b n i ≡ true → b ≡ block.Piece n i
@@ -176,3 +189,110 @@ first-bad s e reverse q k (not-due {n = n} {j = j} fits one l f g) =
     let c : classAt s (firstMet reverse q) ≡ block.Piece n i = rw (first-order reverse q e m (omega arith) fits) (f 0 one) in
     pass-by s e reverse q (block.Piece n i) (omega arith) c
     ∙ rw (eq-eqb i i refl, le-leb m (ahead reverse q e) fits) (pieces-bad s e reverse q n j 1 (m - 1) _ one (omega arith) f g)
+
+module _ (s : List ℕ) (e : ℕ) where
+  -- what was read over in two stretches
+  pub then-over : {p q t : ℕ} → ReadOver s e p q → ReadOver s e q t → ReadOver s e p t
+  then-over o nothing-yet = o
+  then-over o (then-record a reverse y) = then-record (then-over o a) reverse y
+  then-over o (then-mark a reverse y) = then-mark (then-over o a) reverse y
+  then-over o (then-gap a reverse y) = then-gap (then-over o a) reverse y
+
+  -- the first fault from where a stretch led to is the first from where it began
+  pub first-behind : {p q k : ℕ} → ReadOver s e p q → FirstFault s e q k → FirstFault s e p k
+  first-behind o f = record { reverse = f .reverse; from = f .from; before = then-over o (f .before); fault = f .fault; below = f .below }
+
+  -- a pass that names a block, behind what was read over
+  first-here : {p q k : ℕ} → p ≤ e → ReadOver s e p q → (reverse : Bool) → passed s reverse q e ≡ met.Bad k → FirstFault s e p k
+  first-here {q = q} {k = k} h o reverse y =
+      let f : FaultAt s e reverse q k = bad-first s e reverse q k y in
+      record { reverse = reverse; from = q; before = o; fault = f; below = bad-below s e reverse q k (over-below s e h o) f }
+
+  -- what a search from p read over, and the first fault where it names a block
+  abbrev SoughtOver : ℕ → Sought → Type 0
+  SoughtOver p (sought-as.Record n q) = ReadOver s e p q
+  SoughtOver p (sought-as.Mark q) = ReadOver s e p q
+  SoughtOver p (sought-as.Nothing q) = ReadOver s e p q
+  SoughtOver p (sought-as.Bad k) = FirstFault s e p k
+
+  sought-behind : {p q : ℕ} → ReadOver s e p q → (f : Sought) → SoughtOver q f → SoughtOver p f
+  sought-behind o (sought-as.Record n t) h = then-over o h
+  sought-behind o (sought-as.Mark t) h = then-over o h
+  sought-behind o (sought-as.Nothing t) h = then-over o h
+  sought-behind o (sought-as.Bad k) h = first-behind o h
+
+  module _ {p : ℕ} (h : p ≤ e) (reverse : Bool) where
+    sought-on : (q : ℕ) (x : Met) (onward : ℕ → Sought) → ReadOver s e p q → passed s reverse q e ≡ x → ((t : ℕ) → ReadOver s e p t → SoughtOver p (onward t)) → SoughtOver p (soughtOn x q onward)
+    unfolding soughtOn
+    sought-on q (met.Record n t) onward o y on = then-record o reverse y
+    sought-on q (met.Mark t) onward o y on = then-mark o reverse y
+    sought-on q (met.Gap t) onward o y on = on t (then-gap o reverse y)
+    sought-on q met.Nothing onward o y on = o
+    sought-on q (met.Bad k) onward o y on = first-here h o reverse y
+
+    sought-from : (turns q : ℕ) → ReadOver s e p q → SoughtOver p (soughtFrom turns s reverse q e)
+    unfolding soughtFrom
+    sought-from zero q o = o
+    sought-from (suc turns) q o = sought-on q (passed s reverse q e) (λ t. soughtFrom turns s reverse t e) o refl (λ t a. sought-from turns t a)
+
+    sought-over : SoughtOver p (sought s reverse p e)
+    unfolding sought
+    sought-over = sought-from e p nothing-yet
+
+  -- a search names the first block at fault
+  pub sought-first : (reverse : Bool) (p k : ℕ) → sought s reverse p e ≡ sought-as.Bad k → p ≤ e → FirstFault s e p k
+  sought-first reverse p k y h = rw y at (sought-over h reverse)
+
+  -- the first fault where a space stopped at a block
+  abbrev StopOver : ℕ → Stop → Type 0
+  StopOver p (stop-as.Bad k) = FirstFault s e p k
+  StopOver p stop-as.Count = Always
+  StopOver p stop-as.Mark = Always
+  StopOver p stop-as.LogicalEnd = Always
+  StopOver p stop-as.Nothing = Always
+
+  abbrev TurnOver : ℕ → Turn → Type 0
+  TurnOver p t = TurnHas (λ y. ReadOver s e p (y .position)) (λ z. StopOver p (z .stop)) t
+
+  -- each turn of a space leads over what its search read
+  turn-over : (p : ℕ) (r : Rule) (y : Span) (f : Sought) → SoughtOver p f → TurnOver p (turnOf r y f)
+  unfolding turnOf recordTurn markTurn
+  turn-over p r y (sought-as.Record n q) o = either (TurnOver p) (r .marks) _ _ o o
+  turn-over p r y (sought-as.Mark q) o = either (TurnOver p) (r .marks) _ _ (either (TurnOver p) (r .ess && y .«after_mark») _ _ tt o) tt
+  turn-over p r y (sought-as.Nothing q) o = tt
+  turn-over p r y (sought-as.Bad k) o = o
+
+  space-over : (r : Rule) (x : Span) → x .position ≤ e → StopOver (x .position) (spaced s r e x .stop)
+  unfolding spaced
+  space-over r x h =
+      rounds s r e (λ turns y. ReadOver s e (x .position) (y .position)) (λ z. StopOver (x .position) (z .stop))
+      (λ turns y o n.
+      let found : Sought = sought s (r .reverse) (y .position) e in
+      turn-over (x .position) r y found (sought-behind o found (sought-over (over-below s e h o) (r .reverse))))
+      (λ turns y o w. tt) (e + 1) x nothing-yet
+
+  -- a space names the first block at fault
+  pub spaced-first : (r : Rule) (x : Span) (k : ℕ) → spaced s r e x .stop ≡ stop-as.Bad k → x .position ≤ e → FirstFault s e (x .position) k
+  spaced-first r x k y h = rw y at (space-over r x h)
+
+  abbrev SweptOver : Swept → Type 0
+  SweptOver swept.Whole = Always
+  SweptOver (swept.Bad k) = FirstFault s e 0 k
+
+  swept-on : (q : ℕ) (x : Met) (onward : ℕ → Swept) → ReadOver s e 0 q → passed s false q e ≡ x → ((t : ℕ) → ReadOver s e 0 t → SweptOver (onward t)) → SweptOver (sweptOn x onward)
+  unfolding sweptOn
+  swept-on q (met.Record n t) onward o y on = on t (then-record o false y)
+  swept-on q (met.Mark t) onward o y on = on t (then-mark o false y)
+  swept-on q (met.Gap t) onward o y on = on t (then-gap o false y)
+  swept-on q met.Nothing onward o y on = tt
+  swept-on q (met.Bad k) onward o y on = first-here (omega arith) o false y
+
+  swept-from : (turns q : ℕ) → ReadOver s e 0 q → SweptOver (sweptFrom turns s q e)
+  unfolding sweptFrom
+  swept-from zero q o = tt
+  swept-from (suc turns) q o = swept-on q (passed s false q e) (λ t. sweptFrom turns s t e) o refl (λ t a. swept-from turns t a)
+
+  -- "Mount reads every block below the end it is given": the sweep names the first block at fault
+  pub swept-first : (k : ℕ) → sweptBelow s e ≡ swept.Bad k → FirstFault s e 0 k
+  unfolding sweptBelow
+  swept-first k y = rw y at (swept-from e 0 nothing-yet)
