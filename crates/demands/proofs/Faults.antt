@@ -1,11 +1,11 @@
 -- Which block a refusal with 7 names: the first at fault that is met, and in which way it is at fault.
-use mathlib.Core.Bool.{Bool, true, false, _&&_, and-eq-true-iff}
+use mathlib.Core.Bool.{Bool, true, false, _&&_, and-eq-true-iff, not}
 use mathlib.Core.List.{List}
 use mathlib.Core.Path.{_≡_, refl, sym, subst, _∙_}
 use Prim.Native.Nat.{ℕ, zero, suc, _+_, _-_, _<_, _≤_}
 use native.Mathlib.Omega.{arith}
 use borrow.Author.Tests.{eq-eqb, eqb-false, eqb-true, le-leb, leb-true, ne-eqb}
-use lib.Dec.{eqb, leb}
+use lib.Dec.{eqb, leb, ltb}
 use Rattle.lists.specs.Pick.{Always, pick}
 use Rattle.lists.proofs.Cases.{by-test, pick-told}
 use Rattle.tape.specs.Numbers.{piecesOf}
@@ -32,6 +32,17 @@ use Rattle.moves.specs.declared.spacing.Stop.{Stop}
 use Rattle.moves.specs.declared.spacing.Stop.the-variants as stop-as
 use Rattle.moves.specs.declared.spacing.Turn.{Turn}
 use Rattle.moves.proofs.Rounds.{TurnHas, either, rounds}
+use Rattle.state.specs.declared.Tape.{Tape}
+use Rattle.motions.specs.Parts.{laidBlocks, standing}
+use Rattle.motions.specs.Reads.{onRecord, readMotion, readOne, readThenSpace, reread, spaceBack, spaceThenRead, stageBy, stageOf, stopMotion}
+use Rattle.motions.specs.Spaces.{positioned, spaceMotion, spaceMotionBy, startSpan}
+use Rattle.motions.specs.Writes.{behindGap, noRoom, retried, retriedBy, writtenAt, writtenMotion}
+use Rattle.motions.specs.declared.parts.Laid.{Laid}
+use Rattle.motions.specs.declared.parts.Motion.{Motion}
+use Rattle.motions.specs.declared.parts.Motion.the-variants as motion
+use Rattle.motions.specs.declared.reads.Buffer.{Buffer}
+use Rattle.motions.specs.declared.reads.Stage.{Stage}
+use Rattle.motions.proofs.Onward.{StageHas, on-record}
 use Rattle.demands.specs.Faults.{FaultAt, FirstFault, ReadOver, damaged, metAt, not-due, nothing-yet, out-of-place, then-gap, then-mark, then-record}
 
 -- a block is piece i of a record of n bytes exactly where the test says so
@@ -296,3 +307,110 @@ module _ (s : List ℕ) (e : ℕ) where
   pub swept-first : (k : ℕ) → sweptBelow s e ≡ swept.Bad k → FirstFault s e 0 k
   unfolding sweptBelow
   swept-first k y = rw y at (swept-from e 0 nothing-yet)
+
+module _ (s : List ℕ) (e : ℕ) where
+  -- a motion from p that names a block names the first at fault
+  abbrev MotionOver : ℕ → Motion → Type 0
+  MotionOver p (motion.Ended x) = Always
+  MotionOver p (motion.Fault k) = FirstFault s e p k
+
+  motion-behind : {p q : ℕ} → ReadOver s e p q → (x : Motion) → MotionOver q x → MotionOver p x
+  motion-behind o (motion.Ended x) h = tt
+  motion-behind o (motion.Fault k) h = first-behind s e o h
+
+  -- a stage read over the record that it found
+  abbrev StageOver : ℕ → Stage → Type 0
+  StageOver p = StageHas (MotionOver p) (λ n q. ReadOver s e p q)
+
+  stage-by : (p count : ℕ) (reverse : Bool) (f : Sought) → SoughtOver s e p f → StageOver p (stageBy (standing p e) count reverse f)
+  unfolding stageBy stopMotion
+  stage-by p count reverse (sought-as.Record n q) o = o
+  stage-by p count reverse (sought-as.Mark q) o = tt
+  stage-by p count reverse (sought-as.Nothing q) o = tt
+  stage-by p count reverse (sought-as.Bad k) o = o
+
+  module _ (r : Buffer) where
+    stage-over : (p : ℕ) (reverse : Bool) → p ≤ e → StageOver p (stageOf s (standing p e) (r .count) reverse)
+    unfolding stageOf
+    stage-over p reverse h = stage-by p (r .count) reverse (sought s reverse p e) (sought-over s e h reverse)
+
+    -- what goes on from the record that a stage found
+    stage-then : (p : ℕ) (reverse : Bool) (f : ℕ → ℕ → Motion) → p ≤ e → ((n q : ℕ) → q ≤ e → MotionOver q (f n q)) → MotionOver p (onRecord (stageOf s (standing p e) (r .count) reverse) f)
+    stage-then p reverse f h on =
+        on-record (MotionOver p) (λ n q. ReadOver s e p q) _ f (stage-over p reverse h) (λ n q o. motion-behind o (f n q) (on n q (over-below s e h o)))
+
+    one-over : (p : ℕ) (reverse : Bool) → p ≤ e → MotionOver p (readOne s (standing p e) r reverse)
+    unfolding readOne readMotion
+    one-over p reverse h = stage-then p reverse _ h (λ n q k. tt)
+
+    back-over : (n q : ℕ) (reverse : Bool) → q ≤ e → MotionOver q (spaceBack s e r reverse n q)
+    unfolding spaceBack readMotion
+    back-over n q reverse h = stage-then q (not reverse) _ h (λ n′ b k. tt)
+
+    reread-over : (p : ℕ) (reverse opp : Bool) → p ≤ e → MotionOver p (reread s (standing p e) r reverse opp)
+    unfolding reread readThenSpace spaceThenRead
+    reread-over p reverse opp h =
+        either (MotionOver p) opp _ _
+        (stage-then p reverse _ h (λ n q k. back-over n q reverse k))
+        (stage-then p reverse _ h (λ n q k. one-over q (not reverse) k))
+
+  space-by : (p : ℕ) (r : Rule) (x : Span) (why : Stop) → StopOver s e p why → MotionOver p (spaceMotionBy r x e why)
+  unfolding spaceMotionBy
+  space-by p r x (stop-as.Bad k) o = o
+  space-by p r x stop-as.Count o = tt
+  space-by p r x stop-as.Mark o = tt
+  space-by p r x stop-as.LogicalEnd o = tt
+  space-by p r x stop-as.Nothing o = tt
+
+  -- nothing is read where an object is written
+  written-over : (p : ℕ) (t : Tape) (blocks : ℕ) (l : Laid) (mark : Bool) → MotionOver p (writtenAt t blocks l mark)
+  unfolding writtenAt noRoom writtenMotion
+  written-over p t blocks l mark = either (MotionOver p) (ltb blocks (l .at + laidBlocks l)) _ _ tt tt
+
+  retry-by : (p : ℕ) (t : Tape) (blocks : ℕ) (l : Laid) (mark : Bool) (f : Sought) → SoughtOver s e p f → MotionOver p (retriedBy t blocks l mark f)
+  unfolding retriedBy
+  retry-by p t blocks l mark (sought-as.Record n q) o = written-over p t blocks (behindGap l q) mark
+  retry-by p t blocks l mark (sought-as.Mark q) o = written-over p t blocks (behindGap l q) mark
+  retry-by p t blocks l mark (sought-as.Nothing q) o = tt
+  retry-by p t blocks l mark (sought-as.Bad k) o = o
+
+module _ (s : List ℕ) (t : Tape) where
+  -- what a motion of the tape t says
+  abbrev TapeOver : Motion → Type 0
+  TapeOver = MotionOver s (t .end) (t .position)
+
+  module _ (h : t .position ≤ t .end) where
+    read-over : (r : Buffer) (reverse : Bool) → TapeOver (readOne s t r reverse)
+    read-over r reverse = one-over s (t .end) r (t .position) reverse h
+
+    again-over : (r : Buffer) (reverse opp : Bool) → TapeOver (reread s t r reverse opp)
+    again-over r reverse opp = reread-over s (t .end) r (t .position) reverse opp h
+
+    position-over : (r : Rule) (count : ℕ) (enb : Bool) → TapeOver (positioned s t r count enb)
+    unfolding positioned spaceMotion
+    position-over r count enb =
+        let x : Span = startSpan t count enb in
+        either TapeOver (eqb count 0) _ _ tt
+        (space-by s (t .end) (t .position) r (spaced s r (t .end) x .span) (spaced s r (t .end) x .stop) (space-over s (t .end) r x h))
+
+    retry-over : (blocks : ℕ) (l : Laid) (mark : Bool) → TapeOver (retried s t blocks l mark)
+    unfolding retried
+    retry-over blocks l mark = retry-by s (t .end) (t .position) t blocks l mark (sought s true (t .position) (t .end)) (sought-over s (t .end) h true)
+
+  -- every motion that names a block names the first at fault, from where the tape stands
+  pub read-first : (r : Buffer) (reverse : Bool) (k : ℕ) → readOne s t r reverse ≡ motion.Fault k → t .position ≤ t .end → FirstFault s (t .end) (t .position) k
+  read-first r reverse k y h = rw y at (read-over h r reverse)
+
+  pub reread-first : (r : Buffer) (reverse opp : Bool) (k : ℕ) → reread s t r reverse opp ≡ motion.Fault k → t .position ≤ t .end → FirstFault s (t .end) (t .position) k
+  reread-first r reverse opp k y h = rw y at (again-over h r reverse opp)
+
+  pub positioned-first : (r : Rule) (count : ℕ) (enb : Bool) (k : ℕ) → positioned s t r count enb ≡ motion.Fault k → t .position ≤ t .end → FirstFault s (t .end) (t .position) k
+  positioned-first r count enb k y h = rw y at (position-over h r count enb)
+
+  pub retried-first : (blocks : ℕ) (l : Laid) (mark : Bool) (k : ℕ) → retried s t blocks l mark ≡ motion.Fault k → t .position ≤ t .end → FirstFault s (t .end) (t .position) k
+  retried-first blocks l mark k y h = rw y at (retry-over h blocks l mark)
+
+-- an object written where the tape stands reads no block, so none is named
+pub written-names-none : (t : Tape) (blocks : ℕ) (l : Laid) (mark : Bool) (k : ℕ) → writtenAt t blocks l mark ≡ motion.Fault k → ⊥
+unfolding writtenAt noRoom writtenMotion
+written-names-none t blocks l mark k = either (λ x. x ≡ motion.Fault k → ⊥) (ltb blocks (l .at + laidBlocks l)) _ _ (λ y. clash (cc)) (λ y. clash (cc))
