@@ -1,27 +1,36 @@
 -- Which block a refusal with 7 names: the first at fault that is met, and in which way it is at fault.
-use mathlib.Core.Bool.{Bool, true, false, _&&_, and-eq-true-iff, not}
+use mathlib.Core.Bool.{Bool, true, false, _||_, _&&_, and-eq-true-iff, not}
 use mathlib.Core.List.{List}
 use mathlib.Core.Path.{_≡_, refl, sym, subst, _∙_}
 use Prim.Native.Nat.{ℕ, zero, suc, _+_, _-_, _<_, _≤_}
 use native.Mathlib.Omega.{arith}
 use borrow.Author.Tests.{eq-eqb, eqb-false, eqb-true, le-leb, leb-true, ne-eqb}
 use lib.Dec.{eqb, leb, ltb}
-use Rattle.lists.specs.Pick.{Always, pick}
+use lib.ListN.{length}
+use Rattle.lists.specs.Pick.{Always}
 use Rattle.lists.proofs.Cases.{by-test, pick-told}
 use Rattle.tape.specs.Numbers.{piecesOf}
 use Rattle.tape.specs.Pass.{ahead, beyond, firstMet, isPiece, lowest, metBy, orderMet, passed, piecesMet, recordMet}
 use Rattle.tape.specs.Reading.{classAt}
+use Rattle.tape.specs.Sweep.{sweptBelow, sweptFrom, sweptOn}
 use Rattle.tape.specs.declared.Block.{Block}
 use Rattle.tape.specs.declared.Block.the-variants as block
 use Rattle.tape.specs.declared.Met.{Met}
 use Rattle.tape.specs.declared.Met.the-variants as met
+use Rattle.tape.specs.declared.Swept.{Swept}
+use Rattle.tape.specs.declared.Swept.the-variants as swept
 use Rattle.tape.proofs.Accepted.{clash}
 use Rattle.tape.proofs.Passes.{first-order, order-below}
 use Rattle.tape.proofs.ReadBlocks.{piece-read}
 use Rattle.tape.proofs.Within.{gap-within, mark-within, pass-onward}
-use Rattle.tape.specs.Sweep.{sweptBelow, sweptFrom, sweptOn}
-use Rattle.tape.specs.declared.Swept.{Swept}
-use Rattle.tape.specs.declared.Swept.the-variants as swept
+use Rattle.signals.specs.Numbers.{pointerLimit}
+use Rattle.signals.specs.declared.codes.Command.{Command}
+use Rattle.signals.specs.declared.codes.Command.the-variants as command
+use Rattle.signals.specs.declared.packet.Header.{Header}
+use Rattle.signals.specs.declared.packet.Packet.{Packet}
+use Rattle.state.specs.Checks.{bufferWrong}
+use Rattle.state.specs.declared.Tape.{Tape}
+use Rattle.state.specs.declared.Unit.{Unit}
 use Rattle.moves.specs.Seeking.{sought, soughtFrom, soughtOn}
 use Rattle.moves.specs.Spacing.{markTurn, recordTurn, spaced, turnOf}
 use Rattle.moves.specs.declared.seeking.Sought.{Sought}
@@ -32,7 +41,6 @@ use Rattle.moves.specs.declared.spacing.Stop.{Stop}
 use Rattle.moves.specs.declared.spacing.Stop.the-variants as stop-as
 use Rattle.moves.specs.declared.spacing.Turn.{Turn}
 use Rattle.moves.proofs.Rounds.{TurnHas, either, rounds}
-use Rattle.state.specs.declared.Tape.{Tape}
 use Rattle.motions.specs.Parts.{laidBlocks, standing}
 use Rattle.motions.specs.Reads.{onRecord, readMotion, readOne, readThenSpace, reread, spaceBack, spaceThenRead, stageBy, stageOf, stopMotion}
 use Rattle.motions.specs.Spaces.{positioned, spaceMotion, spaceMotionBy, startSpan}
@@ -43,7 +51,15 @@ use Rattle.motions.specs.declared.parts.Motion.the-variants as motion
 use Rattle.motions.specs.declared.reads.Buffer.{Buffer}
 use Rattle.motions.specs.declared.reads.Stage.{Stage}
 use Rattle.motions.proofs.Onward.{StageHas, on-record}
+use Rattle.commands.specs.Commands.{asked, carriedOut, characteristicsAt, characterized, formatted, plainEffect, positionedBy, readBy, refusedCharacteristics, released, rereadBy, rewound, takenCharacteristics, unloaded, writtenBy}
+use Rattle.commands.specs.Ends.{motionPlan, still, told, untold}
+use Rattle.commands.specs.declared.plans.Answer.{Answer}
+use Rattle.commands.specs.declared.plans.Answer.the-variants as answer
+use Rattle.commands.specs.declared.plans.Plan.{Plan}
+use Rattle.advance.specs.Steps.{advanced}
 use Rattle.demands.specs.Faults.{FaultAt, FirstFault, ReadOver, damaged, metAt, not-due, nothing-yet, out-of-place, then-gap, then-mark, then-record}
+use Rattle.demands.specs.Ways.{Way, attention, bad-pointer, carried, header, idle, locked, lost, no-buffer, no-extent, no-header, no-words, not-executable, not-mounted, not-owned, packet, started, unknown}
+use Rattle.demands.proofs.Ways.{advanced-way}
 
 -- a block is piece i of a record of n bytes exactly where the test says so
 piece-true : (b : Block) (n i : ℕ) → isPiece b n i ≡ true → b ≡ block.Piece n i
@@ -65,13 +81,15 @@ piece-false b n i h y = clash (cc (piece-is b n i y))
 piece-not : (b : Block) (n i : ℕ) → (b ≡ block.Piece n i → ⊥) → isPiece b n i ≡ false
 piece-not b n i f = by-test (isPiece b n i) (λ t. absurd (f (piece-true b n i t))) (λ t. t)
 
+-- not none, so one or more
 one-at-least : (n : ℕ) → (n ≡ 0 → ⊥) → 1 ≤ n
 one-at-least n f = omega arith
 
+-- at most, and not the same
 below : (i j : ℕ) → i ≤ j → (i ≡ j → ⊥) → i < j
 below i j h f = omega arith
 
--- what is said of the piece met as number j holds of one more
+-- what holds of each number below j, and of j, holds of each below the next
 and-next : (P : ℕ → Type 0) (j : ℕ) → ((i : ℕ) → i < j → P i) → P j → (i : ℕ) → i < suc j → P i
 and-next P j f h i l = by-test (eqb i j) (λ t. subst P (sym (eqb-true i j t)) h) (λ t. f i (below i j (omega arith) (eqb-false i j t)))
 
@@ -117,6 +135,7 @@ module _ (s : List ℕ) (e : ℕ) (reverse : Bool) (q : ℕ) where
       pieces-faulty n 1 (m - 1) fits (omega arith) (omega arith) (and-next (Due n) 0 (λ i l. absurd (omega arith)) due))
       (λ t. out-of-place h c (λ a b. clash (cc (t, and-eq-true-iff first whole .1 (eq-eqb i (orderMet reverse m 0) a, le-leb m (ahead reverse q e) b)))))
 
+  -- whatever the first block met is
   block-faulty : (b : Block) → 1 ≤ ahead reverse q e → classAt s (firstMet reverse q) ≡ b → Faulty (metBy s reverse q e b)
   unfolding metBy
   block-faulty (block.Piece n i) h c = record-faulty n i h c
@@ -124,6 +143,7 @@ module _ (s : List ℕ) (e : ℕ) (reverse : Bool) (q : ℕ) where
   block-faulty block.Gap h c = tt
   block-faulty block.Damaged h c = damaged h c
 
+  -- and so the pass over it
   pass-faulty : Faulty (passed s reverse q e)
   unfolding passed
   pass-faulty =
@@ -226,6 +246,7 @@ module _ (s : List ℕ) (e : ℕ) where
   SoughtOver p (sought-as.Nothing q) = ReadOver s e p q
   SoughtOver p (sought-as.Bad k) = FirstFault s e p k
 
+  -- the same of a search from where a stretch led to
   sought-behind : {p q : ℕ} → ReadOver s e p q → (f : Sought) → SoughtOver q f → SoughtOver p f
   sought-behind o (sought-as.Record n t) h = then-over o h
   sought-behind o (sought-as.Mark t) h = then-over o h
@@ -233,6 +254,7 @@ module _ (s : List ℕ) (e : ℕ) where
   sought-behind o (sought-as.Bad k) h = first-behind o h
 
   module _ {p : ℕ} (h : p ≤ e) (reverse : Bool) where
+    -- one turn of the search: a gap sends it on, all else ends it
     sought-on : (q : ℕ) (x : Met) (onward : ℕ → Sought) → ReadOver s e p q → passed s reverse q e ≡ x → ((t : ℕ) → ReadOver s e p t → SoughtOver p (onward t)) → SoughtOver p (soughtOn x q onward)
     unfolding soughtOn
     sought-on q (met.Record n t) onward o y on = then-record o reverse y
@@ -241,11 +263,13 @@ module _ (s : List ℕ) (e : ℕ) where
     sought-on q met.Nothing onward o y on = o
     sought-on q (met.Bad k) onward o y on = first-here h o reverse y
 
+    -- every turn, from a position that was read over to
     sought-from : (turns q : ℕ) → ReadOver s e p q → SoughtOver p (soughtFrom turns s reverse q e)
     unfolding soughtFrom
     sought-from zero q o = o
     sought-from (suc turns) q o = sought-on q (passed s reverse q e) (λ t. soughtFrom turns s reverse t e) o refl (λ t a. sought-from turns t a)
 
+    -- the search from p
     sought-over : SoughtOver p (sought s reverse p e)
     unfolding sought
     sought-over = sought-from e p nothing-yet
@@ -262,6 +286,7 @@ module _ (s : List ℕ) (e : ℕ) where
   StopOver p stop-as.LogicalEnd = Always
   StopOver p stop-as.Nothing = Always
 
+  -- one turn of a space: it goes on from a position read over to, or it is over
   abbrev TurnOver : ℕ → Turn → Type 0
   TurnOver p t = TurnHas (λ y. ReadOver s e p (y .position)) (λ z. StopOver p (z .stop)) t
 
@@ -273,6 +298,7 @@ module _ (s : List ℕ) (e : ℕ) where
   turn-over p r y (sought-as.Nothing q) o = tt
   turn-over p r y (sought-as.Bad k) o = o
 
+  -- the turns of a space, the one behind the other
   space-over : (r : Rule) (x : Span) → x .position ≤ e → StopOver (x .position) (spaced s r e x .stop)
   unfolding spaced
   space-over r x h =
@@ -286,10 +312,12 @@ module _ (s : List ℕ) (e : ℕ) where
   pub spaced-first : (r : Rule) (x : Span) (k : ℕ) → spaced s r e x .stop ≡ stop-as.Bad k → x .position ≤ e → FirstFault s e (x .position) k
   spaced-first r x k y h = rw y at (space-over r x h)
 
+  -- the first fault from block 0 where a sweep names a block
   abbrev SweptOver : Swept → Type 0
   SweptOver swept.Whole = Always
   SweptOver (swept.Bad k) = FirstFault s e 0 k
 
+  -- one turn of the sweep: every object sends it on
   swept-on : (q : ℕ) (x : Met) (onward : ℕ → Swept) → ReadOver s e 0 q → passed s false q e ≡ x → ((t : ℕ) → ReadOver s e 0 t → SweptOver (onward t)) → SweptOver (sweptOn x onward)
   unfolding sweptOn
   swept-on q (met.Record n t) onward o y on = on t (then-record o false y)
@@ -298,6 +326,7 @@ module _ (s : List ℕ) (e : ℕ) where
   swept-on q met.Nothing onward o y on = tt
   swept-on q (met.Bad k) onward o y on = first-here (omega arith) o false y
 
+  -- every turn, from a position that was read over to
   swept-from : (turns q : ℕ) → ReadOver s e 0 q → SweptOver (sweptFrom turns s q e)
   unfolding sweptFrom
   swept-from zero q o = tt
@@ -314,6 +343,7 @@ module _ (s : List ℕ) (e : ℕ) where
   MotionOver p (motion.Ended x) = Always
   MotionOver p (motion.Fault k) = FirstFault s e p k
 
+  -- the same of a motion from where a stretch led to
   motion-behind : {p q : ℕ} → ReadOver s e p q → (x : Motion) → MotionOver q x → MotionOver p x
   motion-behind o (motion.Ended x) h = tt
   motion-behind o (motion.Fault k) h = first-behind s e o h
@@ -322,6 +352,7 @@ module _ (s : List ℕ) (e : ℕ) where
   abbrev StageOver : ℕ → Stage → Type 0
   StageOver p = StageHas (MotionOver p) (λ n q. ReadOver s e p q)
 
+  -- by what the stage's search found
   stage-by : (p count : ℕ) (reverse : Bool) (f : Sought) → SoughtOver s e p f → StageOver p (stageBy (standing p e) count reverse f)
   unfolding stageBy stopMotion
   stage-by p count reverse (sought-as.Record n q) o = o
@@ -330,6 +361,7 @@ module _ (s : List ℕ) (e : ℕ) where
   stage-by p count reverse (sought-as.Bad k) o = o
 
   module _ (r : Buffer) where
+    -- one stage from p
     stage-over : (p : ℕ) (reverse : Bool) → p ≤ e → StageOver p (stageOf s (standing p e) (r .count) reverse)
     unfolding stageOf
     stage-over p reverse h = stage-by p (r .count) reverse (sought s reverse p e) (sought-over s e h reverse)
@@ -339,14 +371,17 @@ module _ (s : List ℕ) (e : ℕ) where
     stage-then p reverse f h on =
         on-record (MotionOver p) (λ n q. ReadOver s e p q) _ f (stage-over p reverse h) (λ n q o. motion-behind o (f n q) (on n q (over-below s e h o)))
 
+    -- a Read is one stage, and moves what it found
     one-over : (p : ℕ) (reverse : Bool) → p ≤ e → MotionOver p (readOne s (standing p e) r reverse)
     unfolding readOne readMotion
     one-over p reverse h = stage-then p reverse _ h (λ n q k. tt)
 
+    -- with OPP the space back over the record that was read
     back-over : (n q : ℕ) (reverse : Bool) → q ≤ e → MotionOver q (spaceBack s e r reverse n q)
     unfolding spaceBack readMotion
     back-over n q reverse h = stage-then q (not reverse) _ h (λ n′ b k. tt)
 
+    -- a reread is two stages, each behind what the one before read over
     reread-over : (p : ℕ) (reverse opp : Bool) → p ≤ e → MotionOver p (reread s (standing p e) r reverse opp)
     unfolding reread readThenSpace spaceThenRead
     reread-over p reverse opp h =
@@ -354,6 +389,7 @@ module _ (s : List ℕ) (e : ℕ) where
         (stage-then p reverse _ h (λ n q k. back-over n q reverse k))
         (stage-then p reverse _ h (λ n q k. one-over q (not reverse) k))
 
+  -- a space or a skip, by why it stopped
   space-by : (p : ℕ) (r : Rule) (x : Span) (why : Stop) → StopOver s e p why → MotionOver p (spaceMotionBy r x e why)
   unfolding spaceMotionBy
   space-by p r x (stop-as.Bad k) o = o
@@ -367,6 +403,7 @@ module _ (s : List ℕ) (e : ℕ) where
   unfolding writtenAt noRoom writtenMotion
   written-over p t blocks l mark = either (MotionOver p) (ltb blocks (l .at + laidBlocks l)) _ _ tt tt
 
+  -- a retry, by what its space back found
   retry-by : (p : ℕ) (t : Tape) (blocks : ℕ) (l : Laid) (mark : Bool) (f : Sought) → SoughtOver s e p f → MotionOver p (retriedBy t blocks l mark f)
   unfolding retriedBy
   retry-by p t blocks l mark (sought-as.Record n q) o = written-over p t blocks (behindGap l q) mark
@@ -380,6 +417,7 @@ module _ (s : List ℕ) (t : Tape) where
   TapeOver = MotionOver s (t .end) (t .position)
 
   module _ (h : t .position ≤ t .end) where
+    -- the motions of the tape t, whose position is not beyond its end
     read-over : (r : Buffer) (reverse : Bool) → TapeOver (readOne s t r reverse)
     read-over r reverse = one-over s (t .end) r (t .position) reverse h
 
@@ -414,3 +452,88 @@ module _ (s : List ℕ) (t : Tape) where
 pub written-names-none : (t : Tape) (blocks : ℕ) (l : Laid) (mark : Bool) (k : ℕ) → writtenAt t blocks l mark ≡ motion.Fault k → ⊥
 unfolding writtenAt noRoom writtenMotion
 written-names-none t blocks l mark k = either (λ x. x ≡ motion.Fault k → ⊥) (ltb blocks (l .at + laidBlocks l)) _ _ (λ y. clash (cc)) (λ y. clash (cc))
+
+module _ (s : List ℕ) (e p : ℕ) where
+  -- a plan that answers with a block names the first at fault from p on
+  abbrev AnswerOver : Answer → Type 0
+  AnswerOver (answer.BadBlock k) = FirstFault s e p k
+  AnswerOver (answer.Done i) = Always
+  AnswerOver answer.Idle = Always
+  AnswerOver (answer.Refused n) = Always
+
+  -- of a plan, by its answer
+  abbrev PlanOver : Plan → Type 0
+  PlanOver x = AnswerOver (x .answer)
+
+  -- a motion's fault is its plan's answer
+  plan-over : (u : Unit) (ie : Bool) (x : Motion) → MotionOver s e p x → PlanOver (motionPlan u ie x)
+  unfolding motionPlan told still
+  plan-over u ie (motion.Ended x) h = tt
+  plan-over u ie (motion.Fault k) h = h
+
+  -- Write Characteristics answers Done, taken or refused
+  characterized-over : (u : Unit) (m : List ℕ) (x : Packet) (ie : Bool) → PlanOver (characterized u m x ie)
+  unfolding characterized refusedCharacteristics takenCharacteristics told
+  characterized-over u m x ie =
+      let c = characteristicsAt m x in
+      either PlanOver (ltb (x .count) 6) _ _ tt (either PlanOver (leb pointerLimit (c .address) || bufferWrong c (length m)) _ _ tt tt)
+
+-- a command carried out in the state u
+module _ (u : Unit) (m s : List ℕ) (h : Header) (x : Packet) (below-end : u .tape .position ≤ u .tape .end) where
+  -- its plan, from where the tape stands
+  abbrev CommandOver : Plan → Type 0
+  CommandOver = PlanOver s (u .tape .end) (u .tape .position)
+
+  -- the plan of a command that moves the tape
+  moved-over : (y : Motion) → TapeOver s (u .tape) y → CommandOver (motionPlan u (h .ie) y)
+  moved-over y o = plan-over s (u .tape .end) (u .tape .position) u (h .ie) y o
+
+  -- every command
+  command-over : (c : Command) → CommandOver (carriedOut u m s h x c)
+  unfolding carriedOut readBy rereadBy positionedBy writtenBy formatted rewound released unloaded plainEffect told untold still
+  command-over command.ReadNext = moved-over _ (read-over s (u .tape) below-end (asked h x) false)
+  command-over command.ReadPrevious = moved-over _ (read-over s (u .tape) below-end (asked h x) true)
+  command-over command.RereadPrevious = moved-over _ (again-over s (u .tape) below-end (asked h x) true (h .opp))
+  command-over command.RereadNext = moved-over _ (again-over s (u .tape) below-end (asked h x) false (h .opp))
+  command-over command.WriteCharacteristics = characterized-over s (u .tape .end) (u .tape .position) u m x (h .ie)
+  command-over command.Write = moved-over _ (written-over s (u .tape .end) (u .tape .position) (u .tape) _ _ _)
+  command-over command.WriteRetry = moved-over _ (retry-over s (u .tape) below-end _ _ _)
+  command-over command.RecordsForward = moved-over _ (position-over s (u .tape) below-end _ _ _)
+  command-over command.RecordsReverse = moved-over _ (position-over s (u .tape) below-end _ _ _)
+  command-over command.MarksForward = moved-over _ (position-over s (u .tape) below-end _ _ _)
+  command-over command.MarksReverse = moved-over _ (position-over s (u .tape) below-end _ _ _)
+  command-over command.Rewind = tt
+  command-over command.WriteMark = moved-over _ (written-over s (u .tape .end) (u .tape .position) (u .tape) _ _ _)
+  command-over command.Erase = moved-over _ (written-over s (u .tape .end) (u .tape .position) (u .tape) _ _ _)
+  command-over command.MarkRetry = moved-over _ (retry-over s (u .tape) below-end _ _ _)
+  command-over command.Release = tt
+  command-over command.Unload = tt
+  command-over command.Clean = tt
+  command-over command.Initialize = tt
+  command-over command.GetStatus = tt
+  command-over command.Illegal = tt
+
+module _ (u : Unit) (m s : List ℕ) (below-end : u .tape .position ≤ u .tape .end) where
+  -- only a command carried out can answer with a block: the other ways answer Done or Idle
+  way-over : {x : Plan} → Way u m s x → PlanOver s (u .tape .end) (u .tape .position) x
+  unfolding told untold still
+  way-over (idle a b) = tt
+  way-over (attention a b) = tt
+  way-over (no-header a b) = tt
+  way-over (not-owned w a) = tt
+  way-over (lost w a b) = tt
+  way-over (unknown b a) = tt
+  way-over (no-buffer b a c) = tt
+  way-over (no-words b a c d) = tt
+  way-over (bad-pointer f a) = tt
+  way-over (not-mounted f a b) = tt
+  way-over (locked f a b c) = tt
+  way-over (not-executable f a b c d) = tt
+  way-over (no-extent r a) = tt
+  way-over (carried r a) = command-over (started u m s) m s (header u m s) (packet u m s) below-end _
+
+-- "A command reads each block of every object it passes, in the order met; the first at fault is named."
+pub advanced-first : (u : Unit) (m s : List ℕ) (k : ℕ) → u .tape .position ≤ u .tape .end → advanced u m s .answer ≡ answer.BadBlock k → FirstFault s (u .tape .end) (u .tape .position) k
+advanced-first u m s k below-end y =
+    let o : AnswerOver s (u .tape .end) (u .tape .position) (advanced u m s .answer) = way-over u m s below-end (advanced-way u m s) in
+    rw y at o
