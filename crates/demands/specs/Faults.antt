@@ -30,17 +30,17 @@ module _ (s : List ℕ) (e : ℕ) where
         → (classAt s (metAt reverse q (piecesOf n) j) ≡ block.Piece n (orderMet reverse (piecesOf n) j) → ⊥)
         → FaultAt reverse q (metAt reverse q (piecesOf n) j)
 
-  -- whole objects were read from position p to q, each this way or that
-  pub data ReadOver (p : ℕ) : ℕ → Type 0 where
-    nothing-yet : ReadOver p p
-    then-record : {q q′ n : ℕ} → ReadOver p q → (reverse : Bool) → passed s reverse q e ≡ met.Record n q′ → ReadOver p q′
-    then-mark : {q q′ : ℕ} → ReadOver p q → (reverse : Bool) → passed s reverse q e ≡ met.Mark q′ → ReadOver p q′
-    then-gap : {q q′ : ℕ} → ReadOver p q → (reverse : Bool) → passed s reverse q e ≡ met.Gap q′ → ReadOver p q′
+  -- whole objects were read this way from position p to q
+  pub data ReadOver (reverse : Bool) (p : ℕ) : ℕ → Type 0 where
+    nothing-yet : ReadOver reverse p p
+    then-record : {q q′ n : ℕ} → ReadOver reverse p q → passed s reverse q e ≡ met.Record n q′ → ReadOver reverse p q′
+    then-mark : {q q′ : ℕ} → ReadOver reverse p q → passed s reverse q e ≡ met.Mark q′ → ReadOver reverse p q′
+    then-gap : {q q′ : ℕ} → ReadOver reverse p q → passed s reverse q e ≡ met.Gap q′ → ReadOver reverse p q′
 
-  -- block k is the first at fault that is met from position p on, and it lies below the recorded end
-  pub record FirstFault (p k : ℕ) : Type 0 where
-    pub reverse : Bool
+  -- block k is the first at fault that lies ahead of position p this way, and it lies below the recorded end: every block met before it is
+  -- sound and in its place, and it is not
+  pub record FirstFault (reverse : Bool) (p k : ℕ) : Type 0 where
     pub from : ℕ
-    pub before : ReadOver p from
+    pub before : ReadOver reverse p from
     pub fault : FaultAt reverse from k
     pub below : k < e
