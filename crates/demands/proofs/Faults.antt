@@ -1,5 +1,5 @@
 -- Which block a refusal with 7 names: the first at fault that is met, and in which way it is at fault.
-use mathlib.Core.Bool.{Bool, true, false, _||_, _&&_, and-eq-true-iff, not}
+use mathlib.Core.Bool.{Bool, true, false, _||_, _&&_, and-eq-true-iff, not, or-false}
 use mathlib.Core.List.{List}
 use mathlib.Core.Path.{_≡_, refl, sym, subst, _∙_}
 use Prim.Native.Nat.{ℕ, zero, suc, _+_, _-_, _<_, _≤_}
@@ -20,9 +20,11 @@ use Rattle.tape.specs.declared.Met.the-variants as met
 use Rattle.tape.specs.declared.Swept.{Swept}
 use Rattle.tape.specs.declared.Swept.the-variants as swept
 use Rattle.tape.proofs.Accepted.{clash}
-use Rattle.tape.proofs.Passes.{first-order, order-below}
+use Rattle.tape.proofs.Outcomes.{Outcome, at-end, at-fault, outcome, over-gap, over-mark, over-record}
+use Rattle.tape.proofs.Passes.{PiecesAt, first-order, order-below, pieces-whole}
 use Rattle.tape.proofs.ReadBlocks.{piece-read}
-use Rattle.tape.proofs.Within.{gap-within, mark-within, pass-onward}
+use Rattle.tape.proofs.Within.{RecordIn, gap-within, mark-within, pass-onward, pass-within}
+use Rattle.signals.specs.Codes.{commandOf, controlMode, formatMode, positionMode, readMode, singleMode, writeMode}
 use Rattle.signals.specs.Numbers.{pointerLimit}
 use Rattle.signals.specs.declared.codes.Command.{Command}
 use Rattle.signals.specs.declared.codes.Command.the-variants as command
@@ -56,9 +58,11 @@ use Rattle.commands.specs.Ends.{motionPlan, still, told, untold}
 use Rattle.commands.specs.declared.plans.Answer.{Answer}
 use Rattle.commands.specs.declared.plans.Answer.the-variants as answer
 use Rattle.commands.specs.declared.plans.Plan.{Plan}
+use Rattle.advance.specs.Rules.{reverseFirst}
 use Rattle.advance.specs.Steps.{advanced}
 use Rattle.demands.specs.Faults.{FaultAt, FirstFault, ReadOver, damaged, metAt, not-due, nothing-yet, out-of-place, then-gap, then-mark, then-record}
 use Rattle.demands.specs.Ways.{Way, attention, bad-pointer, carried, header, idle, locked, lost, no-buffer, no-extent, no-header, no-words, not-executable, not-mounted, not-owned, packet, started, unknown}
+use Rattle.demands.proofs.ReadBack.{found-at-once, read-found}
 use Rattle.demands.proofs.Ways.{advanced-way}
 
 -- a block is piece i of a record of n bytes exactly where the test says so
@@ -171,16 +175,70 @@ bad-below s e reverse q k h (not-due {n = n} {j = j} fits one l f g) =
     omega (arith, lowest-below reverse q e (piecesOf n) h fits, order-below reverse (piecesOf n) j l)
 
 -- what was read over leads to no position beyond the recorded end
-pub over-below : (s : List ℕ) (e : ℕ) {p q : ℕ} → p ≤ e → ReadOver s e p q → q ≤ e
-over-below s e h nothing-yet = h
-over-below s e h (then-record {q = q} o reverse y) = pass-onward s reverse q e (over-below s e h o) y .below
-over-below s e h (then-mark {q = q} o reverse y) = mark-within s reverse q e (over-below s e h o) y .below
-over-below s e h (then-gap {q = q} o reverse y) = gap-within s reverse q e (over-below s e h o) y .below
+pub over-below : (s : List ℕ) (e : ℕ) (reverse : Bool) {p q : ℕ} → p ≤ e → ReadOver s e reverse p q → q ≤ e
+over-below s e reverse h nothing-yet = h
+over-below s e reverse h (then-record {q = q} o y) = pass-onward s reverse q e (over-below s e reverse h o) y .below
+over-below s e reverse h (then-mark {q = q} o y) = mark-within s reverse q e (over-below s e reverse h o) y .below
+over-below s e reverse h (then-gap {q = q} o y) = gap-within s reverse q e (over-below s e reverse h o) y .below
 
 -- the first block met decides what is met
 pass-by : (s : List ℕ) (e : ℕ) (reverse : Bool) (q : ℕ) (b : Block) → 1 ≤ ahead reverse q e → classAt s (firstMet reverse q) ≡ b → passed s reverse q e ≡ metBy s reverse q e b
 unfolding passed
 pass-by s e reverse q b h c = rw (ne-eqb (ahead reverse q e) 0 (λ z. omega arith), c)
+
+-- a record of n bytes, all of whose pieces stand ahead, is met whole
+record-whole : (s : List ℕ) (e : ℕ) (reverse : Bool) (q n : ℕ) → 1 ≤ n → piecesOf n ≤ ahead reverse q e → PiecesAt s (lowest reverse q (piecesOf n)) n → passed s reverse q e ≡ met.Record n (beyond reverse q (piecesOf n))
+unfolding metBy recordMet
+record-whole s e reverse q n some fits all =
+    let m : ℕ = piecesOf n in
+    let i : ℕ = orderMet reverse m 0 in
+    let c : classAt s (firstMet reverse q) ≡ block.Piece n i = rw (first-order reverse q e m (omega arith) fits) (all i (order-below reverse m 0 (omega arith))) in
+    pass-by s e reverse q (block.Piece n i) (omega arith) c
+    ∙ rw (eq-eqb i i refl, le-leb m (ahead reverse q e) fits) (pieces-whole s reverse n (lowest reverse q m) 1 (m - 1) _ all (omega arith))
+
+-- the way back from beyond m blocks: they lie ahead, from the same block on, and beyond them is where the way began
+back-ahead : (reverse : Bool) (q e m : ℕ) → q ≤ e → m ≤ ahead reverse q e → m ≤ ahead (not reverse) (beyond reverse q m) e
+back-ahead true q e m h k = omega arith
+back-ahead false q e m h k = omega arith
+
+back-lowest : (reverse : Bool) (q m : ℕ) → lowest (not reverse) (beyond reverse q m) m ≡ lowest reverse q m
+back-lowest true q m = refl
+back-lowest false q m = omega arith
+
+back-beyond : (reverse : Bool) (q e m : ℕ) → m ≤ ahead reverse q e → beyond (not reverse) (beyond reverse q m) m ≡ q
+back-beyond true q e m k = omega arith
+back-beyond false q e m k = omega arith
+
+module _ (s : List ℕ) (e : ℕ) (reverse : Bool) (q : ℕ) (h : q ≤ e) where
+  -- a record that was met is met the other way too, from beyond it
+  abbrev Back : Met → Type 0
+  Back (met.Record n t) = passed s (not reverse) t e ≡ met.Record n q
+  Back (met.Mark t) = Always
+  Back (met.Gap t) = Always
+  Back met.Nothing = Always
+  Back (met.Bad k) = Always
+
+  back-by : (x : Met) → Outcome s reverse q e x → Back x
+  back-by x (at-end z y) = rw y tt
+  back-by x (over-record n some most fits all y) =
+      let m : ℕ = piecesOf n in
+      let t : ℕ = beyond reverse q m in
+      let w : passed s (not reverse) t e ≡ met.Record n (beyond (not reverse) t m) =
+      record-whole s e (not reverse) t n some (back-ahead reverse q e m h fits) (rw (back-lowest reverse q m) all) in
+      rw y (rw (back-beyond reverse q e m fits) at w)
+  back-by x (over-mark f c y) = rw y tt
+  back-by x (over-gap f c y) = rw y tt
+  back-by x (at-fault k y) = rw y tt
+
+  -- the pass back over a record meets it again, and leads to where the pass over it began
+  pub pass-back : {n t : ℕ} → passed s reverse q e ≡ met.Record n t → passed s (not reverse) t e ≡ met.Record n q
+  pass-back y = rw y at (back-by (passed s reverse q e) (outcome s reverse q e))
+
+  -- so a search back finds it at once
+  sought-back : {n t : ℕ} → passed s reverse q e ≡ met.Record n t → sought s (not reverse) t e ≡ sought-as.Record n q
+  sought-back {n = n} {t = t} y =
+      let i : RecordIn reverse e n t = pass-within s reverse q e h y in
+      found-at-once s (not reverse) t e n q (omega (arith, i .inside, i .some)) (pass-back y)
 
 module _ (s : List ℕ) (e : ℕ) (reverse : Bool) (q : ℕ) where
   -- a piece that is not met first, or of a record that is cut off
@@ -221,50 +279,55 @@ first-bad s e reverse q k (not-due {n = n} {j = j} fits one l f g) =
     pass-by s e reverse q (block.Piece n i) (omega arith) c
     ∙ rw (eq-eqb i i refl, le-leb m (ahead reverse q e) fits) (pieces-bad s e reverse q n j 1 (m - 1) _ one (omega arith) f g)
 
-module _ (s : List ℕ) (e : ℕ) where
+-- read this way on the reel s, recorded up to e
+module _ (s : List ℕ) (e : ℕ) (reverse : Bool) where
   -- what was read over in two stretches
-  pub then-over : {p q t : ℕ} → ReadOver s e p q → ReadOver s e q t → ReadOver s e p t
+  pub then-over : {p q t : ℕ} → ReadOver s e reverse p q → ReadOver s e reverse q t → ReadOver s e reverse p t
   then-over o nothing-yet = o
-  then-over o (then-record a reverse y) = then-record (then-over o a) reverse y
-  then-over o (then-mark a reverse y) = then-mark (then-over o a) reverse y
-  then-over o (then-gap a reverse y) = then-gap (then-over o a) reverse y
+  then-over o (then-record a y) = then-record (then-over o a) y
+  then-over o (then-mark a y) = then-mark (then-over o a) y
+  then-over o (then-gap a y) = then-gap (then-over o a) y
 
   -- the first fault from where a stretch led to is the first from where it began
-  pub first-behind : {p q k : ℕ} → ReadOver s e p q → FirstFault s e q k → FirstFault s e p k
-  first-behind o f = record { reverse = f .reverse; from = f .from; before = then-over o (f .before); fault = f .fault; below = f .below }
+  pub first-behind : {p q k : ℕ} → ReadOver s e reverse p q → FirstFault s e reverse q k → FirstFault s e reverse p k
+  first-behind o f = record { from = f .from; before = then-over o (f .before); fault = f .fault; below = f .below }
 
   -- a pass that names a block, behind what was read over
-  first-here : {p q k : ℕ} → p ≤ e → ReadOver s e p q → (reverse : Bool) → passed s reverse q e ≡ met.Bad k → FirstFault s e p k
-  first-here {q = q} {k = k} h o reverse y =
+  first-here : {p q k : ℕ} → p ≤ e → ReadOver s e reverse p q → passed s reverse q e ≡ met.Bad k → FirstFault s e reverse p k
+  first-here {q = q} {k = k} h o y =
       let f : FaultAt s e reverse q k = bad-first s e reverse q k y in
-      record { reverse = reverse; from = q; before = o; fault = f; below = bad-below s e reverse q k (over-below s e h o) f }
+      record { from = q; before = o; fault = f; below = bad-below s e reverse q k (over-below s e reverse h o) f }
+
+  -- a record of n bytes that was found from p on, with q beyond it: what was read over before it, and the pass over it
+  abbrev RecordOver : ℕ → ℕ → ℕ → Type 0
+  RecordOver p n q = (b : ℕ) × ReadOver s e reverse p b × (passed s reverse b e ≡ met.Record n q)
 
   -- what a search from p read over, and the first fault where it names a block
   abbrev SoughtOver : ℕ → Sought → Type 0
-  SoughtOver p (sought-as.Record n q) = ReadOver s e p q
-  SoughtOver p (sought-as.Mark q) = ReadOver s e p q
-  SoughtOver p (sought-as.Nothing q) = ReadOver s e p q
-  SoughtOver p (sought-as.Bad k) = FirstFault s e p k
+  SoughtOver p (sought-as.Record n q) = RecordOver p n q
+  SoughtOver p (sought-as.Mark q) = ReadOver s e reverse p q
+  SoughtOver p (sought-as.Nothing q) = ReadOver s e reverse p q
+  SoughtOver p (sought-as.Bad k) = FirstFault s e reverse p k
 
   -- the same of a search from where a stretch led to
-  sought-behind : {p q : ℕ} → ReadOver s e p q → (f : Sought) → SoughtOver q f → SoughtOver p f
-  sought-behind o (sought-as.Record n t) h = then-over o h
+  sought-behind : {p q : ℕ} → ReadOver s e reverse p q → (f : Sought) → SoughtOver q f → SoughtOver p f
+  sought-behind o (sought-as.Record n t) (b, a, y) = (b, then-over o a, y)
   sought-behind o (sought-as.Mark t) h = then-over o h
   sought-behind o (sought-as.Nothing t) h = then-over o h
   sought-behind o (sought-as.Bad k) h = first-behind o h
 
-  module _ {p : ℕ} (h : p ≤ e) (reverse : Bool) where
+  module _ {p : ℕ} (h : p ≤ e) where
     -- one turn of the search: a gap sends it on, all else ends it
-    sought-on : (q : ℕ) (x : Met) (onward : ℕ → Sought) → ReadOver s e p q → passed s reverse q e ≡ x → ((t : ℕ) → ReadOver s e p t → SoughtOver p (onward t)) → SoughtOver p (soughtOn x q onward)
+    sought-on : (q : ℕ) (x : Met) (onward : ℕ → Sought) → ReadOver s e reverse p q → passed s reverse q e ≡ x → ((t : ℕ) → ReadOver s e reverse p t → SoughtOver p (onward t)) → SoughtOver p (soughtOn x q onward)
     unfolding soughtOn
-    sought-on q (met.Record n t) onward o y on = then-record o reverse y
-    sought-on q (met.Mark t) onward o y on = then-mark o reverse y
-    sought-on q (met.Gap t) onward o y on = on t (then-gap o reverse y)
+    sought-on q (met.Record n t) onward o y on = (q, o, y)
+    sought-on q (met.Mark t) onward o y on = then-mark o y
+    sought-on q (met.Gap t) onward o y on = on t (then-gap o y)
     sought-on q met.Nothing onward o y on = o
-    sought-on q (met.Bad k) onward o y on = first-here h o reverse y
+    sought-on q (met.Bad k) onward o y on = first-here h o y
 
     -- every turn, from a position that was read over to
-    sought-from : (turns q : ℕ) → ReadOver s e p q → SoughtOver p (soughtFrom turns s reverse q e)
+    sought-from : (turns q : ℕ) → ReadOver s e reverse p q → SoughtOver p (soughtFrom turns s reverse q e)
     unfolding soughtFrom
     sought-from zero q o = o
     sought-from (suc turns) q o = sought-on q (passed s reverse q e) (λ t. soughtFrom turns s reverse t e) o refl (λ t a. sought-from turns t a)
@@ -274,13 +337,9 @@ module _ (s : List ℕ) (e : ℕ) where
     unfolding sought
     sought-over = sought-from e p nothing-yet
 
-  -- a search names the first block at fault
-  pub sought-first : (reverse : Bool) (p k : ℕ) → sought s reverse p e ≡ sought-as.Bad k → p ≤ e → FirstFault s e p k
-  sought-first reverse p k y h = rw y at (sought-over h reverse)
-
   -- the first fault where a space stopped at a block
   abbrev StopOver : ℕ → Stop → Type 0
-  StopOver p (stop-as.Bad k) = FirstFault s e p k
+  StopOver p (stop-as.Bad k) = FirstFault s e reverse p k
   StopOver p stop-as.Count = Always
   StopOver p stop-as.Mark = Always
   StopOver p stop-as.LogicalEnd = Always
@@ -288,109 +347,107 @@ module _ (s : List ℕ) (e : ℕ) where
 
   -- one turn of a space: it goes on from a position read over to, or it is over
   abbrev TurnOver : ℕ → Turn → Type 0
-  TurnOver p t = TurnHas (λ y. ReadOver s e p (y .position)) (λ z. StopOver p (z .stop)) t
+  TurnOver p t = TurnHas (λ y. ReadOver s e reverse p (y .position)) (λ z. StopOver p (z .stop)) t
 
   -- each turn of a space leads over what its search read
   turn-over : (p : ℕ) (r : Rule) (y : Span) (f : Sought) → SoughtOver p f → TurnOver p (turnOf r y f)
   unfolding turnOf recordTurn markTurn
-  turn-over p r y (sought-as.Record n q) o = either (TurnOver p) (r .marks) _ _ o o
+  turn-over p r y (sought-as.Record n q) (b, a, z) = either (TurnOver p) (r .marks) _ _ (then-record a z) (then-record a z)
   turn-over p r y (sought-as.Mark q) o = either (TurnOver p) (r .marks) _ _ (either (TurnOver p) (r .ess && y .«after_mark») _ _ tt o) tt
   turn-over p r y (sought-as.Nothing q) o = tt
   turn-over p r y (sought-as.Bad k) o = o
 
+module _ (s : List ℕ) (e : ℕ) where
+  -- a search names the first block at fault ahead of it
+  pub sought-first : (reverse : Bool) (p k : ℕ) → sought s reverse p e ≡ sought-as.Bad k → p ≤ e → FirstFault s e reverse p k
+  sought-first reverse p k y h = rw y at (sought-over s e reverse h)
+
   -- the turns of a space, the one behind the other
-  space-over : (r : Rule) (x : Span) → x .position ≤ e → StopOver (x .position) (spaced s r e x .stop)
+  space-over : (r : Rule) (x : Span) → x .position ≤ e → StopOver s e (r .reverse) (x .position) (spaced s r e x .stop)
   unfolding spaced
   space-over r x h =
-      rounds s r e (λ turns y. ReadOver s e (x .position) (y .position)) (λ z. StopOver (x .position) (z .stop))
+      let reverse : Bool = r .reverse in
+      rounds s r e (λ turns y. ReadOver s e reverse (x .position) (y .position)) (λ z. StopOver s e reverse (x .position) (z .stop))
       (λ turns y o n.
-      let found : Sought = sought s (r .reverse) (y .position) e in
-      turn-over (x .position) r y found (sought-behind o found (sought-over (over-below s e h o) (r .reverse))))
+      let found : Sought = sought s reverse (y .position) e in
+      turn-over s e reverse (x .position) r y found (sought-behind s e reverse o found (sought-over s e reverse (over-below s e reverse h o))))
       (λ turns y o w. tt) (e + 1) x nothing-yet
 
-  -- a space names the first block at fault
-  pub spaced-first : (r : Rule) (x : Span) (k : ℕ) → spaced s r e x .stop ≡ stop-as.Bad k → x .position ≤ e → FirstFault s e (x .position) k
+  -- a space names the first block at fault ahead of it
+  pub spaced-first : (r : Rule) (x : Span) (k : ℕ) → spaced s r e x .stop ≡ stop-as.Bad k → x .position ≤ e → FirstFault s e (r .reverse) (x .position) k
   spaced-first r x k y h = rw y at (space-over r x h)
 
   -- the first fault from block 0 where a sweep names a block
   abbrev SweptOver : Swept → Type 0
   SweptOver swept.Whole = Always
-  SweptOver (swept.Bad k) = FirstFault s e 0 k
+  SweptOver (swept.Bad k) = FirstFault s e false 0 k
 
   -- one turn of the sweep: every object sends it on
-  swept-on : (q : ℕ) (x : Met) (onward : ℕ → Swept) → ReadOver s e 0 q → passed s false q e ≡ x → ((t : ℕ) → ReadOver s e 0 t → SweptOver (onward t)) → SweptOver (sweptOn x onward)
+  swept-on : (q : ℕ) (x : Met) (onward : ℕ → Swept) → ReadOver s e false 0 q → passed s false q e ≡ x → ((t : ℕ) → ReadOver s e false 0 t → SweptOver (onward t)) → SweptOver (sweptOn x onward)
   unfolding sweptOn
-  swept-on q (met.Record n t) onward o y on = on t (then-record o false y)
-  swept-on q (met.Mark t) onward o y on = on t (then-mark o false y)
-  swept-on q (met.Gap t) onward o y on = on t (then-gap o false y)
+  swept-on q (met.Record n t) onward o y on = on t (then-record o y)
+  swept-on q (met.Mark t) onward o y on = on t (then-mark o y)
+  swept-on q (met.Gap t) onward o y on = on t (then-gap o y)
   swept-on q met.Nothing onward o y on = tt
-  swept-on q (met.Bad k) onward o y on = first-here (omega arith) o false y
+  swept-on q (met.Bad k) onward o y on = first-here s e false (omega arith) o y
 
   -- every turn, from a position that was read over to
-  swept-from : (turns q : ℕ) → ReadOver s e 0 q → SweptOver (sweptFrom turns s q e)
+  swept-from : (turns q : ℕ) → ReadOver s e false 0 q → SweptOver (sweptFrom turns s q e)
   unfolding sweptFrom
   swept-from zero q o = tt
   swept-from (suc turns) q o = swept-on q (passed s false q e) (λ t. sweptFrom turns s t e) o refl (λ t a. swept-from turns t a)
 
   -- "Mount reads every block below the end it is given": the sweep names the first block at fault
-  pub swept-first : (k : ℕ) → sweptBelow s e ≡ swept.Bad k → FirstFault s e 0 k
+  pub swept-first : (k : ℕ) → sweptBelow s e ≡ swept.Bad k → FirstFault s e false 0 k
   unfolding sweptBelow
   swept-first k y = rw y at (swept-from e 0 nothing-yet)
 
-module _ (s : List ℕ) (e : ℕ) where
-  -- a motion from p that names a block names the first at fault
+module _ (s : List ℕ) (e : ℕ) (reverse : Bool) where
+  -- a motion from p that names a block names the first at fault this way
   abbrev MotionOver : ℕ → Motion → Type 0
   MotionOver p (motion.Ended x) = Always
-  MotionOver p (motion.Fault k) = FirstFault s e p k
-
-  -- the same of a motion from where a stretch led to
-  motion-behind : {p q : ℕ} → ReadOver s e p q → (x : Motion) → MotionOver q x → MotionOver p x
-  motion-behind o (motion.Ended x) h = tt
-  motion-behind o (motion.Fault k) h = first-behind s e o h
+  MotionOver p (motion.Fault k) = FirstFault s e reverse p k
 
   -- a stage read over the record that it found
   abbrev StageOver : ℕ → Stage → Type 0
-  StageOver p = StageHas (MotionOver p) (λ n q. ReadOver s e p q)
+  StageOver p = StageHas (MotionOver p) (RecordOver s e reverse p)
 
   -- by what the stage's search found
-  stage-by : (p count : ℕ) (reverse : Bool) (f : Sought) → SoughtOver s e p f → StageOver p (stageBy (standing p e) count reverse f)
+  stage-by : (p count : ℕ) (f : Sought) → SoughtOver s e reverse p f → StageOver p (stageBy (standing p e) count reverse f)
   unfolding stageBy stopMotion
-  stage-by p count reverse (sought-as.Record n q) o = o
-  stage-by p count reverse (sought-as.Mark q) o = tt
-  stage-by p count reverse (sought-as.Nothing q) o = tt
-  stage-by p count reverse (sought-as.Bad k) o = o
+  stage-by p count (sought-as.Record n q) o = o
+  stage-by p count (sought-as.Mark q) o = tt
+  stage-by p count (sought-as.Nothing q) o = tt
+  stage-by p count (sought-as.Bad k) o = o
 
   module _ (r : Buffer) where
-    -- one stage from p
-    stage-over : (p : ℕ) (reverse : Bool) → p ≤ e → StageOver p (stageOf s (standing p e) (r .count) reverse)
+    -- the first stage, from p, and what goes on from the record that it found
+    stage-then : (p : ℕ) (f : ℕ → ℕ → Motion) → p ≤ e → ((n q : ℕ) → RecordOver s e reverse p n q → MotionOver p (f n q)) → MotionOver p (onRecord (stageOf s (standing p e) (r .count) reverse) f)
     unfolding stageOf
-    stage-over p reverse h = stage-by p (r .count) reverse (sought s reverse p e) (sought-over s e h reverse)
-
-    -- what goes on from the record that a stage found
-    stage-then : (p : ℕ) (reverse : Bool) (f : ℕ → ℕ → Motion) → p ≤ e → ((n q : ℕ) → q ≤ e → MotionOver q (f n q)) → MotionOver p (onRecord (stageOf s (standing p e) (r .count) reverse) f)
-    stage-then p reverse f h on =
-        on-record (MotionOver p) (λ n q. ReadOver s e p q) _ f (stage-over p reverse h) (λ n q o. motion-behind o (f n q) (on n q (over-below s e h o)))
+    stage-then p f h on = on-record (MotionOver p) (RecordOver s e reverse p) _ f (stage-by p (r .count) (sought s reverse p e) (sought-over s e reverse h)) on
 
     -- a Read is one stage, and moves what it found
-    one-over : (p : ℕ) (reverse : Bool) → p ≤ e → MotionOver p (readOne s (standing p e) r reverse)
+    one-over : (p : ℕ) → p ≤ e → MotionOver p (readOne s (standing p e) r reverse)
     unfolding readOne readMotion
-    one-over p reverse h = stage-then p reverse _ h (λ n q k. tt)
+    one-over p h = stage-then p _ h (λ n q o. tt)
 
-    -- with OPP the space back over the record that was read
-    back-over : (n q : ℕ) (reverse : Bool) → q ≤ e → MotionOver q (spaceBack s e r reverse n q)
-    unfolding spaceBack readMotion
-    back-over n q reverse h = stage-then q (not reverse) _ h (λ n′ b k. tt)
+    -- the second stage of a reread names no block: it finds the record that the first one found
+    second-read : (p n q : ℕ) → p ≤ e → RecordOver s e reverse p n q → MotionOver p (readOne s (standing q e) r (not reverse))
+    unfolding readMotion
+    second-read p n q h (b, o, y) = rw (read-found s (not reverse) q e n b r (sought-back s e reverse b (over-below s e reverse h o) y)) tt
 
-    -- a reread is two stages, each behind what the one before read over
-    reread-over : (p : ℕ) (reverse opp : Bool) → p ≤ e → MotionOver p (reread s (standing p e) r reverse opp)
+    second-space : (p n q : ℕ) → p ≤ e → RecordOver s e reverse p n q → MotionOver p (spaceBack s e r reverse n q)
+    unfolding spaceBack stageOf stageBy onRecord readMotion
+    second-space p n q h (b, o, y) = rw (sought-back s e reverse b (over-below s e reverse h o) y) tt
+
+    -- so a reread names the first at fault of its first stage
+    reread-over : (p : ℕ) (opp : Bool) → p ≤ e → MotionOver p (reread s (standing p e) r reverse opp)
     unfolding reread readThenSpace spaceThenRead
-    reread-over p reverse opp h =
-        either (MotionOver p) opp _ _
-        (stage-then p reverse _ h (λ n q k. back-over n q reverse k))
-        (stage-then p reverse _ h (λ n q k. one-over q (not reverse) k))
+    reread-over p opp h =
+        either (MotionOver p) opp _ _ (stage-then p _ h (λ n q o. second-space p n q h o)) (stage-then p _ h (λ n q o. second-read p n q h o))
 
   -- a space or a skip, by why it stopped
-  space-by : (p : ℕ) (r : Rule) (x : Span) (why : Stop) → StopOver s e p why → MotionOver p (spaceMotionBy r x e why)
+  space-by : (p : ℕ) (r : Rule) (x : Span) (why : Stop) → StopOver s e reverse p why → MotionOver p (spaceMotionBy r x e why)
   unfolding spaceMotionBy
   space-by p r x (stop-as.Bad k) o = o
   space-by p r x stop-as.Count o = tt
@@ -404,7 +461,7 @@ module _ (s : List ℕ) (e : ℕ) where
   written-over p t blocks l mark = either (MotionOver p) (ltb blocks (l .at + laidBlocks l)) _ _ tt tt
 
   -- a retry, by what its space back found
-  retry-by : (p : ℕ) (t : Tape) (blocks : ℕ) (l : Laid) (mark : Bool) (f : Sought) → SoughtOver s e p f → MotionOver p (retriedBy t blocks l mark f)
+  retry-by : (p : ℕ) (t : Tape) (blocks : ℕ) (l : Laid) (mark : Bool) (f : Sought) → SoughtOver s e reverse p f → MotionOver p (retriedBy t blocks l mark f)
   unfolding retriedBy
   retry-by p t blocks l mark (sought-as.Record n q) o = written-over p t blocks (behindGap l q) mark
   retry-by p t blocks l mark (sought-as.Mark q) o = written-over p t blocks (behindGap l q) mark
@@ -413,39 +470,40 @@ module _ (s : List ℕ) (e : ℕ) where
 
 module _ (s : List ℕ) (t : Tape) where
   -- what a motion of the tape t says
-  abbrev TapeOver : Motion → Type 0
-  TapeOver = MotionOver s (t .end) (t .position)
+  abbrev TapeOver : Bool → Motion → Type 0
+  TapeOver reverse = MotionOver s (t .end) reverse (t .position)
 
   module _ (h : t .position ≤ t .end) where
     -- the motions of the tape t, whose position is not beyond its end
-    read-over : (r : Buffer) (reverse : Bool) → TapeOver (readOne s t r reverse)
-    read-over r reverse = one-over s (t .end) r (t .position) reverse h
+    read-over : (r : Buffer) (reverse : Bool) → TapeOver reverse (readOne s t r reverse)
+    read-over r reverse = one-over s (t .end) reverse r (t .position) h
 
-    again-over : (r : Buffer) (reverse opp : Bool) → TapeOver (reread s t r reverse opp)
-    again-over r reverse opp = reread-over s (t .end) r (t .position) reverse opp h
+    again-over : (r : Buffer) (reverse opp : Bool) → TapeOver reverse (reread s t r reverse opp)
+    again-over r reverse opp = reread-over s (t .end) reverse r (t .position) opp h
 
-    position-over : (r : Rule) (count : ℕ) (enb : Bool) → TapeOver (positioned s t r count enb)
+    position-over : (r : Rule) (count : ℕ) (enb : Bool) → TapeOver (r .reverse) (positioned s t r count enb)
     unfolding positioned spaceMotion
     position-over r count enb =
         let x : Span = startSpan t count enb in
-        either TapeOver (eqb count 0) _ _ tt
-        (space-by s (t .end) (t .position) r (spaced s r (t .end) x .span) (spaced s r (t .end) x .stop) (space-over s (t .end) r x h))
+        either (TapeOver (r .reverse)) (eqb count 0) _ _ tt
+        (space-by s (t .end) (r .reverse) (t .position) r (spaced s r (t .end) x .span) (spaced s r (t .end) x .stop) (space-over s (t .end) r x h))
 
-    retry-over : (blocks : ℕ) (l : Laid) (mark : Bool) → TapeOver (retried s t blocks l mark)
+    retry-over : (blocks : ℕ) (l : Laid) (mark : Bool) → TapeOver true (retried s t blocks l mark)
     unfolding retried
-    retry-over blocks l mark = retry-by s (t .end) (t .position) t blocks l mark (sought s true (t .position) (t .end)) (sought-over s (t .end) h true)
+    retry-over blocks l mark = retry-by s (t .end) true (t .position) t blocks l mark (sought s true (t .position) (t .end)) (sought-over s (t .end) true h)
 
-  -- every motion that names a block names the first at fault, from where the tape stands
-  pub read-first : (r : Buffer) (reverse : Bool) (k : ℕ) → readOne s t r reverse ≡ motion.Fault k → t .position ≤ t .end → FirstFault s (t .end) (t .position) k
+  -- every motion that names a block names the first at fault ahead of where the tape stands
+  pub read-first : (r : Buffer) (reverse : Bool) (k : ℕ) → readOne s t r reverse ≡ motion.Fault k → t .position ≤ t .end → FirstFault s (t .end) reverse (t .position) k
   read-first r reverse k y h = rw y at (read-over h r reverse)
 
-  pub reread-first : (r : Buffer) (reverse opp : Bool) (k : ℕ) → reread s t r reverse opp ≡ motion.Fault k → t .position ≤ t .end → FirstFault s (t .end) (t .position) k
+  -- "Mode 2 reread: space reverse, read forward. Mode 3: space forward, read reverse." Only the first stage can name a block
+  pub reread-first : (r : Buffer) (reverse opp : Bool) (k : ℕ) → reread s t r reverse opp ≡ motion.Fault k → t .position ≤ t .end → FirstFault s (t .end) reverse (t .position) k
   reread-first r reverse opp k y h = rw y at (again-over h r reverse opp)
 
-  pub positioned-first : (r : Rule) (count : ℕ) (enb : Bool) (k : ℕ) → positioned s t r count enb ≡ motion.Fault k → t .position ≤ t .end → FirstFault s (t .end) (t .position) k
+  pub positioned-first : (r : Rule) (count : ℕ) (enb : Bool) (k : ℕ) → positioned s t r count enb ≡ motion.Fault k → t .position ≤ t .end → FirstFault s (t .end) (r .reverse) (t .position) k
   positioned-first r count enb k y h = rw y at (position-over h r count enb)
 
-  pub retried-first : (blocks : ℕ) (l : Laid) (mark : Bool) (k : ℕ) → retried s t blocks l mark ≡ motion.Fault k → t .position ≤ t .end → FirstFault s (t .end) (t .position) k
+  pub retried-first : (blocks : ℕ) (l : Laid) (mark : Bool) (k : ℕ) → retried s t blocks l mark ≡ motion.Fault k → t .position ≤ t .end → FirstFault s (t .end) true (t .position) k
   retried-first blocks l mark k y h = rw y at (retry-over h blocks l mark)
 
 -- an object written where the tape stands reads no block, so none is named
@@ -453,10 +511,95 @@ pub written-names-none : (t : Tape) (blocks : ℕ) (l : Laid) (mark : Bool) (k :
 unfolding writtenAt noRoom writtenMotion
 written-names-none t blocks l mark k = either (λ x. x ≡ motion.Fault k → ⊥) (ltb blocks (l .at + laidBlocks l)) _ _ (λ y. clash (cc)) (λ y. clash (cc))
 
-module _ (s : List ℕ) (e p : ℕ) where
-  -- a plan that answers with a block names the first at fault from p on
+-- the first stage of a command is reverse
+abbrev reversed : Command → Bool
+reversed command.ReadNext = false
+reversed command.ReadPrevious = true
+reversed command.RereadPrevious = true
+reversed command.RereadNext = false
+reversed command.WriteCharacteristics = false
+reversed command.Write = false
+reversed command.WriteRetry = true
+reversed command.RecordsForward = false
+reversed command.RecordsReverse = true
+reversed command.MarksForward = false
+reversed command.MarksReverse = true
+reversed command.Rewind = false
+reversed command.WriteMark = false
+reversed command.Erase = false
+reversed command.MarkRetry = true
+reversed command.Release = false
+reversed command.Unload = false
+reversed command.Clean = false
+reversed command.Initialize = false
+reversed command.GetStatus = false
+reversed command.Illegal = false
+
+-- by the mode, for each code
+module _ (mode : ℕ) where
+  read-way : reversed (readMode mode) ≡ (eqb mode 1 || eqb mode 2)
+  unfolding readMode
+  read-way =
+      let P : Command → Type 0 = λ c. reversed c ≡ (eqb mode 1 || eqb mode 2) in
+      pick-told P (eqb mode 0) _ _ (λ t. rw (eqb-true mode 0 t)) (λ z.
+      pick-told P (eqb mode 1) _ _ (λ t. rw t) (λ a.
+      pick-told P (eqb mode 2) _ _ (λ t. rw (a, t)) (λ b.
+      either P (eqb mode 3) _ _ (rw (a, b)) (rw (a, b)))))
+
+  write-way : reversed (writeMode mode) ≡ eqb mode 2
+  unfolding writeMode
+  write-way =
+      let P : Command → Type 0 = λ c. reversed c ≡ eqb mode 2 in
+      pick-told P (eqb mode 0) _ _ (λ t. rw (eqb-true mode 0 t)) (λ z. pick-told P (eqb mode 2) _ _ (λ t. rw t) (λ t. rw t))
+
+  position-way : reversed (positionMode mode) ≡ (eqb mode 1 || eqb mode 3)
+  unfolding positionMode
+  position-way =
+      let P : Command → Type 0 = λ c. reversed c ≡ (eqb mode 1 || eqb mode 3) in
+      pick-told P (eqb mode 0) _ _ (λ t. rw (eqb-true mode 0 t)) (λ z.
+      pick-told P (eqb mode 1) _ _ (λ t. rw t) (λ a.
+      pick-told P (eqb mode 2) _ _ (λ t. rw (eqb-true mode 2 t)) (λ b.
+      pick-told P (eqb mode 3) _ _ (λ t. rw (a, t)) (λ c. either P (eqb mode 4) _ _ (rw (a, c)) (rw (a, c))))))
+
+  format-way : reversed (formatMode mode) ≡ eqb mode 2
+  unfolding formatMode
+  format-way =
+      let P : Command → Type 0 = λ c. reversed c ≡ eqb mode 2 in
+      pick-told P (eqb mode 0) _ _ (λ t. rw (eqb-true mode 0 t)) (λ z.
+      pick-told P (eqb mode 1) _ _ (λ t. rw (eqb-true mode 1 t)) (λ a. pick-told P (eqb mode 2) _ _ (λ t. rw t) (λ t. rw t)))
+
+  control-way : reversed (controlMode mode) ≡ false
+  unfolding controlMode
+  control-way =
+      let P : Command → Type 0 = λ c. reversed c ≡ false in
+      either P (eqb mode 0) _ _ refl (either P (eqb mode 1) _ _ refl (either P (eqb mode 2) _ _ refl refl))
+
+  single-way : (c : Command) → reversed c ≡ false → reversed (singleMode c mode) ≡ false
+  unfolding singleMode
+  single-way c h = either (λ x. reversed x ≡ false) (eqb mode 0) c _ h refl
+
+-- and so by the code, as the rule of step 9 has it
+way-of : (h : Header) → reversed (commandOf (h .code) (h .mode)) ≡ reverseFirst h
+unfolding commandOf
+way-of h =
+    let code : ℕ = h .code in
+    let mode : ℕ = h .mode in
+    let P : Command → Type 0 = λ c. reversed c ≡ reverseFirst h in
+    pick-told P (eqb code 1) _ _ (λ t. simp (eqb-true code 1 t, or-false) (read-way mode)) (λ one.
+    pick-told P (eqb code 4) _ _ (λ t. rw (eqb-true code 4 t) (single-way mode command.WriteCharacteristics refl)) (λ four.
+    pick-told P (eqb code 5) _ _ (λ t. simp (eqb-true code 5 t, or-false) (write-way mode)) (λ five.
+    pick-told P (eqb code 8) _ _ (λ t. simp (eqb-true code 8 t, or-false) (position-way mode)) (λ eight.
+    pick-told P (eqb code 9) _ _ (λ t. rw (eqb-true code 9 t) (format-way mode)) (λ nine.
+    let none : reverseFirst h ≡ false = rw (one, five, eight, nine) in
+    rw none
+    (either (λ c. reversed c ≡ false) (eqb code 10) _ _ (control-way mode)
+    (either (λ c. reversed c ≡ false) (eqb code 11) _ _ (single-way mode command.Initialize refl)
+    (either (λ c. reversed c ≡ false) (eqb code 15) _ _ (single-way mode command.GetStatus refl) refl))))))))
+
+module _ (s : List ℕ) (e : ℕ) (reverse : Bool) (p : ℕ) where
+  -- a plan that answers with a block names the first at fault this way from p on
   abbrev AnswerOver : Answer → Type 0
-  AnswerOver (answer.BadBlock k) = FirstFault s e p k
+  AnswerOver (answer.BadBlock k) = FirstFault s e reverse p k
   AnswerOver (answer.Done i) = Always
   AnswerOver answer.Idle = Always
   AnswerOver (answer.Refused n) = Always
@@ -466,7 +609,7 @@ module _ (s : List ℕ) (e p : ℕ) where
   PlanOver x = AnswerOver (x .answer)
 
   -- a motion's fault is its plan's answer
-  plan-over : (u : Unit) (ie : Bool) (x : Motion) → MotionOver s e p x → PlanOver (motionPlan u ie x)
+  plan-over : (u : Unit) (ie : Bool) (x : Motion) → MotionOver s e reverse p x → PlanOver (motionPlan u ie x)
   unfolding motionPlan told still
   plan-over u ie (motion.Ended x) h = tt
   plan-over u ie (motion.Fault k) h = h
@@ -481,31 +624,31 @@ module _ (s : List ℕ) (e p : ℕ) where
 -- a command carried out in the state u
 module _ (u : Unit) (m s : List ℕ) (h : Header) (x : Packet) (below-end : u .tape .position ≤ u .tape .end) where
   -- its plan, from where the tape stands
-  abbrev CommandOver : Plan → Type 0
-  CommandOver = PlanOver s (u .tape .end) (u .tape .position)
+  abbrev CommandOver : Bool → Plan → Type 0
+  CommandOver reverse = PlanOver s (u .tape .end) reverse (u .tape .position)
 
   -- the plan of a command that moves the tape
-  moved-over : (y : Motion) → TapeOver s (u .tape) y → CommandOver (motionPlan u (h .ie) y)
-  moved-over y o = plan-over s (u .tape .end) (u .tape .position) u (h .ie) y o
+  moved-over : (reverse : Bool) (y : Motion) → TapeOver s (u .tape) reverse y → CommandOver reverse (motionPlan u (h .ie) y)
+  moved-over reverse y o = plan-over s (u .tape .end) reverse (u .tape .position) u (h .ie) y o
 
-  -- every command
-  command-over : (c : Command) → CommandOver (carriedOut u m s h x c)
+  -- every command, the way of its first stage
+  command-over : (c : Command) → CommandOver (reversed c) (carriedOut u m s h x c)
   unfolding carriedOut readBy rereadBy positionedBy writtenBy formatted rewound released unloaded plainEffect told untold still
-  command-over command.ReadNext = moved-over _ (read-over s (u .tape) below-end (asked h x) false)
-  command-over command.ReadPrevious = moved-over _ (read-over s (u .tape) below-end (asked h x) true)
-  command-over command.RereadPrevious = moved-over _ (again-over s (u .tape) below-end (asked h x) true (h .opp))
-  command-over command.RereadNext = moved-over _ (again-over s (u .tape) below-end (asked h x) false (h .opp))
-  command-over command.WriteCharacteristics = characterized-over s (u .tape .end) (u .tape .position) u m x (h .ie)
-  command-over command.Write = moved-over _ (written-over s (u .tape .end) (u .tape .position) (u .tape) _ _ _)
-  command-over command.WriteRetry = moved-over _ (retry-over s (u .tape) below-end _ _ _)
-  command-over command.RecordsForward = moved-over _ (position-over s (u .tape) below-end _ _ _)
-  command-over command.RecordsReverse = moved-over _ (position-over s (u .tape) below-end _ _ _)
-  command-over command.MarksForward = moved-over _ (position-over s (u .tape) below-end _ _ _)
-  command-over command.MarksReverse = moved-over _ (position-over s (u .tape) below-end _ _ _)
+  command-over command.ReadNext = moved-over _ _ (read-over s (u .tape) below-end (asked h x) false)
+  command-over command.ReadPrevious = moved-over _ _ (read-over s (u .tape) below-end (asked h x) true)
+  command-over command.RereadPrevious = moved-over _ _ (again-over s (u .tape) below-end (asked h x) true (h .opp))
+  command-over command.RereadNext = moved-over _ _ (again-over s (u .tape) below-end (asked h x) false (h .opp))
+  command-over command.WriteCharacteristics = characterized-over s (u .tape .end) false (u .tape .position) u m x (h .ie)
+  command-over command.Write = moved-over _ _ (written-over s (u .tape .end) false (u .tape .position) (u .tape) _ _ _)
+  command-over command.WriteRetry = moved-over _ _ (retry-over s (u .tape) below-end _ _ _)
+  command-over command.RecordsForward = moved-over _ _ (position-over s (u .tape) below-end _ _ _)
+  command-over command.RecordsReverse = moved-over _ _ (position-over s (u .tape) below-end _ _ _)
+  command-over command.MarksForward = moved-over _ _ (position-over s (u .tape) below-end _ _ _)
+  command-over command.MarksReverse = moved-over _ _ (position-over s (u .tape) below-end _ _ _)
   command-over command.Rewind = tt
-  command-over command.WriteMark = moved-over _ (written-over s (u .tape .end) (u .tape .position) (u .tape) _ _ _)
-  command-over command.Erase = moved-over _ (written-over s (u .tape .end) (u .tape .position) (u .tape) _ _ _)
-  command-over command.MarkRetry = moved-over _ (retry-over s (u .tape) below-end _ _ _)
+  command-over command.WriteMark = moved-over _ _ (written-over s (u .tape .end) false (u .tape .position) (u .tape) _ _ _)
+  command-over command.Erase = moved-over _ _ (written-over s (u .tape .end) false (u .tape .position) (u .tape) _ _ _)
+  command-over command.MarkRetry = moved-over _ _ (retry-over s (u .tape) below-end _ _ _)
   command-over command.Release = tt
   command-over command.Unload = tt
   command-over command.Clean = tt
@@ -515,7 +658,7 @@ module _ (u : Unit) (m s : List ℕ) (h : Header) (x : Packet) (below-end : u .t
 
 module _ (u : Unit) (m s : List ℕ) (below-end : u .tape .position ≤ u .tape .end) where
   -- only a command carried out can answer with a block: the other ways answer Done or Idle
-  way-over : {x : Plan} → Way u m s x → PlanOver s (u .tape .end) (u .tape .position) x
+  way-over : {x : Plan} → Way u m s x → PlanOver s (u .tape .end) (reverseFirst (header u m s)) (u .tape .position) x
   unfolding told untold still
   way-over (idle a b) = tt
   way-over (attention a b) = tt
@@ -530,10 +673,14 @@ module _ (u : Unit) (m s : List ℕ) (below-end : u .tape .position ≤ u .tape 
   way-over (locked f a b c) = tt
   way-over (not-executable f a b c d) = tt
   way-over (no-extent r a) = tt
-  way-over (carried r a) = command-over (started u m s) m s (header u m s) (packet u m s) below-end _
+  way-over (carried r a) =
+      let h : Header = header u m s in
+      rw (← way-of h) (command-over (started u m s) m s h (packet u m s) below-end (commandOf (h .code) (h .mode)))
 
--- "A command reads each block of every object it passes, in the order met; the first at fault is named."
-pub advanced-first : (u : Unit) (m s : List ℕ) (k : ℕ) → u .tape .position ≤ u .tape .end → advanced u m s .answer ≡ answer.BadBlock k → FirstFault s (u .tape .end) (u .tape .position) k
+-- "A command reads each block of every object it passes, in the order met; the first at fault is named.": the first that lies ahead of where
+-- the tape stands, the way of the command's first stage
+pub advanced-first : (u : Unit) (m s : List ℕ) (k : ℕ) → u .tape .position ≤ u .tape .end → advanced u m s .answer ≡ answer.BadBlock k
+    → FirstFault s (u .tape .end) (reverseFirst (header u m s)) (u .tape .position) k
 advanced-first u m s k below-end y =
-    let o : AnswerOver s (u .tape .end) (u .tape .position) (advanced u m s .answer) = way-over u m s below-end (advanced-way u m s) in
+    let o : AnswerOver s (u .tape .end) (reverseFirst (header u m s)) (u .tape .position) (advanced u m s .answer) = way-over u m s below-end (advanced-way u m s) in
     rw y at o
