@@ -298,6 +298,47 @@ module _ (s : List ℕ) (e : ℕ) (reverse : Bool) where
       let f : FaultAt s e reverse q k = bad-first s e reverse q k y in
       record { from = q; before = o; fault = f; below = bad-below s e reverse q k (over-below s e reverse h o) f }
 
+  -- where a pass over a whole object led
+  abbrev Leads : Met → ℕ → Type 0
+  Leads (met.Record n q) t = q ≡ t
+  Leads (met.Mark q) t = q ≡ t
+  Leads (met.Gap q) t = q ≡ t
+  Leads met.Nothing t = ⊥
+  Leads (met.Bad k) t = ⊥
+
+  one-way : (x : Met) {t t₂ : ℕ} → Leads x t → Leads x t₂ → t ≡ t₂
+  one-way (met.Record n q) a b = sym a ∙ b
+  one-way (met.Mark q) a b = sym a ∙ b
+  one-way (met.Gap q) a b = sym a ∙ b
+  one-way met.Nothing a b = absurd a
+  one-way (met.Bad k) a b = absurd a
+
+  -- block k is the one named ahead of a position: by the pass from there, or further on, from where that pass leads
+  data NamedAhead (k : ℕ) : ℕ → Type 0 where
+    at-once : {q : ℕ} → passed s reverse q e ≡ met.Bad k → NamedAhead k q
+    further : {q t : ℕ} → Leads (passed s reverse q e) t → NamedAhead k t → NamedAhead k q
+
+  -- behind what was read over too, an object at a time
+  named-behind : {p q k : ℕ} → ReadOver s e reverse p q → NamedAhead k q → NamedAhead k p
+  named-behind nothing-yet a = a
+  named-behind (then-record o y) a = named-behind o (further (rw y refl) a)
+  named-behind (then-mark o y) a = named-behind o (further (rw y refl) a)
+  named-behind (then-gap o y) a = named-behind o (further (rw y refl) a)
+
+  first-named : {p k : ℕ} → FirstFault s e reverse p k → NamedAhead k p
+  first-named {k = k} f = named-behind (f .before) (at-once (first-bad s e reverse (f .from) k (f .fault)))
+
+  -- a pass from one position has one outcome
+  one-named : {q k k₂ : ℕ} → NamedAhead k q → NamedAhead k₂ q → k ≡ k₂
+  one-named (at-once y) (at-once z) = cc (y, z)
+  one-named (at-once y) (further l b) = absurd (rw y at l)
+  one-named (further l a) (at-once z) = absurd (rw z at l)
+  one-named {q = q} {k₂ = k₂} (further l a) (further l₂ b) = one-named a (subst (NamedAhead k₂) (one-way (passed s reverse q e) l₂ l) b)
+
+  -- one block only is the first at fault that lies ahead of p
+  pub first-unique : {p k k₂ : ℕ} → FirstFault s e reverse p k → FirstFault s e reverse p k₂ → k ≡ k₂
+  first-unique f g = one-named (first-named f) (first-named g)
+
   -- a record of n bytes that was found from p on, with q beyond it: what was read over before it, and the pass over it
   abbrev RecordOver : ℕ → ℕ → ℕ → Type 0
   RecordOver p n q = (b : ℕ) × ReadOver s e reverse p b × (passed s reverse b e ≡ met.Record n q)
