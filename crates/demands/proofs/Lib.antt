@@ -1,4 +1,7 @@
 -- Theorems over the unit's definitions.
+pub mod Ways
+pub mod Faults
+pub mod Carried
 pub mod Residuals
 pub mod ReadBack
 pub mod Kept
