@@ -1,5 +1,6 @@
 -- Laws of sessions.
 pub mod Striking
+pub mod Stood
 pub mod Keeping
 pub mod Taken
 pub mod Room

@@ -29,7 +29,7 @@ module _ (M : Machine) where
   strike-clean (not c a ∷ l) = strike-clean l
   strike-clean (undid ∷ l) = pop-clean (strike-clean l)
 
-  nil-cons : {l es : List (M .E)} {e : M .E} → l ≡ [] → l ≡ e ∷ es → ⊥
+  pub nil-cons : {l es : List (M .E)} {e : M .E} → l ≡ [] → l ≡ e ∷ es → ⊥
   nil-cons p q = let z : _≡_ {A = ℕ} 0 1 = cc in omega arith
 
   -- a clean log's steps are its moment's entries
