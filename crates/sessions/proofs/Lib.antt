@@ -5,6 +5,7 @@ pub mod Keeping
 pub mod Taken
 pub mod Room
 pub mod Calls
+pub mod Lengths
 pub mod Mounting
 pub mod Backs
 pub mod Unique
