@@ -4,7 +4,7 @@ use mathlib.Core.List.{List, [], _∷_, map}
 use Prim.Native.Nat.{ℕ, zero, suc, _≤_}
 use native.Mathlib.Omega.{arith}
 use lib.ListN.{drop, getD, length, length-map}
-use Rattle.sessions.specs.Session.{Done, Lawful, Machine, Now, Ran, Standing, and-did, and-not, and-saw, and-undid, back, backFrom, backs, before, entryOf, start, stood}
+use Rattle.sessions.specs.Session.{Done, Lawful, Machine, Now, Ran, and-did, and-not, and-saw, and-undid, back, backFrom, backs, before, entryOf, start, stood}
 use Rattle.sessions.proofs.Striking.{back-step, fit-ran, nil-cons}
 
 -- of a list without its first

@@ -62,7 +62,7 @@ module _ (M : Machine) where
   goes-on {s = s} c r = on-by c (M .kind c s) refl r
 
   -- and so does every step back, where there is an entry
-  pub goes-back : {s₀ s : Now M} {l : List (Done M)} {e : M .E} {es : List (M .E)} → s .entries ≡ e ∷ es → Ran M s₀ l s → Ran M s₀ (undid ∷ l) (back M s)
+  unfoldable pub goes-back : {s₀ s : Now M} {l : List (Done M)} {e : M .E} {es : List (M .E)} → s .entries ≡ e ∷ es → Ran M s₀ l s → Ran M s₀ (undid ∷ l) (back M s)
   goes-back {s = s} q r = and-undid r q (ap (λ x. backFrom M x (s .core)) q)
 
   -- of a machine whose steps are undone

@@ -1,5 +1,5 @@
 -- A host of the exported calls: it holds the state's block and three buffers, and hands them to one call after another.
-use mathlib.Core.List.{List, [], _∷_}
+use mathlib.Core.List.{List, [], _∷_, map}
 use mathlib.Core.Path.{_≡_}
 use Prim.Native.Nat.{ℕ, suc}
 use lib.ListN.{drop, length}
@@ -7,8 +7,8 @@ use Rattle.lists.specs.Words.{Bytes}
 use Rattle.entries.specs.Entries.{usedIn}
 use Rattle.worlds.specs.Worlds.{Answered}
 use Rattle.worlds.specs.Passes.{Fit}
-use Rattle.sessions.specs.Session.{Kind, looked, refused, stepped}
-use Rattle.sessions.specs.Calling.{Call, Here, Noted, journalOf, callKind, lengthOf, onCall, worldFrom}
+use Rattle.sessions.specs.Session.{Kind, Standing, entryOf, looked, refused, stepped}
+use Rattle.sessions.specs.Calling.{Call, Here, Noted, callKind, calls, journalOf, lengthOf, onCall, worldFrom}
 use Rattle.kept.specs.Formed.{Formed}
 use Rattle.sessions.specs.Good.{Fresh}
 use Rattle.ts11.specs.Block.{Block, sessionIn}
@@ -91,9 +91,10 @@ pub record GoodHost (h : Host) : Type 0 where
   pub fit : Fit (length (h .journal)) (worldIn h)
   pub formed : Formed (h .reel) (sessionIn (h .block) .unit .tape)
 
--- "the journal holds one entry per step taken and still standing": the used journal is k entries and nothing else
-pub record Entries (h : Host) (k : ℕ) : Type 0 where
+-- "the journal holds one entry per step taken and still standing": the used journal is the entries of these steps, each that step's own, and
+-- nothing else
+pub record Entries (h : Host) (n : ℕ) (steps : List (Standing (calls n))) : Type 0 where
   pub noted : List Noted
-  pub count : length noted ≡ k
+  pub each : noted ≡ map (entryOf (calls n)) steps
   pub used : sessionIn (h .block) .used ≡ lengthOf noted
   pub bytes : usedIn (sessionIn (h .block) .used) (h .journal) ≡ journalOf noted
