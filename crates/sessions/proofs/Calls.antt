@@ -9,10 +9,10 @@ use Rattle.commands.specs.declared.plans.Answer.the-variants as answer
 use Rattle.unit.specs.Cores.{Core}
 use Rattle.worlds.specs.Worlds.{answered}
 use Rattle.worlds.specs.Calls.{backOn, guarded, noted, refusedAs}
-use Rattle.sessions.specs.Session.{Clean, Done, Kind, Lawful, Ran, after, and-did, and-saw, back, backFrom, backs, before, does, entryOf, looked, one-did, one-saw, pops, refused, standing, start, stepped, stood, strike}
+use Rattle.sessions.specs.Session.{Clean, Done, Kind, Lawful, Ran, after, and-did, and-saw, back, backFrom, backs, before, does, entryOf, looked, one-did, one-saw, refused, start, stepped, stood, strike}
 use Rattle.sessions.specs.Calling.{Call, Here, Noted, backCalls, broughtBack, calls, doing, entryAt, journalOf, kindNow, ledgerOf, lengthOf, notedAt, onCall, stepTo, worldFrom}
 use Rattle.sessions.specs.Good.{Fresh, Good}
-use Rattle.sessions.proofs.Striking.{entries-stand, fit-clean, fit-ran, goes-back, one-end, strike-clean, struck, went-back}
+use Rattle.sessions.proofs.Striking.{fit-clean, fit-ran, goes-back, strike-clean, struck}
 use Rattle.sessions.proofs.Stood.{stands-as, went-to}
 use Rattle.worlds.proofs.Undoing.{core-undone}
 use Rattle.sessions.proofs.Taken.{doing-keeps, doing-sound, stays, step-fit, step-undone, took}
@@ -64,18 +64,6 @@ module _ (n : ℕ) where
     -- what was undone never was
     pub never-was : Ran (calls n) s₀ (strike (calls n) l) s
     never-was = struck (calls n) lawful (f .good) (f .none) r
-
-    -- "the journal holds one entry per step taken and still standing": the world's ledger is, by `worldFrom`, that of the entries
-    pub one-each : length (s .entries) ≡ standing (calls n) (strike (calls n) l)
-    one-each = entries-stand (calls n) (f .none) (strike-clean (calls n) l) never-was
-
-    -- "going back k gives the state, memory and reel before the earliest of those k"
-    pub back-to : (k : ℕ) → k ≤ standing (calls n) (strike (calls n) l) → Ran (calls n) s₀ (pops (calls n) k (strike (calls n) l)) (backs (calls n) k s)
-    back-to k h = went-back (calls n) lawful k (f .good) (f .none) (strike-clean (calls n) l) never-was h
-
-    -- the log without its k newest steps leads to one moment, and that is where going back k leads
-    pub back-exactly : (k : ℕ) {s′ : Here} → k ≤ standing (calls n) (strike (calls n) l) → Ran (calls n) s₀ (pops (calls n) k (strike (calls n) l)) s′ → backs (calls n) k s ≡ s′
-    back-exactly k h q = one-end (calls n) (back-to k h) q
 
     -- the call leads where the model leads: with an entry it is done, without one it is refused with 6
     pub back-does : {e : Noted} {es : List Noted} → s .entries ≡ e ∷ es → backOn (worldFrom n s) n ≡ answered (answer.Done false) (worldFrom n (back (calls n) s))

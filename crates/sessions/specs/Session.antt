@@ -108,10 +108,6 @@ module _ (M : Machine) where
   pop (not k a ∷ l) = pop l
   pop (undid ∷ l) = pop l
 
-  abbrev pub pops : ℕ → List Done → List Done
-  pops zero l = l
-  pops (suc k) l = pops k (pop l)
-
   -- each step back is struck together with the step it removed, what stands between, and every refusal
   abbrev pub strike : List Done → List Done
   strike [] = []
@@ -125,11 +121,3 @@ module _ (M : Machine) where
     none : Clean []
     one-did : {l : List Done} {k : M .K} {a : M .A} → Clean l → Clean (did k a ∷ l)
     one-saw : {l : List Done} {k : M .K} {a : M .A} → Clean l → Clean (saw k a ∷ l)
-
-  -- how many steps stand in a log with no step back
-  abbrev pub standing : List Done → ℕ
-  standing [] = 0
-  standing (did k a ∷ l) = suc (standing l)
-  standing (saw k a ∷ l) = standing l
-  standing (not k a ∷ l) = standing l
-  standing (undid ∷ l) = standing l
