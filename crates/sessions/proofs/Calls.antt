@@ -1,18 +1,19 @@
 -- The calls' machine is lawful, and what holds of any session of them from a mounted reel on.
 use mathlib.Core.Path.{_≡_, refl, sym, ap, _∙_}
 use mathlib.Core.Bool.{false}
-use mathlib.Core.List.{List, [], _∷_}
-use Prim.Native.Nat.{ℕ, _≤_}
+use mathlib.Core.List.{List, [], _∷_, map}
+use Prim.Native.Nat.{ℕ, zero, suc, _≤_}
 use native.Mathlib.Omega.{arith}
-use lib.ListN.{length}
+use lib.ListN.{length, length-map}
 use Rattle.commands.specs.declared.plans.Answer.the-variants as answer
 use Rattle.unit.specs.Cores.{Core}
 use Rattle.worlds.specs.Worlds.{answered}
 use Rattle.worlds.specs.Calls.{backOn, guarded, noted, refusedAs}
-use Rattle.sessions.specs.Session.{Clean, Done, Kind, Lawful, Ran, after, and-did, and-saw, back, backs, does, looked, one-did, one-saw, pops, refused, standing, start, stepped, strike}
-use Rattle.sessions.specs.Calling.{Call, Here, Noted, broughtBack, calls, doing, entryAt, journalOf, kindNow, ledgerOf, lengthOf, notedAt, onCall, stepTo, worldFrom}
+use Rattle.sessions.specs.Session.{Clean, Done, Kind, Lawful, Ran, after, and-did, and-saw, back, backFrom, backs, before, does, entryOf, looked, one-did, one-saw, refused, start, stepped, stood, strike}
+use Rattle.sessions.specs.Calling.{Call, Here, Noted, backCalls, broughtBack, calls, doing, entryAt, journalOf, kindNow, ledgerOf, lengthOf, notedAt, onCall, stepTo, worldFrom}
 use Rattle.sessions.specs.Good.{Fresh, Good}
-use Rattle.sessions.proofs.Striking.{entries-stand, fit-clean, fit-ran, one-end, strike-clean, struck, went-back}
+use Rattle.sessions.proofs.Striking.{fit-clean, fit-ran, goes-back, strike-clean, struck}
+use Rattle.sessions.proofs.Stood.{stands-as, went-to}
 use Rattle.worlds.proofs.Undoing.{core-undone}
 use Rattle.sessions.proofs.Taken.{doing-keeps, doing-sound, stays, step-fit, step-undone, took}
 
@@ -64,18 +65,6 @@ module _ (n : ℕ) where
     pub never-was : Ran (calls n) s₀ (strike (calls n) l) s
     never-was = struck (calls n) lawful (f .good) (f .none) r
 
-    -- "the journal holds one entry per step taken and still standing": the world's ledger is, by `worldFrom`, that of the entries
-    pub one-each : length (s .entries) ≡ standing (calls n) (strike (calls n) l)
-    one-each = entries-stand (calls n) (f .none) (strike-clean (calls n) l) never-was
-
-    -- "going back k gives the state, memory and reel before the earliest of those k"
-    pub back-to : (k : ℕ) → k ≤ standing (calls n) (strike (calls n) l) → Ran (calls n) s₀ (pops (calls n) k (strike (calls n) l)) (backs (calls n) k s)
-    back-to k h = went-back (calls n) lawful k (f .good) (f .none) (strike-clean (calls n) l) never-was h
-
-    -- the log without its k newest steps leads to one moment, and that is where going back k leads
-    pub back-exactly : (k : ℕ) {s′ : Here} → k ≤ standing (calls n) (strike (calls n) l) → Ran (calls n) s₀ (pops (calls n) k (strike (calls n) l)) s′ → backs (calls n) k s ≡ s′
-    back-exactly k h q = one-end (calls n) (back-to k h) q
-
     -- the call leads where the model leads: with an entry it is done, without one it is refused with 6
     pub back-does : {e : Noted} {es : List Noted} → s .entries ≡ e ∷ es → backOn (worldFrom n s) n ≡ answered (answer.Done false) (worldFrom n (back (calls n) s))
     back-does q = clean-back f (strike-clean (calls n) l) never-was q
@@ -83,6 +72,27 @@ module _ (n : ℕ) where
     pub back-none : s .entries ≡ [] → backOn (worldFrom n s) n ≡ refusedAs 6 (worldFrom n s)
     unfolding backOn guarded lengthOf
     back-none e = rw (always-good .fit .sound, ap lengthOf e)
+
+  -- as many calls of step back as the model's
+  back-calls-by : (k : ℕ) (es : List Noted) {s₀ s : Here} {l : List (Done (calls n))} → Fresh n s₀ → Ran (calls n) s₀ l s → s .entries ≡ es → k ≤ length es → backCalls n k (worldFrom n s) ≡ worldFrom n (backs (calls n) k s)
+  unfolding backCalls
+  back-calls-by zero es f r q h = refl
+  back-calls-by (suc k) [] f r q h = absurd (omega arith)
+  back-calls-by (suc k) (e ∷ es) {s = s} f r q h =
+      rw (back-does f r q)
+      (back-calls-by k es f (goes-back (calls n) q r) (ap (λ x. backFrom (calls n) x (s .core) .entries) q) (omega arith))
+
+  module _ {s₀ s : Here} {l : List (Done (calls n))} (f : Fresh n s₀) (r : Ran (calls n) s₀ l s) where
+    -- "the journal holds one entry per step taken and still standing": its entries are those of the steps that stand, each that step's own
+    pub entry-each : s .entries ≡ map (entryOf (calls n)) (stood (calls n) r)
+    entry-each = stands-as (calls n) (f .none) r
+
+    -- "going back k gives the state, memory and reel that stood before the earliest of those k": by k calls of step back, and no others
+    pub back-stood : (k : ℕ) → k ≤ length (stood (calls n) r) → backCalls n k (worldFrom n s) ≡ worldFrom n (before (calls n) r k)
+    back-stood k h =
+        let many : length (s .entries) ≡ length (stood (calls n) r) = ap length entry-each ∙ length-map (stood (calls n) r) (entryOf (calls n)) in
+        back-calls-by k (s .entries) f r refl (omega arith)
+        ∙ ap (worldFrom n) (went-to (calls n) lawful (f .good) (f .none) r k h)
 
   -- what the model does is what the call does
   does-by : (c : Call) (s : Here) (k : Kind) → kindNow n c s ≡ k → worldFrom n (after (calls n) k c s) ≡ onCall n c (worldFrom n s) .world

@@ -91,7 +91,7 @@ took n (read-register r) w k = read-none _ k
 
 -- what is known of the step: it changed nothing but what it touched, and kept what every step keeps
 module _ (n : ℕ) (w : World) (fit : Fit n w) where
-  accepts : Admitted (w .core)
+  pub accepts : Admitted (w .core)
   accepts = core-accepted w n (passed (sessionOf w) (length (w .core .memory)) (length (w .core .reel)) n (fit .sound))
 
   pub doing-sound : (c : Call) → callKind c (onCall n c w .answer) ≡ stepped → Sound (w .core) (doing c (w .core))

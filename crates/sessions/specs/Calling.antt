@@ -2,7 +2,7 @@
 use mathlib.Core.List.{List, [], _∷_, _++_}
 use mathlib.Core.Path.{_≡_}
 use mathlib.Core.Bool.{false}
-use Prim.Native.Nat.{ℕ, _+_}
+use Prim.Native.Nat.{ℕ, zero, suc, _+_}
 use Rattle.commands.specs.declared.plans.Answer.{Answer}
 use Rattle.commands.specs.declared.plans.Answer.the-variants as answer
 use Rattle.touched.specs.Touches.{none, savedBytes}
@@ -13,7 +13,7 @@ use Rattle.unit.specs.declared.registers.Register.{Register}
 use Rattle.entries.specs.Entries.{entryBytes, entryLength}
 use Rattle.entries.specs.declared.Entry.{Entry}
 use Rattle.worlds.specs.Worlds.{Answered, Ledger, World, answered, sessionOf}
-use Rattle.worlds.specs.Calls.{entryFor, tooFull, noted, registerOn, stepOn, undone}
+use Rattle.worlds.specs.Calls.{backOn, entryFor, noted, registerOn, stepOn, tooFull, undone}
 use Rattle.sessions.specs.Session.{Kind, Machine, Moment, looked, refused, stepped}
 
 -- a call of a session
@@ -112,6 +112,11 @@ worldFrom n s = record { core = s .core; ledger = ledgerOf n (s .entries) }
 -- a core with an entry that stands brought back
 abbrev pub broughtBack : Noted → Core → Core
 broughtBack k c = undone (k .entry) (k .saved) c
+
+-- the world after k calls of step back
+unfoldable pub backCalls : ℕ → ℕ → World → World
+backCalls n zero w = w
+backCalls n (suc k) w = backCalls n k (backOn w n .world)
 
 -- whether a call takes a step at a moment, looks, or is refused
 abbrev pub kindNow : ℕ → Call → Here → Kind

@@ -1,20 +1,22 @@
 -- What every moment of a session from a mount on has, and what a session begins with.
-use mathlib.Core.List.{List, []}
+use mathlib.Core.List.{List, [], _∷_}
 use mathlib.Core.Path.{_≡_}
 use mathlib.Core.Bool.{Bool}
-use Prim.Native.Nat.{ℕ, _-_, _<_}
+use Prim.Native.Nat.{ℕ, _+_, _-_, _<_}
 use lib.ListN.{length}
 use Rattle.kept.specs.Formed.{Formed}
 use Rattle.commands.specs.declared.plans.Answer.the-variants as answer
 use Rattle.unit.specs.Cores.{Core}
 use Rattle.unit.specs.Steps.{stepOf}
+use Rattle.unit.specs.Stores.{Stores}
 use Rattle.entries.specs.Entries.{entryLength}
 use Rattle.entries.specs.declared.Entry.{Entry}
 use Rattle.worlds.specs.declared.Session.{Session}
 use Rattle.worlds.specs.Worlds.{Answered, Ledger, World}
 use Rattle.worlds.specs.Passes.{Fit}
 use Rattle.worlds.specs.Calls.{mountOn, refusedAs}
-use Rattle.sessions.specs.Calling.{Call, Here, read-register, step, worldFrom}
+use Rattle.sessions.specs.Calling.{Call, Here, calls, doing, entryAt, read-register, step, worldFrom}
+use Rattle.sessions.specs.Session.{Standing}
 
 -- "the reel is well formed, the position is 0 or just after an object"
 abbrev pub CoreFormed : Core → Type 0
@@ -29,6 +31,16 @@ pub record Good (n : ℕ) (s : Here) : Type 0 where
 pub record Fresh (n : ℕ) (s : Here) : Type 0 where
   pub good : Good n s
   pub none : s .entries ≡ []
+
+-- "of exactly 128 bytes plus the memory and reel bytes that step stored": the entry of a step that stands, and the bytes that it stored
+pub record EntryLong (n : ℕ) (x : Standing (calls n)) : Type 0 where
+  pub stores : Stores (x .was .core) (doing (x .call) (x .was .core))
+  pub long : entryLength (entryAt (x .call) (x .was .core)) ≡ 128 + length (stores .data-bytes) + length (stores .message-bytes) + length (stores .reel-bytes)
+
+-- it holds of each in a list
+pub data Each {A : Type 0} (P : A → Type 0) : List A → Type 0 where
+  of-none : Each P []
+  and-of : {x : A} {xs : List A} → P x → Each P xs → Each P (x ∷ xs)
 
 -- the moment that a mount leaves
 abbrev pub mountMoment : Session → List ℕ → List ℕ → ℕ → ℕ → Bool → Bool → Here

@@ -1,8 +1,9 @@
 -- A session over an abstract machine: steps that add an entry, calls that add none, refusals, and steps back. Its moments have two parts: the
 -- core that a step changes and its entry brings back, and the entries of the steps that stand.
 use mathlib.Core.Path.{_≡_}
-use mathlib.Core.List.{List, [], _∷_}
+use mathlib.Core.List.{List, [], _∷_, map}
 use Prim.Native.Nat.{ℕ, zero, suc}
+use lib.ListN.{drop, getD}
 
 -- what a call did: took a step, was refused, or looked without adding an entry
 pub data Kind : Type 0 where
@@ -78,6 +79,27 @@ module _ (M : Machine) where
     and-undid : {l : List Done} {e : M .E} {es : List (M .E)} {s s′ : Now}
         → Ran s₀ l s → s .entries ≡ e ∷ es → s′ ≡ backFrom (e ∷ es) (s .core) → Ran s₀ (undid ∷ l) s′
 
+  -- a step that stands: its call, and the moment that it was taken at
+  pub record Standing : Type 0 where
+    pub call : M .K
+    pub was : Now
+
+  -- the steps of a run that stand, newest first: a step back takes the newest away
+  unfoldable pub stood : {s₀ s : Now} {l : List Done} → Ran s₀ l s → List Standing
+  stood start = []
+  stood (and-did {k = k} {s = s} r kd an st) = record { call = k; was = s } ∷ stood r
+  stood (and-saw r kd an) = stood r
+  stood (and-not r kd an) = stood r
+  stood (and-undid r q st) = drop 1 (stood r)
+
+  -- the entry of a step that stands
+  abbrev pub entryOf : Standing → M .E
+  entryOf x = M .entry (x .call) (x .was .core)
+
+  -- "the state, memory and reel that stood before the earliest of those k": of a run to s, the moment before its k newest steps that stand
+  abbrev pub before : {s₀ s : Now} {l : List Done} → Ran s₀ l s → ℕ → Now
+  before {s = s} r k = getD (s ∷ map (λ x. x .was) (stood r)) k s
+
   -- what is left when the newest step of a struck log is struck, with all that stands above it
   abbrev pub pop : List Done → List Done
   pop [] = []
@@ -85,10 +107,6 @@ module _ (M : Machine) where
   pop (saw k a ∷ l) = pop l
   pop (not k a ∷ l) = pop l
   pop (undid ∷ l) = pop l
-
-  abbrev pub pops : ℕ → List Done → List Done
-  pops zero l = l
-  pops (suc k) l = pops k (pop l)
 
   -- each step back is struck together with the step it removed, what stands between, and every refusal
   abbrev pub strike : List Done → List Done
@@ -103,11 +121,3 @@ module _ (M : Machine) where
     none : Clean []
     one-did : {l : List Done} {k : M .K} {a : M .A} → Clean l → Clean (did k a ∷ l)
     one-saw : {l : List Done} {k : M .K} {a : M .A} → Clean l → Clean (saw k a ∷ l)
-
-  -- how many steps stand in a log with no step back
-  abbrev pub standing : List Done → ℕ
-  standing [] = 0
-  standing (did k a ∷ l) = suc (standing l)
-  standing (saw k a ∷ l) = standing l
-  standing (not k a ∷ l) = standing l
-  standing (undid ∷ l) = standing l

@@ -6,10 +6,11 @@
 //              a step back that is done leaves a world that 1 to 4 pass     back-checked   proofs/Backs.antt
 //   demand 3   a mount begins such a session                                mounted        proofs/Mounting.antt
 //              the reel is well formed, the position 0 or after an object   always-good    proofs/Calls.antt
-//              one entry for each step that stands                          one-each
+//              one entry for each step that stands, and it is that step's   entry-each
 //              the journal is those entries and nothing else                stepped-world, does-that
+//              each is 128 bytes and those that its step stored             entries-long   proofs/Lengths.antt
 //              a step back gives the world before the step                  step-undone    proofs/Taken.antt
-//              going back k gives the moment before the earliest of the k   back-to, back-exactly      proofs/Calls.antt
+//              going back k gives the moment before the earliest of the k   back-stood     proofs/Calls.antt
 //              the call step back does that                                 back-does, back-none
 //              refused for room exactly when the entry doesn't fit          room-exactly   proofs/Room.antt
 //              what was undone never was                                    never-was      proofs/Calls.antt

@@ -5,11 +5,12 @@ use Prim.Native.Nat.{ℕ}
 use lib.ListN.{length}
 use Rattle.worlds.specs.Worlds.{World}
 use Rattle.worlds.specs.Passes.{Fit}
-use Rattle.sessions.specs.Session.{Done, Ran, back, standing}
+use Rattle.sessions.specs.Session.{Done, Ran, back, stood}
 use Rattle.sessions.specs.Calling.{Call, Noted, calls, entryAt, worldFrom}
 use Rattle.kept.specs.Formed.{Formed}
-use Rattle.sessions.specs.Good.{Exactly, Good, Steppable}
-use Rattle.sessions.proofs.Calls.{always-good, never-was, one-each}
+use Rattle.sessions.specs.Good.{Each, EntryLong, Exactly, Good, Steppable}
+use Rattle.sessions.proofs.Calls.{always-good, entry-each, never-was}
+use Rattle.sessions.proofs.Lengths.{entries-long}
 use Rattle.sessions.proofs.Room.{room-exactly}
 use Rattle.sessions.proofs.Striking.{one-end}
 use Rattle.ts11.specs.Given.{Host, backGiven, worldIn}
@@ -42,15 +43,19 @@ module _ {h₀ h : Host} {d : List Line} (s : Begins h₀) (r : Hosted h₀ d h)
 
 -- Whatever session of the model the host's log follows; `host-ran` says that there is one.
 module _ {h₀ h : Host} {d : List Line} (s : Begins h₀) (f : Follows (length (h₀ .journal)) (first h₀) d h) where
-  -- one entry for each step that stands
-  pub host-journal : Entries h (standing (calls (length (h₀ .journal))) (stands f))
+  -- one entry for each step that stands, and it is that step's
+  pub host-journal : Entries h (length (h₀ .journal)) (stood (calls (length (h₀ .journal))) (f .ran))
   host-journal =
       record {
         noted = f .moment .entries;
-        count = one-each (length (h₀ .journal)) (s .fresh) (f .ran);
+        each = entry-each (length (h₀ .journal)) (s .fresh) (f .ran);
         used = ap (λ (w : World). w .ledger .used) (sym (f .here .world));
         bytes = ap (λ (w : World). w .ledger .bytes) (sym (f .here .world));
       }
+
+  -- and it is 128 bytes and those that the step stored
+  pub host-entries-long : Each (EntryLong (length (h₀ .journal))) (stood (calls (length (h₀ .journal))) (f .ran))
+  host-entries-long = entries-long (length (h₀ .journal)) (s .fresh) (f .ran)
 
   -- a step back leads where the model's leads, to the moment before the newest step that stands; where none stands it returns 6 and changes nothing
   module _ {h′ : Host} {k : ℕ} (g : Returned h (backGiven h) k h′) where

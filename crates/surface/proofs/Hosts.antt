@@ -8,7 +8,7 @@ use Rattle.worlds.specs.Worlds.{Answered, World}
 use Rattle.worlds.specs.Calls.{backOn}
 use Rattle.sessions.specs.Session.{Kind, after, and-did, and-not, and-saw, does, looked, refused, start, stepped, undid}
 use Rattle.sessions.specs.Session as session
-use Rattle.sessions.specs.Calling.{Call, Here, Noted, calls, kindNow, onCall, worldFrom}
+use Rattle.sessions.specs.Calling.{Call, Here, Noted, callKind, calls, kindNow, onCall, worldFrom}
 use Rattle.sessions.specs.Good.{Fresh}
 use Rattle.sessions.proofs.Calls.{back-does, back-none, does-that}
 use Rattle.sessions.proofs.Striking.{goes-back}
@@ -26,8 +26,12 @@ module _ {n : ℕ} {s₀ : Here} {d : List Line} {h : Host} (f : Follows n s₀ 
     same : onCall (length (h .journal)) c (worldIn h) ≡ onCall n c was
     same = ap (λ (i : ℕ). onCall i c (worldIn h)) (f .here .long) ∙ ap (onCall n c) (sym (f .here .world))
 
-    number : k ≡ numberOf (onCall n c was .answer)
+    pub number : k ≡ numberOf (onCall n c was .answer)
     number = g .gives .answer ∙ ap (λ (x : Answered). numberOf (x .answer)) (given-is c h (f .here .block) ∙ same)
+
+    -- the exported call takes a step where the session's does
+    pub same-kind : callKind c (given c h .answer) ≡ kindNow n c (f .moment)
+    same-kind = ap (λ (x : Answered). callKind c (x .answer)) (given-is c h (f .here .block) ∙ same)
 
     pub call-at : AtMoment n (does (calls n) c (f .moment)) h′
     call-at =
@@ -38,7 +42,7 @@ module _ {n : ℕ} {s₀ : Here} {d : List Line} {h : Host} (f : Follows n s₀ 
           long = g .long ∙ f .here .long;
         }
 
-    made-by : (z : Kind) → kindNow n c (f .moment) ≡ z → AtMoment n (after (calls n) z c (f .moment)) h′ → Follows n s₀ (made c k ∷ d) h′
+    unfoldable pub made-by : (z : Kind) → kindNow n c (f .moment) ≡ z → AtMoment n (after (calls n) z c (f .moment)) h′ → Follows n s₀ (made c k ∷ d) h′
     made-by stepped t a = record { log = _; moment = after (calls n) stepped c (f .moment); ran = and-did (f .ran) t refl refl; lines = a-step (f .lines) number; here = a }
     made-by refused t a = record { log = _; moment = f .moment; ran = and-not (f .ran) t refl; lines = a-refusal (f .lines) number; here = a }
     made-by looked t a = record { log = _; moment = f .moment; ran = and-saw (f .ran) t refl; lines = a-look (f .lines) number; here = a }
@@ -70,7 +74,7 @@ module _ {n : ℕ} {s₀ : Here} {d : List Line} {h : Host} (f : Follows n s₀ 
     unfolding numberOf
     back-empty q = back-at _ _ (back-none n fresh (f .ran) q) refl
 
-    back-by : (es : List Noted) → f .moment .entries ≡ es → Follows n s₀ (back k ∷ d) h′
+    unfoldable pub back-by : (es : List Noted) → f .moment .entries ≡ es → Follows n s₀ (back k ∷ d) h′
     back-by [] q =
         let z = back-empty q in
         record { log = f .log; moment = f .moment; ran = f .ran; lines = no-back (f .lines) (z .0); here = z .1 }
@@ -79,7 +83,7 @@ module _ {n : ℕ} {s₀ : Here} {d : List Line} {h : Host} (f : Follows n s₀ 
         record { log = undid ∷ f .log; moment = session.back (calls n) (f .moment); ran = goes-back (calls n) q (f .ran); lines = a-back (f .lines) (z .0); here = z .1 }
 
 -- a host's run is a session
-pub host-ran : {h₀ h : Host} {d : List Line} → Begins h₀ → Hosted h₀ d h → Follows (length (h₀ .journal)) (first h₀) d h
+unfoldable pub host-ran : {h₀ h : Host} {d : List Line} → Begins h₀ → Hosted h₀ d h → Follows (length (h₀ .journal)) (first h₀) d h
 host-ran {h₀} s begun = record { log = []; moment = first h₀; ran = start; lines = none; here = s .here }
 host-ran {h₀} s (and-made c r g) =
     let f = host-ran s r in

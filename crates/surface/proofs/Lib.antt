@@ -9,5 +9,6 @@ pub mod Refused
 pub mod Rounds
 pub mod Unique
 pub mod Hosts
+pub mod Stands
 pub mod Mounted
 pub mod Always

@@ -1,14 +1,14 @@
 -- A host of the exported calls: it holds the state's block and three buffers, and hands them to one call after another.
-use mathlib.Core.List.{List, [], _∷_}
+use mathlib.Core.List.{List, [], _∷_, map}
 use mathlib.Core.Path.{_≡_}
-use Prim.Native.Nat.{ℕ}
-use lib.ListN.{length}
+use Prim.Native.Nat.{ℕ, suc}
+use lib.ListN.{drop, length}
 use Rattle.lists.specs.Words.{Bytes}
 use Rattle.entries.specs.Entries.{usedIn}
 use Rattle.worlds.specs.Worlds.{Answered}
 use Rattle.worlds.specs.Passes.{Fit}
-use Rattle.sessions.specs.Session.{stepped}
-use Rattle.sessions.specs.Calling.{Call, Here, Noted, journalOf, callKind, lengthOf, onCall, worldFrom}
+use Rattle.sessions.specs.Session.{Kind, Standing, entryOf, looked, refused, stepped}
+use Rattle.sessions.specs.Calling.{Call, Here, Noted, callKind, calls, journalOf, lengthOf, onCall, worldFrom}
 use Rattle.kept.specs.Formed.{Formed}
 use Rattle.sessions.specs.Good.{Fresh}
 use Rattle.ts11.specs.Block.{Block, sessionIn}
@@ -46,6 +46,22 @@ pub data Hosted (h₀ : Host) : List Line → Host → Type 0 where
   and-made : {l : List Line} {h h′ : Host} {k : ℕ} (c : Call) → Hosted h₀ l h → Returned h (given c h) k h′ → Hosted h₀ (made c k ∷ l) h′
   and-back : {l : List Line} {h h′ : Host} {k : ℕ} → Hosted h₀ l h → Returned h (backGiven h) k h′ → Hosted h₀ (back k ∷ l) h′
 
+-- the hosts that stood before the steps of a host's run that stand, newest first: a step back takes the newest away
+abbrev stoodBy : Kind → Host → List Host → List Host
+stoodBy stepped h l = h ∷ l
+stoodBy refused h l = l
+stoodBy looked h l = l
+
+unfoldable pub hostsStood : {h₀ h : Host} {l : List Line} → Hosted h₀ l h → List Host
+hostsStood begun = []
+hostsStood (and-made {h = h} c r g) = stoodBy (callKind c (given c h .answer)) h (hostsStood r)
+hostsStood (and-back r g) = drop 1 (hostsStood r)
+
+-- k calls of step back, each answered 0, led from h to h′
+pub data WentBack : ℕ → Host → Host → Type 0 where
+  no-step : {h : Host} → WentBack 0 h h
+  one-more : {k : ℕ} {h h₁ h₂ : Host} → Returned h (backGiven h) 0 h₁ → WentBack k h₁ h₂ → WentBack (suc k) h h₂
+
 -- calls led from h to h′, and every step among them was undone
 pub data Round : Host → Host → Type 0 where
   still : {h : Host} → Round h h
@@ -75,9 +91,10 @@ pub record GoodHost (h : Host) : Type 0 where
   pub fit : Fit (length (h .journal)) (worldIn h)
   pub formed : Formed (h .reel) (sessionIn (h .block) .unit .tape)
 
--- "the journal holds one entry per step taken and still standing": the used journal is k entries and nothing else
-pub record Entries (h : Host) (k : ℕ) : Type 0 where
+-- "the journal holds one entry per step taken and still standing": the used journal is the entries of these steps, each that step's own, and
+-- nothing else
+pub record Entries (h : Host) (n : ℕ) (steps : List (Standing (calls n))) : Type 0 where
   pub noted : List Noted
-  pub count : length noted ≡ k
+  pub each : noted ≡ map (entryOf (calls n)) steps
   pub used : sessionIn (h .block) .used ≡ lengthOf noted
   pub bytes : usedIn (sessionIn (h .block) .used) (h .journal) ≡ journalOf noted

@@ -14,7 +14,8 @@
 //   a contract permits one outcome                                gives-unique              proofs/Unique.antt
 //   a mount answered 0 begins a session                           mounted-host              proofs/Mounted.antt
 //   a host's calls are a session of the model                     host-ran                  proofs/Hosts.antt
-//   what holds of every session holds of those bytes              host-good, host-journal, host-room, same-bytes
+//   going back k gives the bytes before the earliest of the k     host-stood, host-stands   proofs/Stands.antt
+//   what holds of every session holds of those bytes              host-good, host-journal, host-entries-long, host-room, same-bytes
 //                                                                                           proofs/Always.antt
 //   a step back leads where the session's leads                   host-back, host-none
 //

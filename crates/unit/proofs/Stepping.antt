@@ -64,7 +64,7 @@ module _ (c : Core) (a : Admitted c) where
         lengths = e;
       }
 
-  still-seven : (u : Unit) → length (changed u .message) ≡ 7
+  pub still-seven : (u : Unit) → length (changed u .message) ≡ 7
   unfolding still
   still-seven u = refl
 

@@ -3,5 +3,6 @@ pub mod Cores
 pub mod Asks
 pub mod Touching
 pub mod Steps
+pub mod Stores
 pub mod Registers
 pub mod Mounts
