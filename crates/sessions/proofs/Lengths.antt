@@ -16,7 +16,7 @@ use Rattle.worlds.specs.Worlds.{World}
 use Rattle.worlds.specs.Calls.{entryFor, stepOn, takenBy}
 use Rattle.sessions.specs.Session.{Done, Ran, and-did, and-not, and-saw, and-undid, start, stepped, stood}
 use Rattle.sessions.specs.Calling.{Call, Here, callKind, calls, doing, entryAt, kindNow, onCall, read-register, step, stepKind, worldFrom}
-use Rattle.sessions.specs.Good.{Each, EntryLong, Fresh, Good, Steppable, and-of, of-none}
+use Rattle.sessions.specs.Good.{Each, EntryLong, Fresh, Good, Steppable, and-of, bytesAt, longFor, of-none}
 use Rattle.sessions.proofs.Calls.{always-good}
 use Rattle.sessions.proofs.Taken.{accepts, let-through, looked-none, read-none, refused-none, sound-guarded}
 
@@ -42,13 +42,13 @@ taken-done n w (step a h) k =
 taken-done n w (read-register r) k = read-none _ k
 
 -- the bytes that such a call stored
-call-stores : (c : Call) (d : Core) → Admitted d → Steppable c d → Stores d (doing c d)
-unfolding doing
+call-stores : (c : Call) (d : Core) → Admitted d → Steppable c d → Stores d (doing c d) (bytesAt c d)
+unfolding doing bytesAt
 call-stores (step a h) d f x = stores a d (x .0) f (x .1)
 call-stores (read-register r) d f x = absurd x
 
 -- and that its entry counts them
-entry-counts : (c : Call) (d : Core) (x : Stores d (doing c d)) → entryLength (entryAt c d) ≡ 128 + length (x .data-bytes) + length (x .message-bytes) + length (x .reel-bytes)
+entry-counts : (c : Call) (d : Core) (x : Stores d (doing c d) (bytesAt c d)) → entryLength (entryAt c d) ≡ longFor (bytesAt c d)
 unfolding entryLength entryFor
 entry-counts c d x = omega (arith, x .data-long, x .message-long, x .reel-long)
 

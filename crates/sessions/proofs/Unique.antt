@@ -11,7 +11,7 @@ same-outcome : (o p : Outcome) → o .answer ≡ p .answer → o .session ≡ p 
 same-outcome o p a s =
     ap (λ (x : Answer). record { answer = x; session = o .session }) a ∙ ap (λ (x : Session). record { answer = p .answer; session = x }) s
 
-pub leaves-unique : {x : Answered} {o o₂ : Outcome} {m r j m₂ r₂ j₂ : List ℕ} → Leaves x o m r j → Leaves x o₂ m₂ r₂ j₂
+pub leaves-unique : {x : Answered} {k : List ℕ} {o o₂ : Outcome} {m r j m₂ r₂ j₂ : List ℕ} → Leaves x k o m r j → Leaves x k o₂ m₂ r₂ j₂
     → (o ≡ o₂) × (worldOf (o .session) m r j ≡ worldOf (o₂ .session) m₂ r₂ j₂)
 leaves-unique {o = o} {o₂ = o₂} p q =
     let same = p .world ∙ sym (q .world) in

@@ -8,7 +8,7 @@ use Rattle.kept.specs.Formed.{Formed}
 use Rattle.commands.specs.declared.plans.Answer.the-variants as answer
 use Rattle.unit.specs.Cores.{Core}
 use Rattle.unit.specs.Steps.{stepOf}
-use Rattle.unit.specs.Stores.{Stores}
+use Rattle.unit.specs.Stores.{StepBytes, Stores, bytesOf, noBytes}
 use Rattle.entries.specs.Entries.{entryLength}
 use Rattle.entries.specs.declared.Entry.{Entry}
 use Rattle.worlds.specs.declared.Session.{Session}
@@ -33,9 +33,17 @@ pub record Fresh (n : ℕ) (s : Here) : Type 0 where
   pub none : s .entries ≡ []
 
 -- "of exactly 128 bytes plus the memory and reel bytes that step stored": the entry of a step that stands, and the bytes that it stored
+unfoldable pub bytesAt : Call → Core → StepBytes
+bytesAt (step a h) c = bytesOf a c
+bytesAt (read-register r) c = noBytes
+
+-- an entry's length for these bytes
+abbrev pub longFor : StepBytes → ℕ
+longFor b = 128 + length (b .data-bytes) + length (b .message-bytes) + length (b .reel-bytes)
+
 pub record EntryLong (n : ℕ) (x : Standing (calls n)) : Type 0 where
-  pub stores : Stores (x .was .core) (doing (x .call) (x .was .core))
-  pub long : entryLength (entryAt (x .call) (x .was .core)) ≡ 128 + length (stores .data-bytes) + length (stores .message-bytes) + length (stores .reel-bytes)
+  pub stores : Stores (x .was .core) (doing (x .call) (x .was .core)) (bytesAt (x .call) (x .was .core))
+  pub long : entryLength (entryAt (x .call) (x .was .core)) ≡ longFor (bytesAt (x .call) (x .was .core))
 
 -- it holds of each in a list
 pub data Each {A : Type 0} (P : A → Type 0) : List A → Type 0 where

@@ -9,6 +9,7 @@ use Rattle.lists.specs.Pick.{pick}
 use Rattle.lists.specs.Places.{placed}
 use Rattle.lists.proofs.Cases.{pick-told}
 use Rattle.lists.proofs.Placed.{placed-plain}
+use Rattle.tape.specs.Bytes.{movedBytes, recordBytes}
 use Rattle.tape.specs.Numbers.{blockBytes}
 use Rattle.tape.specs.Objects.{imagesOf}
 use Rattle.tape.proofs.Accepted.{clash}
@@ -17,10 +18,11 @@ use Rattle.signals.proofs.Messages.{length-words}
 use Rattle.state.specs.Changes.{initialized, operated, tsdbWritten}
 use Rattle.state.specs.declared.Unit.{Unit}
 use Rattle.motions.specs.declared.parts.Laid.{Laid}
+use Rattle.commands.specs.Ends.{still}
 use Rattle.commands.specs.declared.plans.Answer.the-variants as answer
 use Rattle.commands.specs.declared.plans.Plan.{Plan}
 use Rattle.storing.specs.Outside.{messageTo}
-use Rattle.storing.specs.Stored.{MovedFits, Storable, laidObjects, laidOn, memoryAfter, messageOn, reelAfter}
+use Rattle.storing.specs.Stored.{MovedFits, Storable, laidObject, laidObjects, laidOn, memoryAfter, messageOn, reelAfter}
 use Rattle.storing.proofs.DataPlaces.{dataFrom, length-data, moved-places}
 use Rattle.storing.proofs.Lengths.{length-laid, length-reel}
 use Rattle.storing.proofs.Staying.{dataAfter}
@@ -29,7 +31,7 @@ use Rattle.advance.proofs.Planned.{advanced-seven}
 use Rattle.unit.specs.Asks.{Ask, advance, host-store, operate, write-tsdb, write-tssr}
 use Rattle.unit.specs.Cores.{Admitted, Core}
 use Rattle.unit.specs.Steps.{Step, carried, changed, stepOf, storeWrong, stored}
-use Rattle.unit.specs.Stores.{Stores}
+use Rattle.unit.specs.Stores.{Stores, bytesOf, noBytes, planBytes}
 use Rattle.unit.specs.Touching.{hostTouched, movedPlace, touchedBy}
 use Rattle.unit.proofs.Stepping.{advanced-fits, core-sizes, still-seven}
 use Rattle.unit.proofs.Touches.{still-storable}
@@ -64,13 +66,10 @@ module _ (c : Core) (p : Plan) (fits : Storable p (length (c .memory)) (length (
       message-placed (p .sends) (dataAfter p (c .memory) (c .reel)) (messageTo p) (p .message)
       ∙ ap (λ (l : List ℕ). placed false l (pick (p .sends) (messageTo p) 0) (pick (p .sends) (wordsBytes (p .message)) [])) (moved-places reeled (p .moved) (c .memory) moved-fits)
 
-  plan-stores : length (p .message) ≡ 7 → Stores c (carried c p)
-  unfolding carried touchedBy reelAfter
+  plan-stores : length (p .message) ≡ 7 → Stores c (carried c p) (planBytes c p)
+  unfolding carried touchedBy reelAfter planBytes
   plan-stores seven =
       record {
-        data-bytes = dataFrom reeled (p .moved);
-        message-bytes = pick (p .sends) (wordsBytes (p .message)) [];
-        reel-bytes = imagesOf (laidObjects (c .memory) (p .laid));
         memory = memory-placed;
         reel = laid-placed (c .memory) (c .reel) (p .laid);
         data-long = length-data reeled (p .moved) (c .memory) moved-fits;
@@ -79,20 +78,18 @@ module _ (c : Core) (p : Plan) (fits : Storable p (length (c .memory)) (length (
       }
 
 -- a change of the state alone stores nothing
-change-stores : (c : Core) → Admitted c → (u : Unit) → Stores c (carried c (changed u))
+change-stores : (c : Core) → Admitted c → (u : Unit) → Stores c (carried c (changed u)) noBytes
+unfolding planBytes still movedBytes recordBytes laidObjects laidObject imagesOf
 change-stores c a u =
     plan-stores c (changed u) (still-storable u (answer.Done false) (length (c .memory)) (length (c .reel)) (core-sizes c a .even)) (still-seven c a u)
 
 -- a host store that is answered "done" stores its bytes
-store-stores : (c : Core) (place : ℕ) (bytes : List ℕ) (i : Bool) → stored c place bytes .answer ≡ answer.Done i → Stores c (stored c place bytes)
+store-stores : (c : Core) (place : ℕ) (bytes : List ℕ) (i : Bool) → stored c place bytes .answer ≡ answer.Done i → Stores c (stored c place bytes) (record { data-bytes = bytes; message-bytes = []; reel-bytes = [] })
 unfolding stored hostTouched placed
 store-stores c place bytes i =
-    pick-told (λ (x : Step). x .answer ≡ answer.Done i → Stores c x) (storeWrong (length (c .memory)) place (length bytes)) _ _
+    pick-told (λ (x : Step). x .answer ≡ answer.Done i → Stores c x (record { data-bytes = bytes; message-bytes = []; reel-bytes = [] })) (storeWrong (length (c .memory)) place (length bytes)) _ _
     (λ t e. absurd (clash cc))
     (λ t e. record {
-      data-bytes = bytes;
-      message-bytes = [];
-      reel-bytes = [];
       memory = sym (placed-plain (c .memory) place bytes);
       reel = refl;
       data-long = refl;
@@ -101,8 +98,8 @@ store-stores c place bytes i =
     })
 
 -- each step that is answered "done"
-pub stores : (a : Ask) (c : Core) (i : Bool) → Admitted c → stepOf a c .answer ≡ answer.Done i → Stores c (stepOf a c)
-unfolding stepOf
+pub stores : (a : Ask) (c : Core) (i : Bool) → Admitted c → stepOf a c .answer ≡ answer.Done i → Stores c (stepOf a c) (bytesOf a c)
+unfolding stepOf bytesOf
 stores (write-tsdb word) c i a e = change-stores c a (tsdbWritten (c .unit) word)
 stores write-tssr c i a e = change-stores c a (initialized (c .unit))
 stores (operate k) c i a e = change-stores c a (operated (c .unit) k)
