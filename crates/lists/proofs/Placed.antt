@@ -4,12 +4,11 @@ use mathlib.Core.Path.{_≡_, refl, ap, _∙_}
 use mathlib.Core.Bool.{Bool, true, false}
 use mathlib.Core.List.{List, [], _∷_, _++_}
 use Prim.Native.Nat.{ℕ, zero, suc, _+_, _-_, _%_, _≤_, _<_}
-use native.Mathlib.Nat.{add-suc, suc-add, add-zero, zero-add, suc-sub-suc, sub-zero}
+use native.Mathlib.Nat.{add-suc, suc-add, add-zero, suc-sub-suc, sub-zero}
 use native.Mathlib.Numerals.{add-one}
 use native.Mathlib.Omega.{arith}
-use lib.ListN.{length, take, drop, getD, set, length-set}
-use lib.Seq.{sets, take-suc, drop-cons, length-take-le, getD-set-same, getD-set-other}
-use Rattle.lists.proofs.Stores.{sets-at}
+use lib.ListN.{length, take, drop, getD, set, length-set, take-append-drop}
+use lib.Seq.{sets, drop-cons, drop-length, getD-set-same, getD-set-other}
 use Rattle.lists.specs.Places.{place, placed, gathered}
 
 -- an even memory holds the flipped place of each address that it holds
@@ -42,19 +41,23 @@ placed-more w m a (x ∷ xs) ys = rw (add-suc a (length xs), ← suc-add a (leng
 pub placed-at : (w : Bool) (m : List ℕ) (a j : ℕ) (xs ys : List ℕ) → j ≡ a + length xs → placed w (placed w m a xs) j ys ≡ placed w m a (xs ++ ys)
 placed-at w m a j xs ys e = rw e (placed-more w m a xs ys)
 
--- one turn of the loop of `scatter`
-pub place-more : (w : Bool) (m d : List ℕ) (a i : ℕ) → i < length d → set (placed w m a (take i d)) (place w (a + i)) (getD d i 0) ≡ placed w m a (take (i + 1) d)
+-- one byte at its place p, and then the rest from there on
+pub place-more : (w : Bool) (m d : List ℕ) (a i : ℕ) {p : ℕ} → p ≡ place w (a + i) → i < length d → placed w (set m p (getD d i 0)) (a + (i + 1)) (drop (i + 1) d) ≡ placed w m (a + i) (drop i d)
 unfolding placed
-place-more w m d a i h = rw (add-one i, take-suc d i 0) (placed-at w m a (a + i) (take i d) (getD d i 0 ∷ []) (rw (length-take-le i d (omega arith))))
+place-more w m d a i e h = rw (e, add-one i, add-suc a i, drop-cons d i 0 h)
 
--- one more byte at the end, and so one turn of the loop of `gather`
-gathered-more : (w : Bool) (m : List ℕ) (a i : ℕ) → gathered w m a (i + 1) ≡ gathered w m a i ++ (getD m (place w (a + i)) 0 ∷ [])
+pub gather-more : (w : Bool) (b m : List ℕ) (a i k n : ℕ) {p : ℕ} → p ≡ place w (a + i) → n ≡ suc k → sets (set b i (getD m p 0)) (i + 1) (gathered w m (a + (i + 1)) k) ≡ sets b i (gathered w m (a + i) n)
 unfolding gathered
-gathered-more w m a zero = rw (add-zero a)
-gathered-more w m a (suc i) = rw (suc-add i 1, add-suc a i, ← suc-add a i) (ap (λ (l : List ℕ). getD m (place w a) 0 ∷ l) (gathered-more w m (suc a) i))
+gather-more w b m a i k n e f = rw (e, f, add-one i, add-suc a i)
 
-pub gather-more : (w : Bool) (b m : List ℕ) (a i : ℕ) → set (sets b 0 (gathered w m a i)) i (getD m (place w (a + i)) 0) ≡ sets b 0 (gathered w m a (i + 1))
-gather-more w b m a i = rw (gathered-more w m a i) (sets-at (gathered w m a i) (getD m (place w (a + i)) 0 ∷ []) b 0 i (rw (zero-add, length-gathered w m a i)))
+-- with none left the rest is nothing
+pub placed-none : (w : Bool) (m d : List ℕ) (a i : ℕ) → i ≡ length d → placed w m a (drop i d) ≡ m
+unfolding placed
+placed-none w m d a i e = rw (e, drop-length d)
+
+pub gathered-none : (w : Bool) (b m : List ℕ) (i a n : ℕ) → n ≡ 0 → sets b i (gathered w m a n) ≡ b
+unfolding gathered
+gathered-none w b m i a n e = rw e
 
 -- with no swap a run is a part of the memory
 pub placed-plain : (m : List ℕ) (a : ℕ) (d : List ℕ) → placed false m a d ≡ sets m a d
@@ -79,6 +82,11 @@ unfolding gathered
 gathered-drop w m a zero n h = rw (add-zero a, sub-zero n)
 gathered-drop w m a (suc i) zero h = absurd (omega arith)
 gathered-drop w m a (suc i) (suc n) h = rw (add-suc a i, ← suc-add a i, suc-sub-suc n i) (gathered-drop w m (suc a) i n (omega arith))
+
+pub gathered-append : (w : Bool) (m : List ℕ) (a i n : ℕ) → gathered w m a i ++ gathered w m (a + i) n ≡ gathered w m a (i + n)
+gathered-append w m a i n =
+    let e : i + n - i ≡ n = omega arith in
+    cc (take-append-drop i (gathered w m a (i + n)), gathered-take w m a i (i + n) (omega arith), gathered-drop w m a i (i + n) (omega arith))
 
 pub gathered-byte : (w : Bool) (m : List ℕ) (a i n : ℕ) → i < n → getD (gathered w m a n) i 0 ≡ getD m (place w (a + i)) 0
 unfolding gathered

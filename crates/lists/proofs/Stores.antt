@@ -6,7 +6,7 @@ use native.Mathlib.Nat.{add-suc, suc-add, add-zero}
 use native.Mathlib.Omega.{arith}
 use borrow.Rule.Slice.PartMut.{putMid}
 use lib.ListN.{length, take, drop, getD, set, replicate, length-drop, length-replicate, length-set, replicate-append-replicate, drop-of-length-le}
-use lib.Seq.{sets, sets-eq, drop-drop, length-take-le, getD-set-other, getD-set-same, take-set-le, drop-set-lt, drop-at, take-append-seam}
+use lib.Seq.{sets, sets-eq, set-comm, set-set, drop-drop, length-take-le, getD-set-other, getD-set-same, take-set-le, drop-set-lt, drop-at, take-append-seam}
 
 -- two runs that meet are one run
 pub sets-more : (vs ws l : List ℕ) (i : ℕ) → sets (sets l i vs) (i + length vs) ws ≡ sets l i (vs ++ ws)
@@ -24,14 +24,29 @@ fill-more l v at i = sets-at (replicate i v) (v ∷ []) l at (at + i) (rw length
 pub sets-whole : (vs b : List ℕ) → length vs ≡ length b → sets b 0 vs ≡ vs
 sets-whole vs b e = sets-eq vs b 0 (omega arith) ∙ ap (λ (t : List ℕ). vs ++ t) (drop-of-length-le b {i = 0 + length vs} (omega arith)) ∙ append-nil vs
 
+-- a store before a run may come first
+set-first : (vs l : List ℕ) (i p v : ℕ) → p < i → set (sets l i vs) p v ≡ sets (set l p v) i vs
+set-first [] l i p v h = refl
+set-first (w ∷ vs) l i p v h = set-first vs (set l i w) (suc i) p v (omega arith) ∙ ap (λ (m : List ℕ). sets m (suc i) vs) (set-comm l i p w v (λ e. omega arith))
+
+-- a run leaves nothing of a shorter one at its place
+pub sets-over : (vs ws l : List ℕ) (i : ℕ) → length vs ≤ length ws → sets (sets l i vs) i ws ≡ sets l i ws
+sets-over [] ws l i h = refl
+sets-over (v ∷ vs) [] l i h = absurd (omega arith)
+sets-over (v ∷ vs) (w ∷ ws) l i h = rw (set-first vs (set l i v) (suc i) i w (omega arith), set-set l i v w) (sets-over vs ws (set l i w) (suc i) (omega arith))
+
 -- a part that was lent comes back as a run of stores
 pub put-sets : (a m : ℕ) (xs ys : List ℕ) → length ys ≡ m → a + m ≤ length xs → putMid a m xs ys ≡ sets xs a ys
 put-sets a m xs ys e h = rw (← e, drop-drop, ← append-assoc) (sym (sets-eq ys xs a (omega arith)))
 
+-- how many bytes a part has
+pub length-part : (d : List ℕ) (from n : ℕ) → from + n ≤ length d → length (take n (drop from d)) ≡ n
+length-part d from n h = length-take-le n (drop from d) (rw length-drop (omega arith))
+
 -- a lent part that a call fills with as many bytes as it is long
 pub filled : (f : ℕ → List ℕ) → ((m : ℕ) → length (f m) ≡ m) → (b g : List ℕ) (a e : ℕ) → a ≤ e → e ≤ length b → g ≡ f (length (take (e - a) (drop a b))) → putMid a (e - a) b g ≡ sets b a (f (e - a))
 filled f l b g a e h k p =
-    let q : length (take (e - a) (drop a b)) ≡ e - a = length-take-le (e - a) (drop a b) (rw length-drop (omega arith)) in
+    let q : length (take (e - a) (drop a b)) ≡ e - a = length-part b a (e - a) (omega arith) in
     rw (p, q) (put-sets a (e - a) b (f (e - a)) (l (e - a)) (omega arith))
 
 -- what stands at an index below, above and within the run

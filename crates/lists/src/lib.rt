@@ -1,5 +1,6 @@
 // Bytes in lent slices: words, and runs of bytes that go to places in memory, swapped or not.
 mod places;
+mod runs;
 mod words;
 
 pub use places::gather;

@@ -1,74 +1,34 @@
--- `scatter` meets its contract. So far the first i bytes of d are in their places.
+-- `scatter` meets its contract: with no swap a run is a part of the memory.
 use borrow.Author.Needs.{needs}
-use native.Mathlib.Omega.{arith}
-use mathlib.Core.Path.{_≡_}
-use Prim.Native.Nat.{_+_, _≤_, _-_}
-use lib.ListN.{length, take}
 use lib.Seq.{take-length}
-use Rattle.lists.specs.Places.{placed}
-use Rattle.lists.proofs.Placed.{place-in, place-more}
+use Rattle.lists.proofs.Placed.{placed-plain}
 use Rattle.lists.proofs.places.scatter.Statement.{statement}
 use Rattle.lists.proofs.places.scatter.Tie as tie
 
-abbrev Inv-loop : tie.InvT-loop
-Inv-loop d mem₀ a swb i₀ mem i = (i ≤ length d) × (mem ≡ placed swb mem₀ a (take i d)) × (length mem ≡ length mem₀)
+scatter-swapped-requires : tie.Need-scatter-swapped-requires
+scatter-swapped-requires c κs = search needs
 
-abbrev μ-loop : tie.MeasureT-loop
-μ-loop d mem₀ a swb i₀ mem i = length d - i
+copy-requires : tie.Need-copy-requires
+copy-requires c κs = search needs
 
-loop-holds : tie.Need-loop-holds Inv-loop μ-loop
-unfolding placed
-loop-holds c = search needs
-
-add-place-of : tie.Need-add-place-of Inv-loop μ-loop
-add-place-of c = search needs
-
-place-of-requires : tie.Need-place-of-requires Inv-loop μ-loop
-place-of-requires c κs = search needs
-
-shared-slice-read-mem : tie.Need-shared-slice-read-mem Inv-loop μ-loop
-shared-slice-read-mem c = search needs
-
-slice-write-mem : tie.Need-slice-write-mem Inv-loop μ-loop
-slice-write-mem c =
-    let a = c .before .before .before .before .before .before .args in
-    let i = c .before .before .before .loop .i in
-    omega (arith, place-in (a .swb) (a .a + i) (length (a .mem .now)) (omega arith) (search needs))
-
-add-i : tie.Need-add-i Inv-loop μ-loop
-add-i c = search needs
-
-loop-less : tie.Need-loop-less Inv-loop μ-loop
-loop-less c = search needs
-
-loop-again : tie.Need-loop-again Inv-loop μ-loop
-loop-again c =
-    let a = c .before .before .before .before .before .before .args in
-    let i = c .before .before .before .loop .i in
-    (search needs, cc (place-more (a .swb) (a .mem .now) (a .d .now) (a .a) i (omega arith)), search needs)
-
-same-length : tie.Need-same-length Inv-loop μ-loop
+same-length : tie.Need-same-length
 same-length c = search needs
 
-returns : tie.Need-returns Inv-loop μ-loop
+returns : tie.Need-returns
 returns c =
-    let a = c .before .before .before .before .args in
-    let e : c .before .loop .i ≡ length (a .d .now) = omega arith in
-    cc (take-length (a .d .now))
+    let s = c .before .before in
+    rw (s .before .before .if1 .taken) (s .scatter-swapped .ensures)
+
+same-length-2 : tie.Need-same-length-2
+same-length-2 c = search needs
+
+returns-2 : tie.Need-returns-2
+returns-2 c =
+    let s = c .before .before in
+    let a = s .before .before .before .before .before .args in
+    rw (s .before .before .if1 .left, placed-plain (a .mem .now) (a .a) (a .d .now)) (rw (take-length (a .d .now)) at (s .copy .ensures))
 
 pub scatter-spec : {M : Type 1} → statement M
 scatter-spec =
     tie.close
-    (tie.spec
-    Inv-loop
-    μ-loop
-    loop-holds
-    add-place-of
-    place-of-requires
-    shared-slice-read-mem
-    slice-write-mem
-    add-i
-    loop-less
-    loop-again
-    same-length
-    returns)
+    (tie.spec scatter-swapped-requires copy-requires same-length returns same-length-2 returns-2)
