@@ -31,6 +31,7 @@ given-register h tssr k x =
             memory = refl;
             reel = refl;
             journal = refl;
+            unless-step = λ z. refl;
           }),
       x .word ∙ ap (λ (i : RegisterRead). i .word) z,
     )

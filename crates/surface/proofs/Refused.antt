@@ -1,66 +1,84 @@
--- A call that returns another number than 0 has changed nothing: block, memory, reel and used journal are the bytes that they were.
+-- A call that takes no step has changed nothing, and so one that returns another number than 0: block, memory, reel and the whole journal are
+-- the bytes that they were.
+use mathlib.Core.Bool.{false, true≢false}
 use mathlib.Core.List.{List}
-use mathlib.Core.Path.{_≡_, refl, sym, ap, _∙_}
+use mathlib.Core.Path.{_≡_, refl, ap, _∙_}
 use Prim.Native.Nat.{ℕ}
 use lib.ListN.{length}
 use Rattle.state.proofs.Tests.{either}
-use Rattle.commands.specs.Answers.{numberOf}
+use Rattle.commands.specs.Answers.{isStep, numberOf}
 use Rattle.commands.specs.declared.plans.Answer.{Answer}
 use Rattle.commands.specs.declared.plans.Answer.the-variants as answer
-use Rattle.entries.specs.Entries.{usedIn}
 use Rattle.worlds.specs.declared.Session.{Session}
 use Rattle.worlds.specs.declared.Outcome.{Outcome}
 use Rattle.worlds.specs.Worlds.{Answered, World, sessionOf}
-use Rattle.worlds.specs.Calls.{backOn, refusedAs}
+use Rattle.worlds.specs.Calls.{backOn, mountOn, refusedAs}
 use Rattle.sessions.specs.Session.{stepped}
 use Rattle.sessions.specs.Calling.{Call, Left, onCall, stepKind}
-use Rattle.sessions.proofs.Taken.{refused-none, stays, step-done}
+use Rattle.sessions.proofs.Taken.{looked-none, refused-none, stays, step-done}
 use Rattle.sessions.proofs.Backs.{back-left}
-use Rattle.ts11.specs.Block.{isBlock}
-use Rattle.ts11.specs.Given.{Gives, Host, Mounts, backGiven, blockAfter, opened, worldIn}
-use Rattle.surface.specs.Hosting.{Unchanged, given}
+use Rattle.ts11.specs.Block.{isBlock, sessionIn}
+use Rattle.ts11.specs.Given.{Gives, Host, backGiven, blockAfter, opened, worldIn}
+use Rattle.surface.specs.Hosting.{Exported, a-call, a-mount, a-step-back, given}
 
 opened-left : (h : Host) (x : Answered) → Left (worldIn h) x → Left (worldIn h) (opened h x)
 unfolding opened
 opened-left h x f = either (Left (worldIn h)) (isBlock (h .block)) x (refusedAs 1 (worldIn h)) f (λ g. refl)
 
 -- "done" has the number 0
-not-step : (a : Answer) → (numberOf a ≡ 0 → ⊥) → stepKind a ≡ stepped → ⊥
-unfolding numberOf stepKind
-not-step (answer.Done i) h k = h refl
-not-step answer.Idle h k = h refl
+refused-step : (a : Answer) → (numberOf a ≡ 0 → ⊥) → isStep a ≡ false
+unfolding numberOf isStep
+refused-step (answer.Done i) h = absurd (h refl)
+refused-step answer.Idle h = refl
+refused-step (answer.Refused n) h = refl
+refused-step (answer.BadBlock n) h = refl
+
+not-step : (a : Answer) → isStep a ≡ false → stepKind a ≡ stepped → ⊥
+unfolding isStep stepKind
+not-step (answer.Done i) h k = true≢false h
+not-step answer.Idle h k = looked-none k
 not-step (answer.Refused n) h k = refused-none k
 not-step (answer.BadBlock n) h k = refused-none k
 
-block-left : (b : List ℕ) (a : Answer) (s : Session) → (numberOf a ≡ 0 → ⊥) → blockAfter b a s ≡ b
-unfolding numberOf blockAfter
-block-left b (answer.Done i) s h = absurd (h refl)
+block-left : (b : List ℕ) (a : Answer) (s : Session) → isStep a ≡ false → blockAfter b a s ≡ b
+unfolding isStep blockAfter
+block-left b (answer.Done i) s h = absurd (true≢false h)
 block-left b answer.Idle s h = refl
 block-left b (answer.Refused n) s h = refl
 block-left b (answer.BadBlock n) s h = refl
 
-module _ {h h′ : Host} {n : ℕ} where
-  left : (x : Answered) → Left (worldIn h) x → Gives h x n h′ → (n ≡ 0 → ⊥) → Unchanged h h′
-  left x f g z =
-      let o : numberOf (x .answer) ≡ 0 → ⊥ = λ e. z (g .answer ∙ e) in
-      let same : x .world ≡ worldIn h = f (not-step (x .answer) o) in
-      record {
-        block = g .state ∙ block-left (h .block) (x .answer) (sessionOf (x .world)) o;
-        memory = g .memory ∙ ap (λ (w : World). w .core .memory) same;
-        reel = g .reel ∙ ap (λ (w : World). w .core .reel) same;
-        journal = ap (λ (w : World). usedIn (w .ledger .used) (h′ .journal)) (sym same) ∙ g .journal ∙ ap (λ (w : World). w .ledger .bytes) same;
-      }
+-- a host is its four buffers
+same-host : {h h′ : Host} → h′ .block ≡ h .block → h′ .memory ≡ h .memory → h′ .reel ≡ h .reel → h′ .journal ≡ h .journal → h′ ≡ h
+same-host b m r j = λ i. record { block = b i; memory = m i; reel = r i; journal = j i }
 
-  pub refused-bytes : (c : Call) → Gives h (given c h) n h′ → (n ≡ 0 → ⊥) → Unchanged h h′
+module _ {h h′ : Host} {n : ℕ} where
+  left : (x : Answered) → Left (worldIn h) x → Gives h x n h′ → isStep (x .answer) ≡ false → h′ ≡ h
+  left x f g z =
+      let same : x .world ≡ worldIn h = f (not-step (x .answer) z) in
+      same-host
+      (g .state ∙ block-left (h .block) (x .answer) (sessionOf (x .world)) z)
+      (g .memory ∙ ap (λ (w : World). w .core .memory) same)
+      (g .reel ∙ ap (λ (w : World). w .core .reel) same)
+      (g .unless-step z)
+
+  -- a step or a reading, and a step back, that took no step: refused, or idle
+  pub call-nothing : (c : Call) → Gives h (given c h) n h′ → isStep (given c h .answer) ≡ false → h′ ≡ h
   unfolding given
-  refused-bytes c =
+  call-nothing c =
       left (given c h)
       (opened-left h (onCall (length (h .journal)) c (worldIn h)) (λ g. stays (length (h .journal)) c (worldIn h) (λ k. g (step-done c _ k))))
 
-  pub refused-back : Gives h (backGiven h) n h′ → (n ≡ 0 → ⊥) → Unchanged h h′
+  pub back-nothing : Gives h (backGiven h) n h′ → isStep (backGiven h .answer) ≡ false → h′ ≡ h
   unfolding backGiven
-  refused-back = left (backGiven h) (opened-left h (backOn (worldIn h) (length (h .journal))) (back-left (length (h .journal)) (worldIn h)))
+  back-nothing = left (backGiven h) (opened-left h (backOn (worldIn h) (length (h .journal))) (back-left (length (h .journal)) (worldIn h)))
 
--- a refused mount
-pub refused-mount : {b b′ : List ℕ} {o : Outcome} {n k : ℕ} → Mounts b o n b′ k → (n ≡ 0 → ⊥) → b′ ≡ b
-refused-mount {b} {o = o} g h = g .state ∙ block-left b (o .answer) (o .session) (λ e. h (g .answer ∙ e))
+refused-so : {k : ℕ} (a : Answer) → k ≡ numberOf a → (k ≡ 0 → ⊥) → isStep a ≡ false
+refused-so a e z = refused-step a (λ f. z (e ∙ f))
+
+-- "A refused call gives its number from document 01 and changes nothing in state, memory, reel or journal": every exported call
+pub refused-nothing : {h h′ : Host} {k : ℕ} → Exported h k h′ → (k ≡ 0 → ⊥) → h′ ≡ h
+refused-nothing {h} (a-call c g) z = call-nothing c (g .gives) (refused-so (given c h .answer) (g .gives .answer) z)
+refused-nothing {h} (a-step-back g) z = back-nothing (g .gives) (refused-so (backGiven h .answer) (g .gives .answer) z)
+refused-nothing {h} (a-mount memory journal e online locked g) z =
+    let o : Outcome = mountOn (sessionIn (h .block)) memory (h .reel) journal e online locked in
+    same-host (g .state ∙ block-left (h .block) (o .answer) (o .session) (refused-so (o .answer) (g .answer) z)) refl refl refl

@@ -1,8 +1,12 @@
 -- An exported call's contract permits one outcome: number, block, memory, reel and used journal.
+use mathlib.Core.Bool.{Bool}
+use mathlib.Core.List.{List}
 use mathlib.Core.Path.{_≡_, sym, _∙_}
 use Prim.Native.Nat.{ℕ}
 use Rattle.worlds.specs.Worlds.{Answered}
-use Rattle.ts11.specs.Given.{Gives, Host}
+use Rattle.worlds.specs.declared.Outcome.{Outcome}
+use Rattle.worlds.specs.declared.RegisterRead.{RegisterRead}
+use Rattle.ts11.specs.Given.{Gives, Host, Mounts, Reads, Tells}
 use Rattle.surface.specs.Hosting.{Alike}
 
 pub gives-unique : {h h₁ h₂ : Host} {x : Answered} {n₁ n₂ : ℕ} → Gives h x n₁ h₁ → Gives h x n₂ h₂ → (n₁ ≡ n₂) × Alike (x .world .ledger .used) h₂ h₁
@@ -15,3 +19,13 @@ gives-unique p q = (
     journal = p .journal ∙ sym (q .journal);
   },
 )
+
+-- what an advance tells beside its number, a register that is read, and a mount
+pub tells-unique : {x : Answered} {s₁ s₂ i₁ i₂ : Bool} {k₁ k₂ : ℕ} → Tells x s₁ i₁ k₁ → Tells x s₂ i₂ k₂ → (s₁ ≡ s₂) × (i₁ ≡ i₂) × (k₁ ≡ k₂)
+tells-unique p q = (p .stepped ∙ sym (q .stepped), p .interrupt ∙ sym (q .interrupt), p .fault ∙ sym (q .fault))
+
+pub reads-unique : {x : RegisterRead} {n₁ n₂ w₁ w₂ : ℕ} → Reads x n₁ w₁ → Reads x n₂ w₂ → (n₁ ≡ n₂) × (w₁ ≡ w₂)
+reads-unique p q = (p .answer ∙ sym (q .answer), p .word ∙ sym (q .word))
+
+pub mounts-unique : {b b₁ b₂ : List ℕ} {o : Outcome} {n₁ n₂ k₁ k₂ : ℕ} → Mounts b o n₁ b₁ k₁ → Mounts b o n₂ b₂ k₂ → (n₁ ≡ n₂) × (b₁ ≡ b₂) × (k₁ ≡ k₂)
+mounts-unique p q = (p .answer ∙ sym (q .answer), p .state ∙ sym (q .state), p .fault ∙ sym (q .fault))

@@ -6,13 +6,14 @@ use lib.ListN.{drop, length}
 use Rattle.lists.specs.Words.{Bytes}
 use Rattle.entries.specs.Entries.{usedIn}
 use Rattle.worlds.specs.Worlds.{Answered}
+use Rattle.worlds.specs.Calls.{mountOn}
 use Rattle.worlds.specs.Passes.{Fit}
 use Rattle.sessions.specs.Session.{Kind, Standing, entryOf, looked, refused, stepped}
 use Rattle.sessions.specs.Calling.{Call, Here, Noted, callKind, calls, journalOf, lengthOf, onCall, worldFrom}
 use Rattle.kept.specs.Formed.{Formed}
 use Rattle.sessions.specs.Good.{Fresh}
 use Rattle.ts11.specs.Block.{Block, sessionIn}
-use Rattle.ts11.specs.Given.{Gives, Host, backGiven, opened, worldIn}
+use Rattle.ts11.specs.Given.{Gives, Host, Mounts, backGiven, opened, worldIn}
 
 -- the exported calls that take buffers, by the names of the session's calls
 unfoldable pub given : Call → Host → Answered
@@ -34,6 +35,15 @@ pub record Returned (h : Host) (x : Answered) (k : ℕ) (h′ : Host) : Type 0 w
   pub gives : Gives h x k h′
   pub long : length (h′ .journal) ≡ length (h .journal)
   pub bytes : Bytes (h′ .block)
+
+-- any exported call on h returned k, and then the host holds h′: a step or a reading, a step back, or a mount, which is handed no memory and no
+-- journal
+pub data Exported (h : Host) (k : ℕ) : Host → Type 0 where
+  a-call : {h′ : Host} (c : Call) → Returned h (given c h) k h′ → Exported h k h′
+  a-step-back : {h′ : Host} → Returned h (backGiven h) k h′ → Exported h k h′
+  a-mount : {b′ : List ℕ} {fault : ℕ} (memory journal end : ℕ) (online locked : Bool)
+      → Mounts (h .block) (mountOn (sessionIn (h .block)) memory (h .reel) journal end online locked) k b′ fault
+      → Exported h k (record { block = b′; memory = h .memory; reel = h .reel; journal = h .journal })
 
 -- what a host did, and the number that it was returned
 pub data Line : Type 0 where
