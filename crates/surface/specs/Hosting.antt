@@ -1,5 +1,6 @@
 -- A host of the exported calls: it holds the state's block and three buffers, and hands them to one call after another.
 use mathlib.Core.List.{List, [], _∷_, map}
+use mathlib.Core.Bool.{Bool}
 use mathlib.Core.Path.{_≡_}
 use Prim.Native.Nat.{ℕ, suc}
 use lib.ListN.{drop, length}

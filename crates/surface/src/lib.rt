@@ -9,9 +9,10 @@
 //   and so is a step back                                         back-as                   proofs/Backs.antt
 //   the step back after a step gives back the bytes before it     undone-bytes              proofs/Undone.antt
 //   and so do any number of steps, all undone                     round-bytes               proofs/Rounds.antt
-//   a call that returns another number than 0 changed nothing     refused-bytes, refused-back, refused-mount
-//                                                                                           proofs/Refused.antt
-//   a contract permits one outcome                                gives-unique              proofs/Unique.antt
+//   a call that returns another number than 0 changed nothing     refused-nothing           proofs/Refused.antt
+//   and so did one that took no step                              call-nothing, back-nothing
+//   a contract permits one outcome                                gives-unique, tells-unique, reads-unique, mounts-unique
+//                                                                                           proofs/Unique.antt
 //   a mount answered 0 begins a session                           mounted-host              proofs/Mounted.antt
 //   a host's calls are a session of the model                     host-ran                  proofs/Hosts.antt
 //   going back k gives the bytes before the earliest of the k     host-stood, host-stands   proofs/Stands.antt
