@@ -54,7 +54,7 @@ module _ (u : Unit) (m s : List ℕ) where
   -- the first, in reverse the last
   pub data Gave : List ℕ → Type 0 where
     gave-none : Gave []
-    gave-record : (reverse : Bool) {p n : ℕ} → ((i : ℕ) → i < piecesOf n → classAt s (p + i) ≡ block.Piece n i)
+    gave-record : (reverse : Bool) (p n : ℕ) → ((i : ℕ) → i < piecesOf n → classAt s (p + i) ≡ block.Piece n i)
         → Gave (movedBytes reverse (packet u m s .count) (recordBytes s p n))
 
   -- of a Read: the bytes stored, at their places, with the message over them; as many as the count but for the residual that is sent
