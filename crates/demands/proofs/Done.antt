@@ -1,16 +1,17 @@
 -- What a Read stored, or a Position passed, and the residual word that stands in the message buffer make up the count asked.
-use mathlib.Core.Bool.{Bool, true, false, not}
+use mathlib.Core.Bool.{Bool, true, false, _||_, _&&_, not, or-false}
 use mathlib.Core.List.{List, [], _∷_}
 use mathlib.Core.Path.{_≡_, refl, sym, ap, subst, _∙_}
 use Prim.Native.Nat.{ℕ, zero, suc, _+_, _-_, _*_, _/_, _<_, _≤_, min}
 use native.Mathlib.Nat.{suc-add}
 use native.Mathlib.Omega.{arith}
-use borrow.Author.Tests.{ltb-true}
-use lib.Dec.{eqb, ltb}
+use borrow.Author.Tests.{eqb-true, lt-ltb, ltb-true}
+use lib.Dec.{eqb, leb, ltb}
 use lib.ListN.{length, getD, length-drop, length-take}
-use Rattle.lists.specs.Pick.{Always}
+use Rattle.lists.specs.Pick.{Always, pick}
 use Rattle.lists.specs.Places.{placed}
 use Rattle.lists.specs.Words.{wordAt}
+use Rattle.lists.proofs.Cases.{pick-told}
 use Rattle.lists.proofs.Stores.{getD-within}
 use Rattle.tape.specs.Bytes.{movedBytes, movedTo, readInto, recordBytes}
 use Rattle.tape.specs.Numbers.{blockBytes, piecesOf}
@@ -24,22 +25,32 @@ use Rattle.tape.proofs.Accepted.{clash, pick-first}
 use Rattle.tape.proofs.Outcomes.{Outcome, at-end, at-fault, outcome, over-gap, over-mark, over-record}
 use Rattle.tape.proofs.Passes.{PiecesAt}
 use Rattle.tape.proofs.Recorded.{record-length}
-use Rattle.signals.specs.Codes.{commandOf, readMode}
+use Rattle.signals.specs.Codes.{commandOf, positionMode, readMode}
 use Rattle.signals.specs.Message.{messageBytes, messageOf, messaged, wordsBytes}
 use Rattle.signals.specs.Residuals.{residualWord}
 use Rattle.signals.specs.declared.codes.Command.{Command}
 use Rattle.signals.specs.declared.codes.Command.the-variants as command
 use Rattle.signals.specs.declared.message.End.{End}
+use Rattle.signals.specs.declared.counts.Residual.{Residual}
 use Rattle.signals.specs.declared.packet.Header.{Header}
+use Rattle.signals.specs.declared.packet.Packet.{Packet}
 use Rattle.signals.proofs.Messages.{length-words}
 use Rattle.state.specs.declared.Tape.{Tape}
 use Rattle.state.specs.declared.Unit.{Unit}
 use Rattle.state.proofs.Tests.{either, neither}
 use Rattle.moves.specs.Seeking.{sought, soughtFrom, soughtOn}
+use Rattle.moves.specs.Spacing.{markTurn, recordTurn, span, spaced, stopped, turnOf}
 use Rattle.moves.specs.declared.seeking.Sought.{Sought}
 use Rattle.moves.specs.declared.seeking.Sought.the-variants as sought-as
+use Rattle.moves.specs.declared.spacing.Rule.{Rule}
+use Rattle.moves.specs.declared.spacing.Span.{Span}
+use Rattle.moves.specs.declared.spacing.Stop.{Stop}
+use Rattle.moves.specs.declared.spacing.Stop.the-variants as stop-as
+use Rattle.moves.specs.declared.spacing.Turn.the-variants as turn-as
+use Rattle.moves.proofs.Rounds.{SpanHas, spaced-keeps}
 use Rattle.motions.specs.Parts.{noLay, resting}
 use Rattle.motions.specs.Reads.{firstBlock, markEnd, nothingEnd, onRecord, readEnd, readMotion, readOne, readThenSpace, reread, spaceBack, spaceThenRead, stageBy, stageOf, stopMotion}
+use Rattle.motions.specs.Spaces.{positioned, spaceMotion, spaceMotionBy, startSpan}
 use Rattle.motions.specs.declared.parts.Ending.{Ending}
 use Rattle.motions.specs.declared.parts.Laid.{Laid}
 use Rattle.motions.specs.declared.parts.Motion.{Motion}
@@ -48,16 +59,18 @@ use Rattle.motions.specs.declared.reads.Buffer.{Buffer}
 use Rattle.motions.specs.declared.reads.Stage.{Stage}
 use Rattle.motions.proofs.Ends.{Has}
 use Rattle.motions.proofs.Onward.{StageHas, on-record}
-use Rattle.commands.specs.Commands.{asked, carriedOut, readBy, rereadBy}
+use Rattle.commands.specs.Commands.{asked, carriedOut, positionedBy, readBy, rereadBy}
 use Rattle.commands.specs.Ends.{ended, motionPlan, still, told, toldUnit}
 use Rattle.commands.specs.declared.plans.Plan.{Plan}
 use Rattle.storing.specs.Stored.{laidObject, laidObjects, laidOn, memoryAfter, movedOn, reelAfter}
 use Rattle.storing.proofs.Lengths.{length-moved}
 use Rattle.storing.proofs.Ways.{message-sent}
-use Rattle.advance.specs.Rules.{isIllegal, wholeCount}
+use Rattle.advance.specs.Rules.{isIllegal, reverseFirst, wholeCount}
 use Rattle.advance.specs.Steps.{advanced}
-use Rattle.demands.specs.Done.{Gave, ReadDone, Sent, gave-none, gave-record}
+use Rattle.demands.specs.Done.{Gave, ReadDone, Sent, SpaceDone, gave-none, gave-record, passedIn}
+use Rattle.demands.specs.Faults.{ReadOver, nothing-yet, then-gap, then-mark, then-record}
 use Rattle.demands.specs.Ways.{Fetched, Way, attention, bad-pointer, carried, ends, header, idle, locked, lost, no-buffer, no-extent, no-header, no-words, not-executable, not-mounted, not-owned, packet, started, unknown}
+use Rattle.demands.proofs.Residuals.{left-told, residual-word}
 use Rattle.demands.proofs.Ways.{advanced-way}
 
 -- word k stands in the bytes of words, whatever the words are: a word's high byte is all of it above its low byte
@@ -327,3 +340,141 @@ module _ (u : Unit) (m s : List ℕ) where
       let known = neither (not (header u m s .plain)) (isIllegal (commandOf (header u m s .code) (header u m s .mode))) (f .known) .1 in
       let told : ReadTold u m s (advanced u m s) = read-ran code known (fetched-ran u m s f (advanced-way u m s)) (sent .sends, sent .inside) in
       record { stored = told .stored; gave = told .gave; place = told .place; memory = told .memory; counted = told .counted }
+
+-- a space on the reel s recorded up to e, from p on: objects were read over up to q, and those that count and what is left make up the count
+module _ (s : List ℕ) (e : ℕ) (reverse : Bool) (p count : ℕ) where
+  abbrev Past : Bool → ℕ → ℕ → Type 0
+  Past marks q left = (o : ReadOver s e reverse p q) × (passedIn marks o + left ≡ count)
+
+  abbrev SpanPast : Bool → Span → Type 0
+  SpanPast marks y = Past marks (y .position) (y .left)
+
+  -- nothing is read over yet, and all of the count is left
+  past-none : (marks : Bool) (left : ℕ) → left ≡ count → Past marks p left
+  unfolding passedIn
+  past-none marks left y = (nothing-yet, omega arith)
+
+  -- a gap does not count
+  past-gap : (marks : Bool) (left q t : ℕ) → Past marks q left → passed s reverse q e ≡ met.Gap t → Past marks t left
+  unfolding passedIn
+  past-gap marks left q t (o, c) g = (then-gap o g, c)
+
+  -- a record counts, unless marks do
+  past-record : (marks : Bool) (y : Span) (n q t : ℕ) (tmk : Bool) → (y .left ≡ 0 → ⊥) → Past marks q (y .left) → passed s reverse q e ≡ met.Record n t
+      → SpanHas (SpanPast marks) (pick marks (turn-as.On (span t (y .left) tmk false)) (turn-as.On (span t (y .left - 1) tmk false)))
+  unfolding passedIn
+  past-record true y n q t tmk some (o, c) g = (then-record o g, omega arith)
+  past-record false y n q t tmk some (o, c) g = (then-record o g, omega arith)
+
+  -- a mark counts where marks do, and ends records
+  past-mark : (marks both : Bool) (y : Span) (q t : ℕ) → (y .left ≡ 0 → ⊥) → Past marks q (y .left) → passed s reverse q e ≡ met.Mark t
+      → SpanHas (SpanPast marks)
+      (pick marks
+      (pick both (turn-as.Over (stopped stop-as.LogicalEnd (span t (y .left - 1) true true))) (turn-as.On (span t (y .left - 1) true true)))
+      (turn-as.Over (stopped stop-as.Mark (span t (y .left) true true))))
+  unfolding passedIn
+  past-mark true both y q t some (o, c) g =
+      let past : Past true t (y .left - 1) = (then-mark o g, omega arith) in
+      either (SpanHas (SpanPast true)) both _ _ past past
+  past-mark false both y q t some (o, c) g = (then-mark o g, omega arith)
+
+-- a space or a skip by the rule r
+module _ (s : List ℕ) (e : ℕ) (r : Rule) (p count : ℕ) where
+  abbrev RulePast : Span → Type 0
+  RulePast = SpanPast s e (r .reverse) p count (r .marks)
+
+  -- each turn, by what its search found
+  turn-past : (y : Span) (f : Sought) → RulePast y → (y .left ≡ 0 → ⊥)
+      → Found s e (r .reverse) (λ q. Past s e (r .reverse) p count (r .marks) q (y .left)) (past-gap s e (r .reverse) p count (r .marks) (y .left)) f
+      → SpanHas RulePast (turnOf r y f)
+  unfolding turnOf recordTurn markTurn
+  turn-past y (sought-as.Record n t) before some (q, a, g) = past-record s e (r .reverse) p count (r .marks) y n q t (y .tmk) some a g
+  turn-past y (sought-as.Mark t) before some (q, a, g) = past-mark s e (r .reverse) p count (r .marks) (r .ess && y .«after_mark») y q t some a g
+  turn-past y (sought-as.Nothing t) before some a = a
+  turn-past y (sought-as.Bad k) before some a = before
+
+  -- so where a space ends
+  spaced-past : (x : Span) → RulePast x → RulePast (spaced s r e x .span)
+  spaced-past x =
+      spaced-keeps s r e RulePast
+      (λ y a some.
+      turn-past y _ a some
+      (found s e (r .reverse) (λ q. Past s e (r .reverse) p count (r .marks) q (y .left)) (past-gap s e (r .reverse) p count (r .marks) (y .left)) (y .position) a))
+      x
+
+  -- an end of a Position: the objects that it read over, and the residual that it tells
+  abbrev EndPast : Ending → Type 0
+  EndPast x = Past s e (r .reverse) p count (r .marks) (x .tape .position) (residualWord (x .end .residual))
+
+  space-past : (x : Span) (stop : Stop) → RulePast x → Has EndPast (spaceMotionBy r x e stop)
+  unfolding spaceMotionBy
+  space-past x stop-as.Count (o, c) = (o, rw (left-told r x stop-as.Count) c)
+  space-past x stop-as.Mark (o, c) = (o, rw (left-told r x stop-as.Mark) c)
+  space-past x stop-as.LogicalEnd (o, c) = (o, rw (left-told r x stop-as.LogicalEnd) c)
+  space-past x stop-as.Nothing (o, c) = (o, rw (left-told r x stop-as.Nothing) c)
+  space-past x (stop-as.Bad k) a = tt
+
+-- "A Position count of 0 moves nothing"; any other reads over objects from where the tape stands
+position-past : (s : List ℕ) (t : Tape) (r : Rule) (count : ℕ) (enb : Bool) → Has (EndPast s (t .end) r (t .position) count) (positioned s t r count enb)
+unfolding positioned spaceMotion
+position-past s t r count enb =
+    let x : Span = startSpan t count enb in
+    pick-told (Has (EndPast s (t .end) r (t .position) count)) (eqb count 0) _ _
+    (λ z. past-none s (t .end) (r .reverse) (t .position) count (r .marks) _ (residual-word (r .marks) 0 ∙ sym (eqb-true count 0 z)))
+    (λ z. space-past s (t .end) r (t .position) count _ _ (spaced-past s (t .end) r (t .position) count x (past-none s (t .end) (r .reverse) (t .position) count (r .marks) count refl)))
+
+-- code 8 is a Position: modes 0 to 3 go one way or the other, over records or marks, and an end of steps 8 to 10 gives their whole count
+position-command : (code mode : ℕ) → code ≡ 8 → commandOf code mode ≡ positionMode mode
+unfolding commandOf
+position-command code mode y = rw y
+
+position-mode : (v : Unit) (m s : List ℕ) (h : Header) (x : Packet) (mode : ℕ) → mode < 4 → carriedOut v m s h x (positionMode mode) ≡ positionedBy v s h x (eqb mode 1 || eqb mode 3) (leb 2 mode)
+unfolding positionMode carriedOut
+position-mode v m s h x zero l = refl
+position-mode v m s h x (suc zero) l = refl
+position-mode v m s h x (suc (suc zero)) l = refl
+position-mode v m s h x (suc (suc (suc zero))) l = refl
+position-mode v m s h x (suc (suc (suc (suc mode)))) l = absurd (omega arith)
+
+position-reverse : (h : Header) → h .code ≡ 8 → reverseFirst h ≡ (eqb (h .mode) 1 || eqb (h .mode) 3)
+position-reverse h y = simp (y, or-false)
+
+position-whole : (h : Header) (count : ℕ) → h .code ≡ 8 → h .mode < 4 → residualWord (wholeCount h count) ≡ count
+unfolding wholeCount
+position-whole h count y l = rw (y, lt-ltb (h .mode) 4 l) (either (λ (x : Residual). residualWord x ≡ count) (ltb (h .mode) 2) _ _ refl refl)
+
+module _ (u : Unit) (m s : List ℕ) where
+  -- of a plan, what `SpaceDone` says of the advance
+  abbrev SpaceTold : Bool → Bool → Plan → Type 0
+  SpaceTold reverse marks x =
+      Past s (u .tape .end) reverse (u .tape .position) (packet u m s .count) marks (x .unit .tape .position) (wordAt (memoryAfter x m s) (x .unit .characteristics .address + 4))
+
+  space-told : (reverse marks : Bool) (v : Unit) (ie : Bool) (x : Ending)
+      → Past s (u .tape .end) reverse (u .tape .position) (packet u m s .count) marks (x .tape .position) (residualWord (x .end .residual)) → Sends u m s (told v ie x)
+      → SpaceTold reverse marks (told v ie x)
+  unfolding told toldUnit ended
+  space-told reverse marks v ie x (o, c) (t, room) = (o, rw (told-word v ie x m s t room) c)
+
+  -- a Position either way, over records or marks
+  position-told : (reverse marks : Bool) → Sends u m s (positionedBy (started u m s) s (header u m s) (packet u m s) reverse marks)
+      → SpaceTold reverse marks (positionedBy (started u m s) s (header u m s) (packet u m s) reverse marks)
+  unfolding positionedBy
+  position-told reverse marks =
+      motion-sends u m s (SpaceTold reverse marks) _ (started u m s) (header u m s .ie) (space-told reverse marks (started u m s) (header u m s .ie)) _
+      (position-past s (u .tape) (record { reverse = reverse; marks = marks; ess = u .characteristics .ess }) (packet u m s .count) (u .characteristics .enb))
+
+  space-ran : header u m s .code ≡ 8 → header u m s .mode < 4 → {x : Plan} → Ran u m s x → Sends u m s x → SpaceTold (reverseFirst (header u m s)) (leb 2 (header u m s .mode)) x
+  space-ran code few (not-run class shown) = space-told _ _ _ _ _ (past-none s _ _ _ _ _ _ (position-whole (header u m s) (packet u m s .count) code few))
+  space-ran code few run =
+      let h : Header = header u m s in
+      let reverse : Bool = reverseFirst h in
+      let marks : Bool = leb 2 (h .mode) in
+      let by : Bool → Plan = λ b. positionedBy (started u m s) s h (packet u m s) b marks in
+      let is : carriedOut (started u m s) m s h (packet u m s) (commandOf (h .code) (h .mode)) ≡ by reverse = ap (carriedOut (started u m s) m s h (packet u m s)) (position-command (h .code) (h .mode) code) ∙ position-mode (started u m s) m s h (packet u m s) (h .mode) few ∙ ap by (sym (position-reverse h code)) in
+      subst (λ (x : Plan). Sends u m s x → SpaceTold reverse marks x) (sym is) (position-told reverse marks)
+
+  -- "records or marks for Position modes 0 to 3": of every such Position that was fetched and whose message went out
+  pub space-done : Fetched u m s → header u m s .code ≡ 8 → header u m s .mode < 4 → Sent u m s → SpaceDone u m s
+  space-done f code few sent =
+      let past : SpaceTold (reverseFirst (header u m s)) (leb 2 (header u m s .mode)) (advanced u m s) = space-ran code few (fetched-ran u m s f (advanced-way u m s)) (sent .sends, sent .inside) in
+      record { over = past .0; counted = past .1 }
