@@ -5,7 +5,7 @@ use mathlib.Core.Path.{_≡_, refl, sym, ap, subst, _∙_}
 use Prim.Native.Nat.{ℕ, zero, suc, _+_, _-_, _*_, _/_, _<_, _≤_, min}
 use native.Mathlib.Nat.{suc-add}
 use native.Mathlib.Omega.{arith}
-use borrow.Author.Tests.{eqb-true, lt-ltb, ltb-true}
+use borrow.Author.Tests.{eqb-true, lt-ltb, ltb-false, ltb-true}
 use lib.Dec.{eqb, leb, ltb}
 use lib.ListN.{length, getD, length-drop, length-take}
 use Rattle.lists.specs.Pick.{Always, pick}
@@ -65,7 +65,7 @@ use Rattle.commands.specs.declared.plans.Plan.{Plan}
 use Rattle.storing.specs.Stored.{laidObject, laidObjects, laidOn, memoryAfter, movedOn, reelAfter}
 use Rattle.storing.proofs.Lengths.{length-moved}
 use Rattle.storing.proofs.Ways.{message-sent}
-use Rattle.advance.specs.Rules.{isIllegal, reverseFirst, wholeCount}
+use Rattle.advance.specs.Rules.{hasExtent, isIllegal, reverseFirst, wholeCount}
 use Rattle.advance.specs.Steps.{advanced}
 use Rattle.demands.specs.Done.{Gave, ReadDone, Sent, SpaceDone, gave-none, gave-record, passedIn}
 use Rattle.demands.specs.Faults.{ReadOver, nothing-yet, then-gap, then-mark, then-record}
@@ -184,16 +184,27 @@ unfolding movedBytes
 length-some true count d = rw length-drop (omega arith)
 length-some false count d = rw length-take (omega arith)
 
+-- and where each of them goes: into the buffer
+chosen-place : (reverse : Bool) (pointer count n i : ℕ) → i < min n count → (pointer ≤ movedTo reverse pointer count n + i) × (movedTo reverse pointer count n + i < pointer + count)
+unfolding movedTo
+chosen-place true pointer count n i l = (omega arith, omega arith)
+chosen-place false pointer count n i l = (omega arith, omega arith)
+
 -- the advance of the state u over memory m and reel s
 module _ (u : Unit) (m s : List ℕ) where
-  abbrev asks : Buffer
+  abbrev pub asks : Buffer
   asks = asked (header u m s) (packet u m s)
+
+  -- bytes from this place on that lie in the Read's buffer, and in memory
+  abbrev pub Within : ℕ → List ℕ → Type 0
+  Within place l = (i : ℕ) → i < length l → (asks .pointer ≤ place + i) × (place + i < asks .pointer + asks .count) × (place + i < length m)
 
   -- what an end of a Read stores of the reel, at which place; as many bytes as the count but for the residual
   record ReadAs (x : Ending) : Type 0 where
     stored : List ℕ
     gave : Gave u m s stored
     place : ℕ
+    within : Within place stored
     laid : x .laid ≡ noLay
     bytes : movedOn s (x .moved) m ≡ placed (asks .swb) m place stored
     counted : length stored + residualWord (x .end .residual) ≡ asks .count
@@ -201,22 +212,7 @@ module _ (u : Unit) (m s : List ℕ) where
   -- an end that moves nothing and gives the whole count
   rests-as : (x : End) (t : Tape) → residualWord (x .residual) ≡ asks .count → ReadAs (resting x t)
   unfolding movedOn readInto movedBytes placed
-  rests-as x t y = record { stored = []; gave = gave-none; place = 0; laid = refl; bytes = refl; counted = omega (arith, y) }
-
-  -- an end that moves a record whose pieces stand
-  record-as : (reverse : Bool) (n q : ℕ) (t : Tape) (rev : Bool) → StandsTo s reverse n q → Has ReadAs (readMotion asks reverse n q t rev)
-  unfolding readMotion readEnd movedOn readInto
-  record-as reverse n q t rev k =
-      let p : ℕ = firstBlock reverse n q in
-      let d : List ℕ = recordBytes s p n in
-      record {
-        stored = movedBytes reverse (asks .count) d;
-        gave = gave-record reverse p n (k .1);
-        place = movedTo reverse (asks .pointer) (asks .count) (length d);
-        laid = refl;
-        bytes = refl;
-        counted = omega (arith, length-some reverse (asks .count) d, stands-long s reverse n q k);
-      }
+  rests-as x t y = record { stored = []; gave = gave-none; place = 0; within = λ i l. absurd (omega arith); laid = refl; bytes = refl; counted = omega (arith, y) }
 
   -- a stage that is over ends so, and a record that it found stands
   abbrev StageAs : Bool → Stage → Type 0
@@ -236,17 +232,35 @@ module _ (u : Unit) (m s : List ℕ) where
   goes-on t reverse f on =
       on-record (Has ReadAs) (StandsTo s reverse) _ f (stage-by t reverse _ (found s (t .end) reverse (λ q. Always) (λ q t a y. tt) (t .position) tt)) on
 
-  -- a Read, and a reread in either order of its stages
-  one-as : (t : Tape) (reverse : Bool) → Has ReadAs (readOne s t asks reverse)
-  unfolding readOne
-  one-as t reverse = goes-on t reverse _ (λ n q k. record-as reverse n q _ reverse k)
+  -- step 10 let it pass: the data lie in memory
+  module _ (fits : asks .pointer + asks .count ≤ length m) where
+    -- an end that moves a record whose pieces stand
+    record-as : (reverse : Bool) (n q : ℕ) (t : Tape) (rev : Bool) → StandsTo s reverse n q → Has ReadAs (readMotion asks reverse n q t rev)
+    unfolding readMotion readEnd movedOn readInto
+    record-as reverse n q t rev k =
+        let p : ℕ = firstBlock reverse n q in
+        let d : List ℕ = recordBytes s p n in
+        record {
+          stored = movedBytes reverse (asks .count) d;
+          gave = gave-record reverse p n (k .1);
+          place = movedTo reverse (asks .pointer) (asks .count) (length d);
+          laid = refl;
+          bytes = refl;
+          within = λ i l. let at = chosen-place reverse (asks .pointer) (asks .count) (length d) i (omega (arith, length-some reverse (asks .count) d)) in (at .0, at .1, omega (arith, at .1));
+          counted = omega (arith, length-some reverse (asks .count) d, stands-long s reverse n q k);
+        }
 
-  reread-as : (t : Tape) (reverse opp : Bool) → Has ReadAs (reread s t asks reverse opp)
-  unfolding reread readThenSpace spaceThenRead spaceBack
-  reread-as t reverse opp =
-      either (Has ReadAs) opp _ _
-      (goes-on t reverse _ (λ n q k. goes-on _ (not reverse) _ (λ n′ b l. record-as reverse n q _ (not reverse) k)))
-      (goes-on t reverse _ (λ n q k. one-as _ (not reverse)))
+    -- a Read, and a reread in either order of its stages
+    one-as : (t : Tape) (reverse : Bool) → Has ReadAs (readOne s t asks reverse)
+    unfolding readOne
+    one-as t reverse = goes-on t reverse _ (λ n q k. record-as reverse n q _ reverse k)
+
+    reread-as : (t : Tape) (reverse opp : Bool) → Has ReadAs (reread s t asks reverse opp)
+    unfolding reread readThenSpace spaceThenRead spaceBack
+    reread-as t reverse opp =
+        either (Has ReadAs) opp _ _
+        (goes-on t reverse _ (λ n q k. goes-on _ (not reverse) _ (λ n′ b l. record-as reverse n q _ (not reverse) k)))
+        (goes-on t reverse _ (λ n q k. one-as _ (not reverse)))
 
   -- a plan whose message goes into a buffer inside memory
   abbrev Sends : Plan → Type 0
@@ -255,7 +269,8 @@ module _ (u : Unit) (m s : List ℕ) where
   -- what a command that was fetched comes to: an end of steps 8 to 10, that gives the whole count, or what it is carried out as
   data Ran : Plan → Type 0 where
     not-run : (class shown : ℕ) → Ran (ends (started u m s) (header u m s .ie) class shown (wholeCount (header u m s) (packet u m s .count)))
-    run : Ran (carriedOut (started u m s) m s (header u m s) (packet u m s) (commandOf (header u m s .code) (header u m s .mode)))
+    run : (hasExtent (header u m s) && ltb (length m) (packet u m s .pointer + packet u m s .count)) ≡ false
+        → Ran (carriedOut (started u m s) m s (header u m s) (packet u m s) (commandOf (header u m s .code) (header u m s .mode)))
 
   fetched-ran : Fetched u m s → {x : Plan} → Way u m s x → Ran x
   fetched-ran f (idle a b) = absurd (clash (cc (a, f .begins .waits .waiting)))
@@ -271,7 +286,7 @@ module _ (u : Unit) (m s : List ℕ) where
   fetched-ran f (locked g a b c) = not-run _ _
   fetched-ran f (not-executable g a b c d) = not-run _ _
   fetched-ran f (no-extent r a) = not-run _ _
-  fetched-ran f (carried r a) = run
+  fetched-ran f (carried r a) = run a
 
   -- a motion that sends ended: a fault sends nothing
   motion-sends : (P : Plan → Type 0) (Q : Ending → Type 0) (v : Unit) (ie : Bool) → ((x : Ending) → Q x → Sends (told v ie x) → P (told v ie x)) → (y : Motion) → Has Q y → Sends (motionPlan v ie y) → P (motionPlan v ie y)
@@ -284,6 +299,7 @@ module _ (u : Unit) (m s : List ℕ) where
     stored : List ℕ
     gave : Gave u m s stored
     place : ℕ
+    within : Within place stored
     memory : memoryAfter x m s ≡ messaged (placed (header u m s .swb) m place stored) (x .unit .characteristics .address) (x .message)
     counted : length stored + wordAt (memoryAfter x m s) (x .unit .characteristics .address + 4) ≡ packet u m s .count
 
@@ -299,22 +315,23 @@ module _ (u : Unit) (m s : List ℕ) where
         stored = k .stored;
         gave = k .gave;
         place = k .place;
+        within = k .within;
         memory = message-over (told v ie x) m s t ∙ rw (none-laid (x .laid) (k .laid), k .bytes);
         counted = rw (told-word v ie x m s t room) (k .counted);
       }
 
   -- a Read by its mode: every mode that is known reads
-  mode-told : (mode : ℕ) → isIllegal (readMode mode) ≡ false → (v : Unit) → Sends (carriedOut v m s (header u m s) (packet u m s) (readMode mode))
+  mode-told : asks .pointer + asks .count ≤ length m → (mode : ℕ) → isIllegal (readMode mode) ≡ false → (v : Unit) → Sends (carriedOut v m s (header u m s) (packet u m s) (readMode mode))
       → ReadTold (carriedOut v m s (header u m s) (packet u m s) (readMode mode))
   unfolding readMode isIllegal carriedOut readBy rereadBy
-  mode-told mode known v =
+  mode-told fits mode known v =
       let h : Header = header u m s in
       let P : Command → Type 0 = λ c. isIllegal c ≡ false → Sends (carriedOut v m s h (packet u m s) c) → ReadTold (carriedOut v m s h (packet u m s) c) in
       let by : (y : Motion) → Has ReadAs y → Sends (motionPlan v (h .ie) y) → ReadTold (motionPlan v (h .ie) y) = motion-sends ReadTold ReadAs v (h .ie) (read-told v (h .ie)) in
-      either P (eqb mode 0) _ _ (λ i. by _ (one-as (v .tape) false))
-      (either P (eqb mode 1) _ _ (λ i. by _ (one-as (v .tape) true))
-      (either P (eqb mode 2) _ _ (λ i. by _ (reread-as (v .tape) true (h .opp)))
-      (either P (eqb mode 3) _ _ (λ i. by _ (reread-as (v .tape) false (h .opp)))
+      either P (eqb mode 0) _ _ (λ i. by _ (one-as fits (v .tape) false))
+      (either P (eqb mode 1) _ _ (λ i. by _ (one-as fits (v .tape) true))
+      (either P (eqb mode 2) _ _ (λ i. by _ (reread-as fits (v .tape) true (h .opp)))
+      (either P (eqb mode 3) _ _ (λ i. by _ (reread-as fits (v .tape) false (h .opp)))
       (λ i. absurd (clash (cc i)))))) known
 
 -- code 1 is a Read, and an end of steps 8 to 10 gives its whole count
@@ -326,20 +343,28 @@ read-whole : (h : Header) (count : ℕ) → h .code ≡ 1 → residualWord (whol
 unfolding wholeCount
 read-whole h count y = rw y
 
+-- and step 10 asks whether its data lie in memory
+read-extent : (h : Header) (room to : ℕ) → h .code ≡ 1 → (hasExtent h && ltb room to) ≡ false → to ≤ room
+read-extent h room to y z = ltb-false room to (rw y at z)
+
 module _ (u : Unit) (m s : List ℕ) where
   read-ran : header u m s .code ≡ 1 → isIllegal (commandOf (header u m s .code) (header u m s .mode)) ≡ false → {x : Plan} → Ran u m s x → Sends u m s x → ReadTold u m s x
   read-ran code known (not-run class shown) = read-told u m s _ _ _ (rests-as u m s _ _ (read-whole (header u m s) (packet u m s .count) code))
-  read-ran code known run =
+  read-ran code known (run a) =
       let h : Header = header u m s in
       let P : Command → Type 0 = λ c. isIllegal c ≡ false → Sends u m s (carriedOut (started u m s) m s h (packet u m s) c) → ReadTold u m s (carriedOut (started u m s) m s h (packet u m s) c) in
-      subst P (sym (read-command (h .code) (h .mode) code)) (λ i. mode-told u m s (h .mode) i (started u m s)) known
+      subst P (sym (read-command (h .code) (h .mode) code)) (λ i. mode-told u m s (read-extent h (length m) _ code a) (h .mode) i (started u m s)) known
 
-  -- "The residual counts bytes for Read": of every Read that was fetched and whose message went out
-  pub read-done : Fetched u m s → header u m s .code ≡ 1 → Sent u m s → ReadDone u m s
-  read-done f code sent =
+  -- "The residual counts bytes for Read": of every Read that was fetched and whose message went out; and each byte stored has its place in the
+  -- buffer that the command gave, inside memory
+  pub read-stored : Fetched u m s → header u m s .code ≡ 1 → Sent u m s → (r : ReadDone u m s) × Within u m s (r .place) (r .stored)
+  read-stored f code sent =
       let known = neither (not (header u m s .plain)) (isIllegal (commandOf (header u m s .code) (header u m s .mode))) (f .known) .1 in
       let told : ReadTold u m s (advanced u m s) = read-ran code known (fetched-ran u m s f (advanced-way u m s)) (sent .sends, sent .inside) in
-      record { stored = told .stored; gave = told .gave; place = told .place; memory = told .memory; counted = told .counted }
+      (record { stored = told .stored; gave = told .gave; place = told .place; memory = told .memory; counted = told .counted }, told .within)
+
+  pub read-done : Fetched u m s → header u m s .code ≡ 1 → Sent u m s → ReadDone u m s
+  read-done f code sent = read-stored f code sent .0
 
 -- a space on the reel s recorded up to e, from p on: objects were read over up to q, and those that count and what is left make up the count
 module _ (s : List ℕ) (e : ℕ) (reverse : Bool) (p count : ℕ) where
@@ -465,7 +490,7 @@ module _ (u : Unit) (m s : List ℕ) where
 
   space-ran : header u m s .code ≡ 8 → header u m s .mode < 4 → {x : Plan} → Ran u m s x → Sends u m s x → SpaceTold (reverseFirst (header u m s)) (leb 2 (header u m s .mode)) x
   space-ran code few (not-run class shown) = space-told _ _ _ _ _ (past-none s _ _ _ _ _ _ (position-whole (header u m s) (packet u m s .count) code few))
-  space-ran code few run =
+  space-ran code few (run a) =
       let h : Header = header u m s in
       let reverse : Bool = reverseFirst h in
       let marks : Bool = leb 2 (h .mode) in
