@@ -9,3 +9,4 @@ pub mod ReadEnds
 pub mod Nearest
 pub mod Rereads
 pub mod EndOfTape
+pub mod Done

@@ -105,14 +105,14 @@ module _ (s : List ℕ) (t : Tape) (r : Buffer) (reverse : Bool) {x : Ending} wh
   reread-residual opp y = rw y at (reread-adds r s t reverse opp)
 
 -- the number in a Position's residual
-residual-word : (marks : Bool) (n : ℕ) → residualWord (residualOf marks n) ≡ n
+pub residual-word : (marks : Bool) (n : ℕ) → residualWord (residualOf marks n) ≡ n
 unfolding residualOf
 residual-word true n = refl
 residual-word false n = refl
 
 -- every end of a space tells what is left, and class 0 only where the count is exhausted
 module _ (r : Rule) (x : Span) where
-  left-told : (stop : Stop) → residualWord (spaceEnd r x stop .residual) ≡ x .left
+  pub left-told : (stop : Stop) → residualWord (spaceEnd r x stop .residual) ≡ x .left
   unfolding spaceEnd
   left-told stop-as.Count = residual-word (r .marks) (x .left)
   left-told stop-as.Mark = residual-word (r .marks) (x .left)

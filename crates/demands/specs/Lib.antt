@@ -3,6 +3,7 @@
 pub mod Ways
 pub mod Commands
 pub mod Faults
+pub mod Done
 pub mod Reading
 pub mod ReadBack
 pub mod Spacing
