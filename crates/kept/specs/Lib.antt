@@ -1,2 +1,3 @@
 -- What an advance keeps.
 pub mod Formed
+pub mod Leaving
