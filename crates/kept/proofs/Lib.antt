@@ -7,3 +7,5 @@ pub mod Writing
 pub mod Carrying
 pub mod Lengths
 pub mod Advanced
+pub mod Laying
+pub mod Leaving

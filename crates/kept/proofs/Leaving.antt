@@ -1,0 +1,171 @@
+-- What a Write or Format that is carried out leaves on a well formed reel: the objects before, and the new ones; or all as it was.
+use mathlib.Core.Bool.{Bool, true, false, _&&_}
+use mathlib.Core.List.{List, [], _∷_, _++_}
+use mathlib.Core.Logic.{_⊎_, inl, inr, ⊎-elim}
+use mathlib.Core.Path.{_≡_, refl, ap, sym, subst, _∙_}
+use Prim.Native.Nat.{ℕ, _+_, _*_, _≤_}
+use native.Mathlib.Omega.{arith}
+use borrow.Author.Tests.{eqb-true, ltb-false}
+use lib.Dec.{eqb, ltb}
+use lib.ListN.{length}
+use Rattle.lists.proofs.Cases.{pick-told}
+use Rattle.tape.specs.Numbers.{blockBytes}
+use Rattle.tape.specs.Objects.{Holds, Object, gap}
+use Rattle.signals.specs.declared.packet.Header.{Header}
+use Rattle.signals.specs.declared.packet.Packet.{Packet}
+use Rattle.state.specs.declared.Tape.{Tape}
+use Rattle.state.specs.declared.Unit.{Unit}
+use Rattle.moves.specs.Between.{Between, Bound}
+use Rattle.moves.specs.declared.seeking.Sought.{Sought}
+use Rattle.moves.proofs.Bounds.{stays}
+use Rattle.moves.proofs.Finds.{Finds, finds, finds-mark, finds-nothing, finds-record}
+use Rattle.motions.specs.Parts.{laidBlocks, noLay, objectBlocks}
+use Rattle.motions.specs.Writes.{behindGap, noRoom, retried, retriedBy, writtenAt, writtenMotion}
+use Rattle.motions.specs.declared.parts.Laid.{Laid}
+use Rattle.motions.specs.declared.parts.Motion.{Motion}
+use Rattle.motions.specs.declared.parts.Motion.the-variants as motion
+use Rattle.motions.specs.declared.parts.ObjectKind.{ObjectKind}
+use Rattle.motions.specs.declared.parts.ObjectKind.the-variants as kind
+use Rattle.commands.specs.Commands.{laidHere, laying}
+use Rattle.commands.specs.Ends.{ended, motionPlan, told, toldUnit}
+use Rattle.commands.specs.declared.plans.Plan.{Plan}
+use Rattle.storing.specs.Stored.{laidObject, laidObjects, laidOn, reelAfter}
+use Rattle.storing.proofs.Lengths.{blocks-laid}
+use Rattle.advance.specs.Rules.{hasExtent, writes}
+use Rattle.advance.specs.Steps.{advanced}
+use Rattle.demands.specs.Ways.{Runs, header, packet, started}
+use Rattle.kept.specs.Leaving.{Lays, Wrote, again-over-mark, again-over-record, objectFor, plainly}
+use Rattle.kept.proofs.Laying.{Lay, advance-lays}
+use Rattle.kept.proofs.Overlaid.{overlaid}
+use Rattle.kept.proofs.Standing.{unlaid}
+use Rattle.kept.proofs.Writing.{RightLength, laid-allowed}
+
+-- a retry lays the same object, behind a gap
+behind : (m : List ℕ) (l : Laid) (q : ℕ) (k : ObjectKind) → laidObject m (behindGap l q) k ≡ laidObject m l k
+unfolding laidObject behindGap
+behind m l q kind.Nothing = refl
+behind m l q kind.Mark = refl
+behind m l q kind.Gap = refl
+behind m l q kind.Record = refl
+
+pub gap-and-object : (m : List ℕ) (l : Laid) (q : ℕ) {o : Object} → laidObject m l (l .object) ≡ o ∷ [] → laidObjects m (behindGap l q) ≡ gap ∷ (o ∷ [])
+unfolding laidObjects behindGap
+gap-and-object m l q e = ap (λ (os : List Object). gap ∷ os) (behind m l q (l .object) ∙ e)
+
+-- a write of the object o in this mode, from the tape t over the reel s, which holds the objects os
+module _ (s m : List ℕ) (t : Tape) (os : List Object) (o : Object) (mode : ℕ) where
+  -- the reel s′ and the tape t′ as it leaves them: what it went over is gone, and what it lays stands last, where the tape stands
+  record Left (s′ : List ℕ) (t′ : Tape) : Type 0 where
+    stop : ℕ
+    over : List Object
+    new : List Object
+    between : Between os true (t .position) stop over
+    lays : Lays o mode over new
+    holds : Holds s′ (t′ .end) (between .before ++ new)
+    last : t′ .position ≡ t′ .end
+
+  -- nothing laid, and the recorded end as it was
+  abbrev Same : Laid → Tape → Type 0
+  Same l t′ = (l ≡ noLay) × (t′ .end ≡ t .end)
+
+  -- the one or the other, by what is laid and where the tape stands then
+  abbrev Leaves : Laid → Tape → Type 0
+  Leaves l t′ = Left (laidOn s m l) t′ ⊎ Same l t′
+
+  abbrev MotionLeaves : Motion → Type 0
+  MotionLeaves (motion.Ended x) = Leaves (x .laid) (x .tape)
+  MotionLeaves (motion.Fault k) = ⊥
+
+  abbrev PlanLeaves : Plan → Type 0
+  PlanLeaves q = Left (reelAfter q m s) (q .unit .tape) ⊎ Same (q .laid) (q .unit .tape)
+
+  -- a plan leaves what its motion leaves
+  plan-leaves : (u : Unit) (ie : Bool) (y : Motion) → MotionLeaves y → PlanLeaves (motionPlan u ie y)
+  unfolding motionPlan told toldUnit ended reelAfter
+  plan-leaves u ie (motion.Ended x) k = k
+  plan-leaves u ie (motion.Fault b) k = absurd k
+
+  module _ (blocks : ℕ) (whole : length s ≡ blockBytes * blocks) (h : Holds s (t .end) os) (b : Bound os (t .position)) (mark : Bool) where
+    -- objects laid where the stretch that it goes over begins
+    module _ (l : Laid) (r : RightLength (l .object) (l .length)) {over : List Object} (c : Between os true (t .position) (l .at) over) (y : Lays o mode over (laidObjects m l)) where
+      laid-leaves : l .at + laidBlocks l ≤ blocks → MotionLeaves (writtenMotion l blocks mark)
+      unfolding writtenMotion laidOn
+      laid-leaves fits =
+          let at : Bound os (l .at) = record { before = c .before; after = over ++ c .after; whole = c .whole; place = sym (c .to) } in
+          inl
+          (record {
+            stop = l .at;
+            over = over;
+            new = laidObjects m l;
+            between = c;
+            lays = y;
+            holds = overlaid h at (laidObjects m l) (laidBlocks l) (blocks-laid m l) (laid-allowed m l r) (omega arith);
+            last = refl;
+          })
+
+      written-leaves : MotionLeaves (writtenAt t blocks l mark)
+      unfolding writtenAt noRoom
+      written-leaves =
+          pick-told MotionLeaves (ltb blocks (l .at + laidBlocks l)) _ _ (λ f. inr (refl, refl)) (λ f. laid-leaves (ltb-false blocks (l .at + laidBlocks l) f))
+
+    module _ (k : ObjectKind) (pointer n : ℕ) (swb : Bool) (r : RightLength k n) (one : laidObject m (laidHere t k pointer n swb) k ≡ o ∷ []) where
+      -- where the tape stands it goes over nothing
+      plain-leaves : eqb mode 2 ≡ false → MotionLeaves (writtenAt t blocks (laidHere t k pointer n swb) mark)
+      unfolding laidObjects
+      plain-leaves e = written-leaves (laidHere t k pointer n swb) r (stays true b) (rw one (plainly e))
+
+      -- a retry goes over what its search finds, and lays a gap first
+      again-leaves : {over : List Object} {q : ℕ} → Between os true (t .position) q over → Lays o mode over (gap ∷ (o ∷ [])) → MotionLeaves (writtenAt t blocks (behindGap (laidHere t k pointer n swb) q) mark)
+      unfolding behindGap
+      again-leaves {over} {q} c y =
+          let l = laidHere t k pointer n swb in
+          written-leaves (behindGap l q) r c (subst (λ (new : List Object). Lays o mode over new) (sym (gap-and-object m l q one)) y)
+
+      again-by : mode ≡ 2 → {f : Sought} → Finds os true (t .position) f → MotionLeaves (retriedBy t blocks (laidHere t k pointer n swb) mark f)
+      unfolding retriedBy
+      again-by e (finds-record d g c) = again-leaves c (again-over-record e g)
+      again-by e (finds-mark g c) = again-leaves c (again-over-mark e g)
+      again-by e (finds-nothing g c z) = inr (refl, refl)
+
+      laying-leaves : MotionLeaves (laying s t blocks (laidHere t k pointer n swb) mark (eqb mode 2))
+      unfolding retried
+      laying-leaves = pick-told MotionLeaves (eqb mode 2) _ _ (λ e. again-by (eqb-true mode 2 e) (finds h true b)) plain-leaves
+
+-- a plan that lays one object leaves what its motion leaves
+lay-leaves : (v : Unit) (m s : List ℕ) (h : Header) (p : Packet) {q : Plan} {os : List Object} → length s ≡ blockBytes * v .lengths .blocks → Holds s (v .tape .end) os → Bound os (v .tape .position) → Lay v m s h p q → PlanLeaves s m (v .tape) os (objectFor m h p) (h .mode) q
+lay-leaves v m s h p {q} {os} whole f b y =
+    let o = objectFor m h p in
+    let left = laying-leaves s m (v .tape) os o (h .mode) (v .lengths .blocks) whole f b (y .mark) (y .kind) (y .pointer) (y .count) (y .swb) (y .right) (y .object) in
+    subst (PlanLeaves s m (v .tape) os o (h .mode)) (sym (y .plan)) (plan-leaves s m (v .tape) os o (h .mode) v (h .ie) _ left)
+
+-- of a Write or Format that is carried out, on a reel that holds the objects os, the position one of their bounds
+module _ (u : Unit) (m s : List ℕ) {os : List Object} (whole : length s ≡ blockBytes * u .lengths .blocks) (f : Holds s (u .tape .end) os) (b : Bound os (u .tape .position)) (r : Runs u m s) (inside : (hasExtent (header u m s) && ltb (length m) (packet u m s .pointer + packet u m s .count)) ≡ false) (w : writes (header u m s) ≡ true) where
+  abbrev Asked : Object
+  Asked = objectFor m (header u m s) (packet u m s)
+
+  leaves : PlanLeaves s m (u .tape) os Asked (header u m s .mode) (advanced u m s)
+  leaves = lay-leaves (started u m s) m s (header u m s) (packet u m s) whole f b (advance-lays u m s r inside w)
+
+  as-wrote : Left s m (u .tape) os Asked (header u m s .mode) (reelAfter (advanced u m s) m s) (advanced u m s .unit .tape) → Wrote u m s os
+  as-wrote y =
+      record {
+        before = y .between .before;
+        over = y .over;
+        beyond = y .between .after;
+        new = y .new;
+        whole = y .between .whole;
+        stood = y .between .from;
+        lays = y .lays;
+        holds = y .holds;
+        position = y .last ∙ sym (y .holds .ends);
+      }
+
+  -- it leaves the objects before the position, a retry those before the one that it goes over, and the new ones, or the reel and its end as they were
+  pub wrote-else-nothing : Wrote u m s os ⊎ ((reelAfter (advanced u m s) m s ≡ s) × (advanced u m s .unit .tape .end ≡ u .tape .end))
+  unfolding reelAfter
+  wrote-else-nothing = ⊎-elim (λ y. inl (as-wrote y)) (λ y. inr (rw (y .0) (unlaid s m), y .1)) leaves
+
+  -- and if it laid anything, it is the first
+  pub advanced-wrote : (laidBlocks (advanced u m s .laid) ≡ 0 → ⊥) → Wrote u m s os
+  unfolding laidBlocks objectBlocks
+  advanced-wrote some = ⊎-elim as-wrote (λ y. absurd (some (rw (y .0)))) leaves
