@@ -9,3 +9,4 @@ pub mod Lengths
 pub mod Advanced
 pub mod Laying
 pub mod Leaving
+pub mod NoRoom
