@@ -1,34 +1,42 @@
 -- A Write or Format that is carried out lays the one object that its header and packet ask for.
 use mathlib.Core.Bool.{Bool, true, false, _&&_, _||_, not, true≢false}
 use mathlib.Core.List.{List, [], _∷_}
-use mathlib.Core.Path.{_≡_, refl}
+use mathlib.Core.Path.{_≡_, refl, ap, _∙_}
 use Prim.Native.Nat.{ℕ, _+_, _≤_}
 use native.Mathlib.Omega.{arith}
 use borrow.Author.Tests.{eqb-true}
 use lib.Dec.{eqb, ltb}
 use lib.ListN.{length}
-use Rattle.lists.specs.Pick.{pick}
 use Rattle.lists.proofs.Cases.{by-test, pick-told}
 use Rattle.tape.specs.Numbers.{recordLimit}
+use Rattle.tape.specs.Objects.{Object, blocksIn, blocksOf, gap}
 use Rattle.tape.proofs.Accepted.{clash}
 use Rattle.signals.specs.Codes.{commandOf, formatMode, writeMode}
 use Rattle.signals.specs.declared.codes.Command.{Command}
 use Rattle.signals.specs.declared.codes.Command.the-variants as command
 use Rattle.signals.specs.declared.packet.Header.{Header}
 use Rattle.signals.specs.declared.packet.Packet.{Packet}
+use Rattle.state.specs.declared.Tape.{Tape}
 use Rattle.state.specs.declared.Unit.{Unit}
 use Rattle.state.proofs.Tests.{neither}
+use Rattle.moves.specs.Seeking.{sought}
+use Rattle.moves.specs.declared.seeking.Sought.{Sought}
+use Rattle.motions.specs.Parts.{laidBlocks}
+use Rattle.motions.specs.Writes.{behindGap, retried, retriedBy, writtenAt}
+use Rattle.motions.specs.declared.parts.Laid.{Laid}
 use Rattle.motions.specs.declared.parts.ObjectKind.{ObjectKind}
 use Rattle.motions.specs.declared.parts.ObjectKind.the-variants as kind
 use Rattle.commands.specs.Commands.{carriedOut, formatted, laidHere, laying, writtenBy}
 use Rattle.commands.specs.Ends.{motionPlan}
 use Rattle.commands.specs.declared.plans.Plan.{Plan}
-use Rattle.storing.specs.Stored.{laidObject}
+use Rattle.storing.specs.Stored.{laidObject, laidObjects}
+use Rattle.storing.proofs.Lengths.{blocks-laid}
 use Rattle.advance.specs.Rules.{hasExtent, isIllegal, lengthWrong, notExecutable, reverseFirst, writes}
 use Rattle.advance.specs.Steps.{advanced}
 use Rattle.demands.specs.Ways.{Runs, carried, header, packet, started}
 use Rattle.demands.proofs.Ways.{advanced-is}
 use Rattle.kept.specs.Leaving.{objectFor}
+use Rattle.kept.specs.NoRoom.{Found, found-mark, found-record}
 use Rattle.kept.proofs.Carrying.{RightCount}
 use Rattle.kept.proofs.Lengths.{right-count}
 use Rattle.kept.proofs.Writing.{RightLength}
@@ -120,3 +128,41 @@ advance-lays u m s r inside w =
     let known = neither (not (h .plain)) (isIllegal (commandOf (h .code) (h .mode))) (r .fetched .known) .1 in
     let long = neither (reverseFirst h && eqb (u .tape .position) 0) (lengthWrong h (p .count)) (r .executable) .1 in
     rw (advanced-is u m s (carried r inside)) (lays-one (started u m s) m s h p w known (right-count h (p .count) long))
+
+-- a retry lays the same object, behind a gap
+behind : (m : List ℕ) (l : Laid) (q : ℕ) (k : ObjectKind) → laidObject m (behindGap l q) k ≡ laidObject m l k
+unfolding laidObject behindGap
+behind m l q kind.Nothing = refl
+behind m l q kind.Mark = refl
+behind m l q kind.Gap = refl
+behind m l q kind.Record = refl
+
+pub gap-and-object : (m : List ℕ) (l : Laid) (q : ℕ) {o : Object} → laidObject m l (l .object) ≡ o ∷ [] → laidObjects m (behindGap l q) ≡ gap ∷ (o ∷ [])
+unfolding laidObjects behindGap
+gap-and-object m l q e = ap (λ (os : List Object). gap ∷ os) (behind m l q (l .object) ∙ e)
+
+-- a retry whose search found something lays it where the search stopped
+found-again : (t : Tape) (blocks : ℕ) (l : Laid) (mark : Bool) {at : ℕ} {f : Sought} → Found at f → retriedBy t blocks l mark f ≡ writtenAt t blocks (behindGap l at) mark
+unfolding retriedBy
+found-again t blocks l mark found-record = refl
+found-again t blocks l mark found-mark = refl
+
+-- a plan that lays the object asked for: what it lays, how many blocks that is, and where
+module _ (v : Unit) (m s : List ℕ) (h : Header) (p : Packet) {q : Plan} (y : Lay v m s h p q) where
+  abbrev pub Here : Laid
+  Here = laidHere (v .tape) (y .kind) (y .pointer) (y .count) (y .swb)
+
+  pub here-blocks : laidBlocks Here ≡ blocksIn (objectFor m h p)
+  unfolding laidObjects blocksOf
+  here-blocks = omega (arith, blocks-laid m Here, ap blocksOf (y .object))
+
+  pub again-blocks : (at : ℕ) → laidBlocks (behindGap Here at) ≡ blocksIn (objectFor m h p) + 1
+  unfolding blocksOf blocksIn
+  again-blocks at = omega (arith, blocks-laid m (behindGap Here at), ap blocksOf (gap-and-object m Here at (y .object)))
+
+  pub here-plan : eqb (h .mode) 2 ≡ false → q ≡ motionPlan v (h .ie) (writtenAt (v .tape) (v .lengths .blocks) Here (y .mark))
+  here-plan e = rw (y .plan, e)
+
+  pub again-plan : {at : ℕ} → h .mode ≡ 2 → Found at (sought s true (v .tape .position) (v .tape .end)) → q ≡ motionPlan v (h .ie) (writtenAt (v .tape) (v .lengths .blocks) (behindGap Here at) (y .mark))
+  unfolding retried
+  again-plan e found = rw (y .plan, e, found-again (v .tape) (v .lengths .blocks) Here (y .mark) found)

@@ -10,12 +10,15 @@ use lib.Dec.{eqb, ltb}
 use lib.ListN.{length}
 use Rattle.lists.proofs.Cases.{pick-told}
 use Rattle.tape.specs.Numbers.{blockBytes}
-use Rattle.tape.specs.Objects.{Holds, Object, gap}
+use Rattle.tape.specs.Objects.{Holds, Object, blocksIn, gap}
+use Rattle.tape.proofs.Images.{one-or-more}
+use Rattle.tape.proofs.Passes.{allowed-at}
 use Rattle.signals.specs.declared.packet.Header.{Header}
 use Rattle.signals.specs.declared.packet.Packet.{Packet}
 use Rattle.state.specs.declared.Tape.{Tape}
 use Rattle.state.specs.declared.Unit.{Unit}
 use Rattle.moves.specs.Between.{Between, Bound}
+use Rattle.moves.specs.Seeking.{sought}
 use Rattle.moves.specs.declared.seeking.Sought.{Sought}
 use Rattle.moves.proofs.Bounds.{stays}
 use Rattle.moves.proofs.Finds.{Finds, finds, finds-mark, finds-nothing, finds-record}
@@ -25,7 +28,6 @@ use Rattle.motions.specs.declared.parts.Laid.{Laid}
 use Rattle.motions.specs.declared.parts.Motion.{Motion}
 use Rattle.motions.specs.declared.parts.Motion.the-variants as motion
 use Rattle.motions.specs.declared.parts.ObjectKind.{ObjectKind}
-use Rattle.motions.specs.declared.parts.ObjectKind.the-variants as kind
 use Rattle.commands.specs.Commands.{laidHere, laying}
 use Rattle.commands.specs.Ends.{ended, motionPlan, told, toldUnit}
 use Rattle.commands.specs.declared.plans.Plan.{Plan}
@@ -35,22 +37,11 @@ use Rattle.advance.specs.Rules.{hasExtent, writes}
 use Rattle.advance.specs.Steps.{advanced}
 use Rattle.demands.specs.Ways.{Runs, header, packet, started}
 use Rattle.kept.specs.Leaving.{Lays, Wrote, again-over-mark, again-over-record, objectFor, plainly}
-use Rattle.kept.proofs.Laying.{Lay, advance-lays}
+use Rattle.kept.specs.NoRoom.{Found}
+use Rattle.kept.proofs.Laying.{Here, Lay, advance-lays, again-blocks, again-plan, gap-and-object, here-blocks, here-plan}
 use Rattle.kept.proofs.Overlaid.{overlaid}
 use Rattle.kept.proofs.Standing.{unlaid}
 use Rattle.kept.proofs.Writing.{RightLength, laid-allowed}
-
--- a retry lays the same object, behind a gap
-behind : (m : List ℕ) (l : Laid) (q : ℕ) (k : ObjectKind) → laidObject m (behindGap l q) k ≡ laidObject m l k
-unfolding laidObject behindGap
-behind m l q kind.Nothing = refl
-behind m l q kind.Mark = refl
-behind m l q kind.Gap = refl
-behind m l q kind.Record = refl
-
-pub gap-and-object : (m : List ℕ) (l : Laid) (q : ℕ) {o : Object} → laidObject m l (l .object) ≡ o ∷ [] → laidObjects m (behindGap l q) ≡ gap ∷ (o ∷ [])
-unfolding laidObjects behindGap
-gap-and-object m l q e = ap (λ (os : List Object). gap ∷ os) (behind m l q (l .object) ∙ e)
 
 -- a write of the object o in this mode, from the tape t over the reel s, which holds the objects os
 module _ (s m : List ℕ) (t : Tape) (os : List Object) (o : Object) (mode : ℕ) where
@@ -138,13 +129,28 @@ lay-leaves v m s h p {q} {os} whole f b y =
     let left = laying-leaves s m (v .tape) os o (h .mode) (v .lengths .blocks) whole f b (y .mark) (y .kind) (y .pointer) (y .count) (y .swb) (y .right) (y .object) in
     subst (PlanLeaves s m (v .tape) os o (h .mode)) (sym (y .plan)) (plan-leaves s m (v .tape) os o (h .mode) v (h .ie) _ left)
 
+-- where there is room, it is laid
+laid-there : (v : Unit) (ie : Bool) (l : Laid) (mark : Bool) {q : Plan} → q ≡ motionPlan v ie (writtenAt (v .tape) (v .lengths .blocks) l mark) → ltb (v .lengths .blocks) (l .at + laidBlocks l) ≡ false → q .laid ≡ l
+unfolding motionPlan told writtenAt writtenMotion
+laid-there v ie l mark e room = rw (e, room)
+
+-- the object asked for takes a block or more
+asked-some : (v : Unit) (m s : List ℕ) (h : Header) (p : Packet) {q : Plan} → Lay v m s h p q → 1 ≤ blocksIn (objectFor m h p)
+unfolding laidObjects
+asked-some v m s h p y =
+    let o = objectFor m h p in
+    one-or-more o (allowed-at [] o [] (rw (y .object) at (laid-allowed m (Here v m s h p y) (y .right))))
+
 -- of a Write or Format that is carried out, on a reel that holds the objects os, the position one of their bounds
 module _ (u : Unit) (m s : List ℕ) {os : List Object} (whole : length s ≡ blockBytes * u .lengths .blocks) (f : Holds s (u .tape .end) os) (b : Bound os (u .tape .position)) (r : Runs u m s) (inside : (hasExtent (header u m s) && ltb (length m) (packet u m s .pointer + packet u m s .count)) ≡ false) (w : writes (header u m s) ≡ true) where
   abbrev Asked : Object
   Asked = objectFor m (header u m s) (packet u m s)
 
+  one-laid : Lay (started u m s) m s (header u m s) (packet u m s) (advanced u m s)
+  one-laid = advance-lays u m s r inside w
+
   leaves : PlanLeaves s m (u .tape) os Asked (header u m s .mode) (advanced u m s)
-  leaves = lay-leaves (started u m s) m s (header u m s) (packet u m s) whole f b (advance-lays u m s r inside w)
+  leaves = lay-leaves (started u m s) m s (header u m s) (packet u m s) whole f b one-laid
 
   as-wrote : Left s m (u .tape) os Asked (header u m s .mode) (reelAfter (advanced u m s) m s) (advanced u m s .unit .tape) → Wrote u m s os
   as-wrote y =
@@ -169,3 +175,25 @@ module _ (u : Unit) (m s : List ℕ) {os : List Object} (whole : length s ≡ bl
   pub advanced-wrote : (laidBlocks (advanced u m s .laid) ≡ 0 → ⊥) → Wrote u m s os
   unfolding laidBlocks objectBlocks
   advanced-wrote some = ⊎-elim as-wrote (λ y. absurd (some (rw (y .0)))) leaves
+
+  -- what is laid at the object's place, and fits there, is laid
+  fits-wrote : (l : Laid) → advanced u m s ≡ motionPlan (started u m s) (header u m s .ie) (writtenAt (u .tape) (u .lengths .blocks) l (one-laid .mark)) → blocksIn Asked ≤ laidBlocks l → ltb (u .lengths .blocks) (l .at + laidBlocks l) ≡ false → Wrote u m s os
+  fits-wrote l e more room =
+      let some = asked-some (started u m s) m s (header u m s) (packet u m s) one-laid in
+      let laid = laid-there (started u m s) (header u m s .ie) l (one-laid .mark) e room in
+      advanced-wrote (λ none. absurd (omega (arith, ap laidBlocks laid)))
+
+  -- if its object fits where the tape stands, it is the first
+  pub room-wrote : eqb (header u m s .mode) 2 ≡ false → ltb (u .lengths .blocks) (u .tape .position + blocksIn Asked) ≡ false → Wrote u m s os
+  room-wrote e room =
+      let v = started u m s in
+      let size = here-blocks v m s (header u m s) (packet u m s) one-laid in
+      fits-wrote (Here v m s (header u m s) (packet u m s) one-laid) (here-plan v m s (header u m s) (packet u m s) one-laid e) (omega arith) (rw size room)
+
+  -- and a retry, if it finds a record or mark, and gap and object fit from there on
+  pub room-wrote-retry : {at : ℕ} → header u m s .mode ≡ 2 → Found at (sought s true (u .tape .position) (u .tape .end)) → ltb (u .lengths .blocks) (at + (blocksIn Asked + 1)) ≡ false → Wrote u m s os
+  unfolding behindGap
+  room-wrote-retry {at} e found room =
+      let v = started u m s in
+      let size = again-blocks v m s (header u m s) (packet u m s) one-laid at in
+      fits-wrote (behindGap (Here v m s (header u m s) (packet u m s) one-laid) at) (again-plan v m s (header u m s) (packet u m s) one-laid e found) (omega arith) (rw size room)
