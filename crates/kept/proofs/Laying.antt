@@ -5,8 +5,7 @@ use mathlib.Core.Path.{_≡_, refl, ap, _∙_}
 use Prim.Native.Nat.{ℕ, _+_, _≤_}
 use native.Mathlib.Omega.{arith}
 use borrow.Author.Tests.{eqb-true}
-use lib.Dec.{eqb, ltb}
-use lib.ListN.{length}
+use lib.Dec.{eqb}
 use Rattle.lists.proofs.Cases.{by-test, pick-told}
 use Rattle.tape.specs.Numbers.{recordLimit}
 use Rattle.tape.specs.Objects.{Object, blocksIn, blocksOf, gap}
@@ -31,11 +30,11 @@ use Rattle.commands.specs.Ends.{motionPlan}
 use Rattle.commands.specs.declared.plans.Plan.{Plan}
 use Rattle.storing.specs.Stored.{laidObject, laidObjects}
 use Rattle.storing.proofs.Lengths.{blocks-laid}
-use Rattle.advance.specs.Rules.{hasExtent, isIllegal, lengthWrong, notExecutable, reverseFirst, writes}
+use Rattle.advance.specs.Rules.{isIllegal, lengthWrong, notExecutable, reverseFirst, writes}
 use Rattle.advance.specs.Steps.{advanced}
-use Rattle.demands.specs.Ways.{Runs, carried, header, packet, started}
+use Rattle.demands.specs.Ways.{carried, header, packet, started}
 use Rattle.demands.proofs.Ways.{advanced-is}
-use Rattle.kept.specs.Leaving.{objectFor}
+use Rattle.kept.specs.Leaving.{WriteRuns, objectFor}
 use Rattle.kept.specs.NoRoom.{Found, found-mark, found-record}
 use Rattle.kept.proofs.Carrying.{RightCount}
 use Rattle.kept.proofs.Lengths.{right-count}
@@ -120,14 +119,14 @@ module _ (v : Unit) (m s : List ℕ) (h : Header) (p : Packet) where
   lays-one w l r = lays-by (five-or-nine (h .code) (h .mode) w l) r
 
 -- an advance that carries out a Write or Format lays the object that is asked for
-pub advance-lays : (u : Unit) (m s : List ℕ) → Runs u m s → (hasExtent (header u m s) && ltb (length m) (packet u m s .pointer + packet u m s .count)) ≡ false → writes (header u m s) ≡ true → Lay (started u m s) m s (header u m s) (packet u m s) (advanced u m s)
+pub advance-lays : (u : Unit) (m s : List ℕ) → WriteRuns u m s → Lay (started u m s) m s (header u m s) (packet u m s) (advanced u m s)
 unfolding notExecutable
-advance-lays u m s r inside w =
+advance-lays u m s w =
     let h = header u m s in
     let p = packet u m s in
-    let known = neither (not (h .plain)) (isIllegal (commandOf (h .code) (h .mode))) (r .fetched .known) .1 in
-    let long = neither (reverseFirst h && eqb (u .tape .position) 0) (lengthWrong h (p .count)) (r .executable) .1 in
-    rw (advanced-is u m s (carried r inside)) (lays-one (started u m s) m s h p w known (right-count h (p .count) long))
+    let known = neither (not (h .plain)) (isIllegal (commandOf (h .code) (h .mode))) (w .runs .fetched .known) .1 in
+    let long = neither (reverseFirst h && eqb (u .tape .position) 0) (lengthWrong h (p .count)) (w .runs .executable) .1 in
+    rw (advanced-is u m s (carried (w .runs) (w .inside))) (lays-one (started u m s) m s h p (w .write) known (right-count h (p .count) long))
 
 -- a retry lays the same object, behind a gap
 behind : (m : List ℕ) (l : Laid) (q : ℕ) (k : ObjectKind) → laidObject m (behindGap l q) k ≡ laidObject m l k

@@ -1,5 +1,5 @@
 -- What a Write or Format that is carried out leaves on a well formed reel: the objects before, and the new ones; or all as it was.
-use mathlib.Core.Bool.{Bool, true, false, _&&_}
+use mathlib.Core.Bool.{Bool, true, false}
 use mathlib.Core.List.{List, [], _∷_, _++_}
 use mathlib.Core.Logic.{_⊎_, inl, inr, ⊎-elim}
 use mathlib.Core.Path.{_≡_, refl, ap, sym, subst, _∙_}
@@ -20,7 +20,7 @@ use Rattle.state.specs.declared.Unit.{Unit}
 use Rattle.moves.specs.Between.{Between, Bound}
 use Rattle.moves.specs.Seeking.{sought}
 use Rattle.moves.specs.declared.seeking.Sought.{Sought}
-use Rattle.moves.proofs.Bounds.{stays}
+use Rattle.moves.proofs.Bounds.{bound-below, stays}
 use Rattle.moves.proofs.Finds.{Finds, finds, finds-mark, finds-nothing, finds-record}
 use Rattle.motions.specs.Parts.{laidBlocks, noLay, objectBlocks}
 use Rattle.motions.specs.Writes.{behindGap, noRoom, retried, retriedBy, writtenAt, writtenMotion}
@@ -33,14 +33,14 @@ use Rattle.commands.specs.Ends.{ended, motionPlan, told, toldUnit}
 use Rattle.commands.specs.declared.plans.Plan.{Plan}
 use Rattle.storing.specs.Stored.{laidObject, laidObjects, laidOn, reelAfter}
 use Rattle.storing.proofs.Lengths.{blocks-laid}
-use Rattle.advance.specs.Rules.{hasExtent, writes}
 use Rattle.advance.specs.Steps.{advanced}
-use Rattle.demands.specs.Ways.{Runs, header, packet, started}
-use Rattle.kept.specs.Leaving.{Lays, Wrote, again-over-mark, again-over-record, objectFor, plainly}
+use Rattle.demands.specs.Ways.{header, packet, started}
+use Rattle.kept.specs.Leaving.{Lays, WriteRuns, Wrote, again-over-mark, again-over-record, objectFor, plainly}
 use Rattle.kept.specs.NoRoom.{Found}
 use Rattle.kept.proofs.Laying.{Here, Lay, advance-lays, again-blocks, again-plan, gap-and-object, here-blocks, here-plan}
 use Rattle.kept.proofs.Overlaid.{overlaid}
 use Rattle.kept.proofs.Standing.{unlaid}
+use Rattle.kept.proofs.Unwritten.{Unlaid, writes-or-stays}
 use Rattle.kept.proofs.Writing.{RightLength, laid-allowed}
 
 -- a write of the object o in this mode, from the tape t over the reel s, which holds the objects os
@@ -55,20 +55,13 @@ module _ (s m : List ℕ) (t : Tape) (os : List Object) (o : Object) (mode : ℕ
     holds : Holds s′ (t′ .end) (between .before ++ new)
     last : t′ .position ≡ t′ .end
 
-  -- nothing laid, and the recorded end as it was
-  abbrev Same : Laid → Tape → Type 0
-  Same l t′ = (l ≡ noLay) × (t′ .end ≡ t .end)
-
-  -- the one or the other, by what is laid and where the tape stands then
-  abbrev Leaves : Laid → Tape → Type 0
-  Leaves l t′ = Left (laidOn s m l) t′ ⊎ Same l t′
-
+  -- or nothing laid, and the recorded end as it was
   abbrev MotionLeaves : Motion → Type 0
-  MotionLeaves (motion.Ended x) = Leaves (x .laid) (x .tape)
+  MotionLeaves (motion.Ended x) = Left (laidOn s m (x .laid)) (x .tape) ⊎ ((x .laid ≡ noLay) × (x .tape .end ≡ t .end))
   MotionLeaves (motion.Fault k) = ⊥
 
   abbrev PlanLeaves : Plan → Type 0
-  PlanLeaves q = Left (reelAfter q m s) (q .unit .tape) ⊎ Same (q .laid) (q .unit .tape)
+  PlanLeaves q = Left (reelAfter q m s) (q .unit .tape) ⊎ Unlaid (t .end) q
 
   -- a plan leaves what its motion leaves
   plan-leaves : (u : Unit) (ie : Bool) (y : Motion) → MotionLeaves y → PlanLeaves (motionPlan u ie y)
@@ -141,16 +134,13 @@ asked-some v m s h p y =
     let o = objectFor m h p in
     one-or-more o (allowed-at [] o [] (rw (y .object) at (laid-allowed m (Here v m s h p y) (y .right))))
 
--- of a Write or Format that is carried out, on a reel that holds the objects os, the position one of their bounds
-module _ (u : Unit) (m s : List ℕ) {os : List Object} (whole : length s ≡ blockBytes * u .lengths .blocks) (f : Holds s (u .tape .end) os) (b : Bound os (u .tape .position)) (r : Runs u m s) (inside : (hasExtent (header u m s) && ltb (length m) (packet u m s .pointer + packet u m s .count)) ≡ false) (w : writes (header u m s) ≡ true) where
+-- of an advance on a reel that holds the objects os, the position one of their bounds
+module _ (u : Unit) (m s : List ℕ) {os : List Object} (whole : length s ≡ blockBytes * u .lengths .blocks) (f : Holds s (u .tape .end) os) (b : Bound os (u .tape .position)) where
   abbrev Asked : Object
   Asked = objectFor m (header u m s) (packet u m s)
 
-  one-laid : Lay (started u m s) m s (header u m s) (packet u m s) (advanced u m s)
-  one-laid = advance-lays u m s r inside w
-
-  leaves : PlanLeaves s m (u .tape) os Asked (header u m s .mode) (advanced u m s)
-  leaves = lay-leaves (started u m s) m s (header u m s) (packet u m s) whole f b one-laid
+  leaves : WriteRuns u m s → PlanLeaves s m (u .tape) os Asked (header u m s .mode) (advanced u m s)
+  leaves w = lay-leaves (started u m s) m s (header u m s) (packet u m s) whole f b (advance-lays u m s w)
 
   as-wrote : Left s m (u .tape) os Asked (header u m s .mode) (reelAfter (advanced u m s) m s) (advanced u m s .unit .tape) → Wrote u m s os
   as-wrote y =
@@ -166,32 +156,41 @@ module _ (u : Unit) (m s : List ℕ) {os : List Object} (whole : length s ≡ bl
         position = y .last ∙ sym (y .holds .ends);
       }
 
-  -- it leaves the objects before the position, a retry those before the one that it goes over, and the new ones, or the reel and its end as they were
-  pub wrote-else-nothing : Wrote u m s os ⊎ ((reelAfter (advanced u m s) m s ≡ s) × (advanced u m s .unit .tape .end ≡ u .tape .end))
-  unfolding reelAfter
-  wrote-else-nothing = ⊎-elim (λ y. inl (as-wrote y)) (λ y. inr (rw (y .0) (unlaid s m), y .1)) leaves
+  wrote-or-stays : (WriteRuns u m s × Wrote u m s os) ⊎ Unlaid (u .tape .end) (advanced u m s)
+  wrote-or-stays = ⊎-elim (λ w. ⊎-elim (λ y. inl (w, as-wrote y)) inr (leaves w)) inr (writes-or-stays u m s (bound-below f b))
 
-  -- and if it laid anything, it is the first
+  -- a Write or Format that is carried out leaves the objects before the position, a retry those before the one that it goes over, and the new
+  -- ones; or the reel and its recorded end are as they were
+  pub wrote-else-nothing : (WriteRuns u m s × Wrote u m s os) ⊎ ((reelAfter (advanced u m s) m s ≡ s) × (advanced u m s .unit .tape .end ≡ u .tape .end))
+  unfolding reelAfter
+  wrote-else-nothing = ⊎-elim inl (λ y. inr (rw (y .0) (unlaid s m), y .1)) wrote-or-stays
+
+  -- so whatever lays anything has written
   pub advanced-wrote : (laidBlocks (advanced u m s .laid) ≡ 0 → ⊥) → Wrote u m s os
   unfolding laidBlocks objectBlocks
-  advanced-wrote some = ⊎-elim as-wrote (λ y. absurd (some (rw (y .0)))) leaves
+  advanced-wrote some = ⊎-elim (λ y. y .1) (λ y. absurd (some (rw (y .0)))) wrote-or-stays
+
+-- and of a Write or Format that is carried out there
+module _ (u : Unit) (m s : List ℕ) {os : List Object} (whole : length s ≡ blockBytes * u .lengths .blocks) (f : Holds s (u .tape .end) os) (b : Bound os (u .tape .position)) (w : WriteRuns u m s) where
+  one-laid : Lay (started u m s) m s (header u m s) (packet u m s) (advanced u m s)
+  one-laid = advance-lays u m s w
 
   -- what is laid at the object's place, and fits there, is laid
-  fits-wrote : (l : Laid) → advanced u m s ≡ motionPlan (started u m s) (header u m s .ie) (writtenAt (u .tape) (u .lengths .blocks) l (one-laid .mark)) → blocksIn Asked ≤ laidBlocks l → ltb (u .lengths .blocks) (l .at + laidBlocks l) ≡ false → Wrote u m s os
+  fits-wrote : (l : Laid) → advanced u m s ≡ motionPlan (started u m s) (header u m s .ie) (writtenAt (u .tape) (u .lengths .blocks) l (one-laid .mark)) → blocksIn (objectFor m (header u m s) (packet u m s)) ≤ laidBlocks l → ltb (u .lengths .blocks) (l .at + laidBlocks l) ≡ false → Wrote u m s os
   fits-wrote l e more room =
       let some = asked-some (started u m s) m s (header u m s) (packet u m s) one-laid in
       let laid = laid-there (started u m s) (header u m s .ie) l (one-laid .mark) e room in
-      advanced-wrote (λ none. absurd (omega (arith, ap laidBlocks laid)))
+      advanced-wrote u m s whole f b (λ none. absurd (omega (arith, ap laidBlocks laid)))
 
-  -- if its object fits where the tape stands, it is the first
-  pub room-wrote : eqb (header u m s .mode) 2 ≡ false → ltb (u .lengths .blocks) (u .tape .position + blocksIn Asked) ≡ false → Wrote u m s os
+  -- if its object fits where the tape stands, it is written
+  pub room-wrote : eqb (header u m s .mode) 2 ≡ false → ltb (u .lengths .blocks) (u .tape .position + blocksIn (objectFor m (header u m s) (packet u m s))) ≡ false → Wrote u m s os
   room-wrote e room =
       let v = started u m s in
       let size = here-blocks v m s (header u m s) (packet u m s) one-laid in
       fits-wrote (Here v m s (header u m s) (packet u m s) one-laid) (here-plan v m s (header u m s) (packet u m s) one-laid e) (omega arith) (rw size room)
 
   -- and a retry, if it finds a record or mark, and gap and object fit from there on
-  pub room-wrote-retry : {at : ℕ} → header u m s .mode ≡ 2 → Found at (sought s true (u .tape .position) (u .tape .end)) → ltb (u .lengths .blocks) (at + (blocksIn Asked + 1)) ≡ false → Wrote u m s os
+  pub room-wrote-retry : {at : ℕ} → header u m s .mode ≡ 2 → Found at (sought s true (u .tape .position) (u .tape .end)) → ltb (u .lengths .blocks) (at + (blocksIn (objectFor m (header u m s) (packet u m s)) + 1)) ≡ false → Wrote u m s os
   unfolding behindGap
   room-wrote-retry {at} e found room =
       let v = started u m s in

@@ -8,5 +8,6 @@ pub mod Carrying
 pub mod Lengths
 pub mod Advanced
 pub mod Laying
+pub mod Unwritten
 pub mod Leaving
 pub mod NoRoom

@@ -1,12 +1,11 @@
 -- A Write or Format that writes nothing. Step 11: its object does not fit, the tape stays and the message shows NEF and EOT; or a retry finds none.
-use mathlib.Core.Bool.{Bool, true, false, _&&_}
+use mathlib.Core.Bool.{Bool, true, false}
 use mathlib.Core.List.{List}
 use mathlib.Core.Path.{_≡_, refl}
 use Prim.Native.Nat.{ℕ, _+_, _*_, _/_, _%_, _≤_}
 use native.Mathlib.Omega.{arith}
 use borrow.Author.Tests.{eq-eqb}
 use lib.Dec.{eqb, ltb}
-use lib.ListN.{length}
 use Rattle.tape.specs.Numbers.{recordLimit}
 use Rattle.tape.specs.Objects.{blocksIn}
 use Rattle.signals.specs.Bits.{BOT, EOT, IE, MOT, NEF, ONL, REV, RIB, VCK, WLK}
@@ -25,11 +24,10 @@ use Rattle.motions.specs.Writes.{behindGap, noRoom, retried, retriedBy, written
 use Rattle.motions.specs.declared.parts.Laid.{Laid}
 use Rattle.commands.specs.Ends.{ended, motionPlan, statusOf, told, toldUnit}
 use Rattle.commands.specs.declared.plans.Plan.{Plan}
-use Rattle.advance.specs.Rules.{hasExtent, writes}
 use Rattle.advance.specs.Steps.{advanced}
-use Rattle.demands.specs.Ways.{Runs, ends, header, packet, started}
+use Rattle.demands.specs.Ways.{ends, header, packet, started}
 use Rattle.demands.proofs.EndOfTape.{no-room-eot}
-use Rattle.kept.specs.Leaving.{objectFor}
+use Rattle.kept.specs.Leaving.{WriteRuns, objectFor}
 use Rattle.kept.specs.NoRoom.{Found, NoRoom, found-mark, found-record}
 use Rattle.kept.proofs.Laying.{Here, Lay, advance-lays, again-blocks, again-plan, here-blocks, here-plan}
 
@@ -85,15 +83,15 @@ module _ (v : Unit) (m s : List ℕ) (h : Header) (p : Packet) {q : Plan} (y : L
       full v (h .ie) (behindGap (Here v m s h p y) at) (y .mark) (again-plan v m s h p y e found) (y .short) below (rw (again-blocks v m s h p y at) f)
 
 -- a Write or Format that is carried out
-module _ (u : Unit) (m s : List ℕ) (r : Runs u m s) (inside : (hasExtent (header u m s) && ltb (length m) (packet u m s .pointer + packet u m s .count)) ≡ false) (w : writes (header u m s) ≡ true) where
+module _ (u : Unit) (m s : List ℕ) (w : WriteRuns u m s) where
   -- "11. Object doesn't fit the reel: NEF, EOT, class 3, unmoved."
   pub no-room-told : eqb (header u m s .mode) 2 ≡ false → ltb (u .lengths .blocks) (u .tape .position + blocksIn (objectFor m (header u m s) (packet u m s))) ≡ true → NoRoom (started u m s) (header u m s .ie) (advanced u m s)
-  no-room-told e full = full-here (started u m s) m s (header u m s) (packet u m s) (advance-lays u m s r inside w) e full
+  no-room-told e full = full-here (started u m s) m s (header u m s) (packet u m s) (advance-lays u m s w) e full
 
   -- "gap and object together" for a retry
   pub no-room-retry : {at : ℕ} → header u m s .mode ≡ 2 → u .tape .position ≤ u .tape .end → Found at (sought s true (u .tape .position) (u .tape .end)) → ltb (u .lengths .blocks) (at + (blocksIn (objectFor m (header u m s) (packet u m s)) + 1)) ≡ true → NoRoom (started u m s) (header u m s .ie) (advanced u m s)
-  no-room-retry e below found full = full-again (started u m s) m s (header u m s) (packet u m s) (advance-lays u m s r inside w) e below found full
+  no-room-retry e below found full = full-again (started u m s) m s (header u m s) (packet u m s) (advance-lays u m s w) e below found full
 
   -- "None found: RIB, class 2, nothing written."
   pub none-found : {at : ℕ} → header u m s .mode ≡ 2 → sought s true (u .tape .position) (u .tape .end) ≡ sought-as.Nothing at → advanced u m s ≡ told (started u m s) (header u m s .ie) (resting (end 2 0 (REV + RIB) residual.Nothing) (standing at (u .tape .end)))
-  none-found e none = none-again (started u m s) m s (header u m s) (packet u m s) (advance-lays u m s r inside w) e none
+  none-found e none = none-again (started u m s) m s (header u m s) (packet u m s) (advance-lays u m s w) e none

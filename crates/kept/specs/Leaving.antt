@@ -1,10 +1,11 @@
 -- What a write leaves: "Writing stores only the new object's blocks and moves the end to just after them." "Retry: space reverse over gaps and
 -- one record or mark, then a one-block gap, then the new object." (01)
-use mathlib.Core.Bool.{false}
+use mathlib.Core.Bool.{true, false, _&&_}
 use mathlib.Core.List.{List, [], _∷_, _++_}
 use mathlib.Core.Path.{_≡_}
-use Prim.Native.Nat.{ℕ}
-use lib.Dec.{eqb}
+use Prim.Native.Nat.{ℕ, _+_}
+use lib.Dec.{eqb, ltb}
+use lib.ListN.{length}
 use Rattle.lists.specs.Pick.{pick}
 use Rattle.lists.specs.Places.{gathered}
 use Rattle.tape.specs.Objects.{Holds, Object, blocksOf, gap, mark, record-of}
@@ -13,8 +14,16 @@ use Rattle.signals.specs.declared.packet.Packet.{Packet}
 use Rattle.state.specs.declared.Unit.{Unit}
 use Rattle.moves.specs.Between.{Gaps}
 use Rattle.storing.specs.Stored.{reelAfter}
+use Rattle.advance.specs.Rules.{hasExtent, writes}
 use Rattle.advance.specs.Steps.{advanced}
-use Rattle.demands.specs.Ways.{header, packet}
+use Rattle.demands.specs.Ways.{Runs, header, packet}
+
+-- a Write or Format is carried out: nothing keeps it from running, and its data lie in memory (step 10)
+module _ (u : Unit) (m s : List ℕ) where
+  pub record WriteRuns : Type 0 where
+    pub runs : Runs u m s
+    pub inside : (hasExtent (header u m s) && ltb (length m) (packet u m s .pointer + packet u m s .count)) ≡ false
+    pub write : writes (header u m s) ≡ true
 
 -- the object that a Write or Format lays: "Write 5", "Format 9 / 0 mark, 1 erase, 2 mark retry"
 abbrev pub objectFor : List ℕ → Header → Packet → Object
