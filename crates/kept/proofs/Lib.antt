@@ -7,3 +7,7 @@ pub mod Writing
 pub mod Carrying
 pub mod Lengths
 pub mod Advanced
+pub mod Laying
+pub mod Unwritten
+pub mod Leaving
+pub mod NoRoom

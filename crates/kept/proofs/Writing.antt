@@ -41,7 +41,7 @@ object-allowed m l kind.Record r =
     let d : List ℕ = gathered (l .swb) m (l .pointer) (l .length) in
     also {o = record-of d} (rw (length-gathered (l .swb) m (l .pointer) (l .length)) (r refl)) none
 
-laid-allowed : (m : List ℕ) (l : Laid) → RightLength (l .object) (l .length) → AllAllowed (laidObjects m l)
+pub laid-allowed : (m : List ℕ) (l : Laid) → RightLength (l .object) (l .length) → AllAllowed (laidObjects m l)
 unfolding laidObjects
 laid-allowed m l r =
     let one = object-allowed m l (l .object) r in

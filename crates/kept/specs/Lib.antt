@@ -1,2 +1,4 @@
 -- What an advance keeps.
 pub mod Formed
+pub mod Leaving
+pub mod NoRoom

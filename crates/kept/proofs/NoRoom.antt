@@ -1,0 +1,97 @@
+-- A Write or Format that writes nothing. Step 11: its object does not fit, the tape stays and the message shows NEF and EOT; or a retry finds none.
+use mathlib.Core.Bool.{Bool, true, false}
+use mathlib.Core.List.{List}
+use mathlib.Core.Path.{_≡_, refl}
+use Prim.Native.Nat.{ℕ, _+_, _*_, _/_, _%_, _≤_}
+use native.Mathlib.Omega.{arith}
+use borrow.Author.Tests.{eq-eqb}
+use lib.Dec.{eqb, ltb}
+use Rattle.tape.specs.Numbers.{recordLimit}
+use Rattle.tape.specs.Objects.{blocksIn}
+use Rattle.signals.specs.Bits.{BOT, EOT, IE, MOT, NEF, ONL, REV, RIB, VCK, WLK}
+use Rattle.signals.specs.Message.{flagOf, messageOf, xst0Of}
+use Rattle.signals.specs.declared.counts.Residual.the-variants as residual
+use Rattle.signals.specs.declared.message.Status.{Status}
+use Rattle.signals.specs.declared.packet.Header.{Header}
+use Rattle.signals.specs.declared.packet.Packet.{Packet}
+use Rattle.state.specs.declared.Unit.{Unit}
+use Rattle.moves.specs.Seeking.{sought}
+use Rattle.moves.specs.declared.seeking.Sought.{Sought}
+use Rattle.moves.specs.declared.seeking.Sought.the-variants as sought-as
+use Rattle.moves.proofs.Within.{SoughtIn, sought-in}
+use Rattle.motions.specs.Parts.{end, laidBlocks, objectBlocks, resting, standing}
+use Rattle.motions.specs.Writes.{behindGap, noRoom, retried, retriedBy, writtenAt}
+use Rattle.motions.specs.declared.parts.Laid.{Laid}
+use Rattle.commands.specs.Ends.{ended, motionPlan, statusOf, told, toldUnit}
+use Rattle.commands.specs.declared.plans.Plan.{Plan}
+use Rattle.advance.specs.Steps.{advanced}
+use Rattle.demands.specs.Ways.{ends, header, packet, started}
+use Rattle.demands.proofs.EndOfTape.{no-room-eot}
+use Rattle.kept.specs.Leaving.{WriteRuns, objectFor}
+use Rattle.kept.specs.NoRoom.{Found, NoRoom, found-mark, found-record}
+use Rattle.kept.proofs.Laying.{Here, Lay, advance-lays, again-blocks, again-plan, here-blocks, here-plan}
+
+-- a flag is set or not
+flag-is : (b : Bool) (w : ℕ) → (n : ℕ) × (n ≤ 1) × (flagOf b w ≡ w * n)
+flag-is true w = (1, omega arith, omega arith)
+flag-is false w = (0, omega arith, omega arith)
+
+-- XST0 of an end with NEF at or past EOT
+module _ (x : Status) (at-eot : x .eot ≡ true) where
+  shows-both : (xst0Of NEF x / NEF % 2 ≡ 1) × (xst0Of NEF x / EOT % 2 ≡ 1)
+  shows-both =
+      let mot = flag-is (x .mot) MOT in
+      let onl = flag-is (x .onl) ONL in
+      let ie = flag-is (x .ie) IE in
+      let vck = flag-is (x .vck) VCK in
+      let wlk = flag-is (x .wlk) WLK in
+      let bot = flag-is (x .bot) BOT in
+      rw (at-eot, mot .2, onl .2, ie .2, vck .2, wlk .2, bot .2) (omega (arith, mot .1, onl .1, ie .1, vck .1, wlk .1, bot .1), omega (arith, mot .1, onl .1, ie .1, vck .1, wlk .1, bot .1))
+
+-- an end of class 3 with NEF that moves and lays nothing, at or past EOT
+told-no-room : (v : Unit) (ie : Bool) (l : Laid) → l .length ≤ recordLimit → l .at ≤ v .tape .position → ltb (v .lengths .blocks) (l .at + laidBlocks l) ≡ true → NoRoom v ie (ends v ie 3 NEF residual.Nothing)
+unfolding told toldUnit ended laidBlocks objectBlocks messageOf
+told-no-room v ie l short below full =
+    let x = resting (end 3 NEF 0 residual.Nothing) (v .tape) in
+    let still : eqb (v .tape .position) (v .tape .position) ≡ true = eq-eqb (v .tape .position) (v .tape .position) refl in
+    let marked = no-room-eot (toldUnit v x) l ie false short below full in
+    let both = shows-both (statusOf (toldUnit v x) ie false) marked in
+    record { plan = refl; message = rw still; eot = marked; xst0-nef = rw still (both .0); xst0-eot = rw still (both .1) }
+
+-- what a search in reverse found is before the position
+found-before : (p e : ℕ) {q : ℕ} {f : Sought} → Found q f → SoughtIn true p e f → q ≤ p
+found-before p e found-record i = omega (arith, i .1 .down refl)
+found-before p e found-mark i = omega (arith, i .down refl)
+
+-- a write that does not fit
+full : (v : Unit) (ie : Bool) (l : Laid) (mark : Bool) {q : Plan} → q ≡ motionPlan v ie (writtenAt (v .tape) (v .lengths .blocks) l mark) → l .length ≤ recordLimit → l .at ≤ v .tape .position → ltb (v .lengths .blocks) (l .at + laidBlocks l) ≡ true → NoRoom v ie q
+unfolding motionPlan writtenAt noRoom
+full v ie l mark e short below f = rw (e, f) (told-no-room v ie l short below f)
+
+module _ (v : Unit) (m s : List ℕ) (h : Header) (p : Packet) {q : Plan} (y : Lay v m s h p q) where
+  full-here : eqb (h .mode) 2 ≡ false → ltb (v .lengths .blocks) (v .tape .position + blocksIn (objectFor m h p)) ≡ true → NoRoom v (h .ie) q
+  full-here e f = full v (h .ie) (Here v m s h p y) (y .mark) (here-plan v m s h p y e) (y .short) (omega arith) (rw (here-blocks v m s h p y) f)
+
+  none-again : {at : ℕ} → h .mode ≡ 2 → sought s true (v .tape .position) (v .tape .end) ≡ sought-as.Nothing at → q ≡ told v (h .ie) (resting (end 2 0 (REV + RIB) residual.Nothing) (standing at (v .tape .end)))
+  unfolding retried retriedBy motionPlan
+  none-again e none = rw (y .plan, e, none)
+
+  full-again : {at : ℕ} → h .mode ≡ 2 → v .tape .position ≤ v .tape .end → Found at (sought s true (v .tape .position) (v .tape .end)) → ltb (v .lengths .blocks) (at + (blocksIn (objectFor m h p) + 1)) ≡ true → NoRoom v (h .ie) q
+  unfolding behindGap
+  full-again {at} e in-reel found f =
+      let below = found-before (v .tape .position) (v .tape .end) found (sought-in s true (v .tape .position) (v .tape .end) in-reel) in
+      full v (h .ie) (behindGap (Here v m s h p y) at) (y .mark) (again-plan v m s h p y e found) (y .short) below (rw (again-blocks v m s h p y at) f)
+
+-- a Write or Format that is carried out
+module _ (u : Unit) (m s : List ℕ) (w : WriteRuns u m s) where
+  -- "11. Object doesn't fit the reel: NEF, EOT, class 3, unmoved."
+  pub no-room-told : eqb (header u m s .mode) 2 ≡ false → ltb (u .lengths .blocks) (u .tape .position + blocksIn (objectFor m (header u m s) (packet u m s))) ≡ true → NoRoom (started u m s) (header u m s .ie) (advanced u m s)
+  no-room-told e full = full-here (started u m s) m s (header u m s) (packet u m s) (advance-lays u m s w) e full
+
+  -- "gap and object together" for a retry
+  pub no-room-retry : {at : ℕ} → header u m s .mode ≡ 2 → u .tape .position ≤ u .tape .end → Found at (sought s true (u .tape .position) (u .tape .end)) → ltb (u .lengths .blocks) (at + (blocksIn (objectFor m (header u m s) (packet u m s)) + 1)) ≡ true → NoRoom (started u m s) (header u m s .ie) (advanced u m s)
+  no-room-retry e below found full = full-again (started u m s) m s (header u m s) (packet u m s) (advance-lays u m s w) e below found full
+
+  -- "None found: RIB, class 2, nothing written."
+  pub none-found : {at : ℕ} → header u m s .mode ≡ 2 → sought s true (u .tape .position) (u .tape .end) ≡ sought-as.Nothing at → advanced u m s ≡ told (started u m s) (header u m s .ie) (resting (end 2 0 (REV + RIB) residual.Nothing) (standing at (u .tape .end)))
+  none-found e none = none-again (started u m s) m s (header u m s) (packet u m s) (advance-lays u m s w) e none
