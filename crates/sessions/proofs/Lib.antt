@@ -9,3 +9,4 @@ pub mod Lengths
 pub mod Mounting
 pub mod Backs
 pub mod Unique
+pub mod Advances
