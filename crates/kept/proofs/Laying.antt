@@ -34,7 +34,7 @@ use Rattle.advance.specs.Rules.{isIllegal, lengthWrong, notExecutable, reverseF
 use Rattle.advance.specs.Steps.{advanced}
 use Rattle.demands.specs.Ways.{carried, header, packet, started}
 use Rattle.demands.proofs.Ways.{advanced-is}
-use Rattle.kept.specs.Leaving.{WriteRuns, objectFor}
+use Rattle.kept.specs.Leaving.{WriteRuns, isMark, objectFor}
 use Rattle.kept.specs.NoRoom.{Found, found-mark, found-record}
 use Rattle.kept.proofs.Carrying.{RightCount}
 use Rattle.kept.proofs.Lengths.{right-count}
@@ -93,6 +93,7 @@ module _ (v : Unit) (m s : List ℕ) (h : Header) (p : Packet) where
     pub swb : Bool
     pub mark : Bool
     pub object : laidObject m (laidHere (v .tape) kind pointer count swb) kind ≡ objectFor m h p ∷ []
+    pub marked : mark ≡ isMark (objectFor m h p)
     pub right : RightLength kind count
     pub short : count ≤ recordLimit
     pub plan : q ≡ motionPlan v (h .ie) (laying s (v .tape) (v .lengths .blocks) (laidHere (v .tape) kind pointer count swb) mark (eqb (h .mode) 2))
@@ -100,20 +101,20 @@ module _ (v : Unit) (m s : List ℕ) (h : Header) (p : Packet) where
   lays-record : (again : Bool) → h .code ≡ 5 → eqb (h .mode) 2 ≡ again → (1 ≤ p .count) × (p .count ≤ recordLimit) → Lay (writtenBy v s h p again)
   unfolding writtenBy laidObject
   lays-record again c a r =
-      record { kind = kind.Record; pointer = p .pointer; count = p .count; swb = h .swb; mark = false; object = rw c; right = λ e. r; short = r .1; plan = rw a }
+      record { kind = kind.Record; pointer = p .pointer; count = p .count; swb = h .swb; mark = false; object = rw c; marked = rw c; right = λ e. r; short = r .1; plan = rw a }
 
-  lays-format : (k : ObjectKind) (mark again : Bool) → h .code ≡ 9 → eqb (h .mode) 2 ≡ again → laidObject m (laidHere (v .tape) k 0 0 false) k ≡ objectFor m h p ∷ [] → (k ≡ kind.Record → ⊥) → Lay (formatted v s h k mark again)
+  lays-format : (k : ObjectKind) (mark again : Bool) → h .code ≡ 9 → eqb (h .mode) 2 ≡ again → laidObject m (laidHere (v .tape) k 0 0 false) k ≡ objectFor m h p ∷ [] → mark ≡ isMark (objectFor m h p) → (k ≡ kind.Record → ⊥) → Lay (formatted v s h k mark again)
   unfolding formatted
-  lays-format k mark again c a o f =
-      record { kind = k; pointer = 0; count = 0; swb = false; mark = mark; object = o; right = λ e. absurd (f e); short = omega arith; plan = rw a }
+  lays-format k mark again c a o i f =
+      record { kind = k; pointer = 0; count = 0; swb = false; mark = mark; object = o; marked = i; right = λ e. absurd (f e); short = omega arith; plan = rw a }
 
   lays-by : {c : Command} → Writer (h .code) (h .mode) c → RightCount c (p .count) → Lay (carriedOut v m s h p c)
   unfolding carriedOut laidObject
   lays-by (write c z) r = lays-record false c (rw z) r
   lays-by (write-retry c z) r = lays-record true c (rw z) r
-  lays-by (write-mark c z) r = lays-format kind.Mark true false c (rw z) (rw (c, z)) (λ e. clash (cc))
-  lays-by (erase c z) r = lays-format kind.Gap false false c (rw z) (rw (c, z)) (λ e. clash (cc))
-  lays-by (mark-retry c z) r = lays-format kind.Mark true true c (rw z) (rw (c, z)) (λ e. clash (cc))
+  lays-by (write-mark c z) r = lays-format kind.Mark true false c (rw z) (rw (c, z)) (rw (c, z)) (λ e. clash (cc))
+  lays-by (erase c z) r = lays-format kind.Gap false false c (rw z) (rw (c, z)) (rw (c, z)) (λ e. clash (cc))
+  lays-by (mark-retry c z) r = lays-format kind.Mark true true c (rw z) (rw (c, z)) (rw (c, z)) (λ e. clash (cc))
 
   pub lays-one : writes h ≡ true → isIllegal (commandOf (h .code) (h .mode)) ≡ false → RightCount (commandOf (h .code) (h .mode)) (p .count) → Lay (carriedOut v m s h p (commandOf (h .code) (h .mode)))
   lays-one w l r = lays-by (five-or-nine (h .code) (h .mode) w l) r

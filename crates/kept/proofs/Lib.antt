@@ -11,3 +11,4 @@ pub mod Laying
 pub mod Unwritten
 pub mod Leaving
 pub mod NoRoom
+pub mod Telling

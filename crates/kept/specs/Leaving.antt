@@ -1,18 +1,26 @@
 -- What a write leaves: "Writing stores only the new object's blocks and moves the end to just after them." "Retry: space reverse over gaps and
 -- one record or mark, then a one-block gap, then the new object." (01)
-use mathlib.Core.Bool.{true, false, _&&_}
+use mathlib.Core.Bool.{Bool, true, false, _&&_}
 use mathlib.Core.List.{List, [], _∷_, _++_}
 use mathlib.Core.Path.{_≡_}
 use Prim.Native.Nat.{ℕ, _+_}
-use lib.Dec.{eqb, ltb}
+use lib.Dec.{eqb, leb, ltb}
 use lib.ListN.{length}
 use Rattle.lists.specs.Pick.{pick}
 use Rattle.lists.specs.Places.{gathered}
+use Rattle.tape.specs.Numbers.{eotMarker}
 use Rattle.tape.specs.Objects.{Holds, Object, blocksOf, gap, mark, record-of}
+use Rattle.signals.specs.Bits.{TMK}
+use Rattle.signals.specs.Message.{flagOf}
+use Rattle.signals.specs.declared.counts.Residual.the-variants as residual
 use Rattle.signals.specs.declared.packet.Header.{Header}
 use Rattle.signals.specs.declared.packet.Packet.{Packet}
 use Rattle.state.specs.declared.Unit.{Unit}
 use Rattle.moves.specs.Between.{Gaps}
+use Rattle.motions.specs.Parts.{end}
+use Rattle.motions.specs.declared.parts.Ending.{Ending}
+use Rattle.commands.specs.Ends.{told}
+use Rattle.commands.specs.declared.plans.Plan.{Plan}
 use Rattle.storing.specs.Stored.{reelAfter}
 use Rattle.advance.specs.Rules.{hasExtent, writes}
 use Rattle.advance.specs.Steps.{advanced}
@@ -29,6 +37,17 @@ module _ (u : Unit) (m s : List ℕ) where
 abbrev pub objectFor : List ℕ → Header → Packet → Object
 objectFor m h p =
     pick (eqb (h .code) 5) (record-of (gathered (h .swb) m (p .pointer) (p .count))) (pick (eqb (h .mode) 1) gap mark)
+
+abbrev pub isMark : Object → Bool
+isMark (record-of d) = false
+isMark mark = true
+isMark gap = false
+
+-- "A write or format carried out that ends at or past EOT: class 2. A written mark sets TMK.": the plan q of one that began in the state v and laid o
+pub record WriteTold (o : Object) (v : Unit) (ie : Bool) (q : Plan) : Type 0 where
+  pub ending : Ending
+  pub plan : q ≡ told v ie ending
+  pub says : ending .end ≡ end (pick (leb (eotMarker (v .lengths .blocks)) (q .unit .tape .position)) 2 0) (flagOf (isMark o) TMK) 0 residual.Nothing
 
 -- what it goes over and what it lays: nothing and the object; or, mode 2, the last record or mark with the gaps behind it, and a gap and the object
 pub data Lays (o : Object) (mode : ℕ) : List Object → List Object → Type 0 where
