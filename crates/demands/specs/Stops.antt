@@ -55,7 +55,7 @@ module _ (s : List ℕ) (t : Tape) (rule : Rule) (count : ℕ) (first : Bool) wh
     by-mark : {q q′ : ℕ} {r : Over q} {x : passed s (rule .reverse) q (t .end) ≡ met.Mark q′} → Goes rule first q r → rule .marks ≡ false
         → Stopped left q′ (then-mark r x) 2 (TMK + RLS) (flagOf (rule .reverse) REV)
     -- marks, and the second in a row
-    at-logical-end : {q q′ : ℕ} {r : Over q} {x : passed s (rule .reverse) q (t .end) ≡ met.Mark q′} → Goes rule first r
+    at-logical-end : {q q′ : ℕ} {r : Over q} {x : passed s (rule .reverse) q (t .end) ≡ met.Mark q′} → Goes rule first q r
         → rule .marks ≡ true → (rule .ess && sinceMark first r) ≡ true
         → Stopped left q′ (then-mark r x) 2 (TMK + LET + flagOf (not (eqb left 0)) RLS) (flagOf (rule .reverse) REV)
     -- nothing lies ahead, in reverse and forward
