@@ -10,3 +10,4 @@ pub mod Nearest
 pub mod Rereads
 pub mod EndOfTape
 pub mod Done
+pub mod Stopping
