@@ -1,7 +1,7 @@
 -- Why a Position mode 0 to 3 stopped: each turn of its space keeps what was read over, and the last one says why.
 use mathlib.Core.Bool.{Bool, true, false, _&&_}
 use mathlib.Core.List.{List}
-use mathlib.Core.Path.{_≡_, refl, sym, _∙_}
+use mathlib.Core.Path.{_≡_, refl}
 use Prim.Native.Nat.{ℕ, zero, suc, _+_, _-_, _<_, _≤_}
 use native.Mathlib.Omega.{arith}
 use lib.Dec.{eqb}
@@ -11,31 +11,27 @@ use Rattle.tape.specs.Pass.{ahead, passed}
 use Rattle.tape.specs.declared.Met.{Met}
 use Rattle.tape.specs.declared.Met.the-variants as met
 use Rattle.tape.proofs.Within.{Onward, PassIn, fewer-ahead, pass-in}
-use Rattle.signals.specs.Residuals.{residualWord}
 use Rattle.signals.specs.declared.message.End.{End}
 use Rattle.state.specs.declared.Tape.{Tape}
 use Rattle.moves.specs.Seeking.{sought, soughtFrom, soughtOn}
-use Rattle.moves.specs.Spacing.{markTurn, recordTurn, span, spaced, stopped, turnOf}
+use Rattle.moves.specs.Spacing.{markTurn, recordTurn, span, spaced, turnOf}
 use Rattle.moves.specs.declared.seeking.Sought.{Sought}
 use Rattle.moves.specs.declared.seeking.Sought.the-variants as sought-as
 use Rattle.moves.specs.declared.spacing.Rule.{Rule}
 use Rattle.moves.specs.declared.spacing.Span.{Span}
-use Rattle.moves.specs.declared.spacing.Spaced.{Spaced}
 use Rattle.moves.specs.declared.spacing.Stop.{Stop}
 use Rattle.moves.specs.declared.spacing.Stop.the-variants as stop-as
 use Rattle.moves.specs.declared.spacing.Turn.{Turn}
-use Rattle.moves.specs.declared.spacing.Turn.the-variants as turn-as
 use Rattle.moves.proofs.Counts.{spaced-why}
 use Rattle.moves.proofs.Finds.{ahead-most}
-use Rattle.moves.proofs.Rounds.{TurnHas, rounds, turnAt}
+use Rattle.moves.proofs.Rounds.{TurnHas, rounds}
 use Rattle.motions.specs.Parts.{end, resting, standing, stops}
 use Rattle.motions.specs.Spaces.{positioned, residualOf, spaceEnd, spaceMotion, spaceMotionBy, startSpan}
 use Rattle.motions.specs.declared.parts.Ending.{Ending}
-use Rattle.motions.specs.declared.parts.Motion.{Motion}
 use Rattle.motions.specs.declared.parts.Motion.the-variants as motion
 use Rattle.motions.proofs.Ends.{Has}
 use Rattle.demands.specs.Done.{passedIn}
-use Rattle.demands.specs.Faults.{ReadOver, nothing-yet, then-gap, then-mark, then-record}
+use Rattle.demands.specs.Faults.{nothing-yet, then-gap, then-mark, then-record}
 use Rattle.demands.specs.Stops.{Goes, Over, SpaceEnded, Stopped, at-bot, at-logical-end, at-recorded-end, by-mark, from-start, markPassed, past-gap, past-mark, past-record, satisfied, sinceMark}
 use Rattle.demands.proofs.Faults.{over-below}
 use Rattle.demands.proofs.Residuals.{left-told}
@@ -69,12 +65,16 @@ module _ (s : List ℕ) (e : ℕ) (reverse : Bool) (At : ℕ → Type 0) (behind
   unfolding sought
   meets p h a = meets-from e p h (ahead-most reverse p e h) a
 
+-- with some left, the count is not reached
+more : {done left count : ℕ} → (left ≡ 0 → ⊥) → done + left ≡ count → done < count
+more some y = omega arith
+
 -- a Position from the tape t on the reel s
 module _ (s : List ℕ) (t : Tape) (rule : Rule) (count : ℕ) (first : Bool) where
   -- what a turn knows, at position q with so much left: the objects read over, and what the span keeps of them
   record Kept (q left : ℕ) (tmk after : Bool) : Type 0 where
     over : Over s t rule count first q
-    goes : Goes rule first q over
+    goes : Goes rule count first q over
     marked : markPassed over ≡ tmk
     since : sinceMark first over ≡ after
     adds : passedIn (rule .marks) over + left ≡ count
@@ -88,16 +88,16 @@ module _ (s : List ℕ) (t : Tape) (rule : Rule) (count : ℕ) (first : Bool) wh
   kept-none = record { over = nothing-yet; goes = from-start; marked = refl; since = refl; adds = omega arith }
 
   -- a gap changes nothing of it
-  kept-gap : (left : ℕ) (tmk after : Bool) (q b : ℕ) → Kept q left tmk after → passed s (rule .reverse) q (t .end) ≡ met.Gap b → Kept b left tmk after
+  kept-gap : (left : ℕ) (tmk after : Bool) (some : left ≡ 0 → ⊥) (q b : ℕ) → Kept q left tmk after → passed s (rule .reverse) q (t .end) ≡ met.Gap b → Kept b left tmk after
   unfolding passedIn markPassed sinceMark
-  kept-gap left tmk after q b k g = record { over = then-gap (k .over) g; goes = past-gap (k .goes); marked = k .marked; since = k .since; adds = k .adds }
+  kept-gap left tmk after some q b k g = record { over = then-gap (k .over) g; goes = past-gap (more some (k .adds)) (k .goes); marked = k .marked; since = k .since; adds = k .adds }
 
   -- a record, counted or not
-  kept-record : (left less : ℕ) (tmk after : Bool) (q b n : ℕ) → Kept q left tmk after → passed s (rule .reverse) q (t .end) ≡ met.Record n b
+  kept-record : (left less : ℕ) (tmk after : Bool) (q b n : ℕ) → Kept q left tmk after → passed s (rule .reverse) q (t .end) ≡ met.Record n b → (left ≡ 0 → ⊥)
       → pick (rule .marks) 0 1 + less ≡ left → Kept b less tmk false
   unfolding passedIn markPassed sinceMark
-  kept-record left less tmk after q b n k g l =
-      record { over = then-record (k .over) g; goes = past-record (k .goes); marked = k .marked; since = refl; adds = omega (arith, k .adds, l) }
+  kept-record left less tmk after q b n k g some l =
+      record { over = then-record (k .over) g; goes = past-record (more some (k .adds)) (k .goes); marked = k .marked; since = refl; adds = omega (arith, k .adds, l) }
 
   -- a mark that is counted and does not end it
   kept-mark : (left : ℕ) (tmk after : Bool) (q b : ℕ) → Kept q left tmk after → passed s (rule .reverse) q (t .end) ≡ met.Mark b → (left ≡ 0 → ⊥)
@@ -105,7 +105,7 @@ module _ (s : List ℕ) (t : Tape) (rule : Rule) (count : ℕ) (first : Bool) wh
   unfolding passedIn markPassed sinceMark
   kept-mark left tmk after q b k g some z w =
       let one : pick {A = ℕ} (rule .marks) 1 0 ≡ 1 = rw z in
-      record { over = then-mark (k .over) g; goes = past-mark {r = k .over} z (rw (k .since) w) (k .goes); marked = refl; since = refl; adds = omega (arith, k .adds, one) }
+      record { over = then-mark (k .over) g; goes = past-mark {r = k .over} (more some (k .adds)) z (rw (k .since) w) (k .goes); marked = refl; since = refl; adds = omega (arith, k .adds, one) }
 
   -- an end from position q with so much left
   record Ends (q left : ℕ) (x : End) : Type 0 where
@@ -119,12 +119,12 @@ module _ (s : List ℕ) (t : Tape) (rule : Rule) (count : ℕ) (first : Bool) wh
   ends-count y k z = record { over = k .over; counted = k .adds; why = rw (← k .marked) (satisfied (k .goes) z) }
 
   -- a mark ends records
-  ends-mark : (left : ℕ) (tmk after : Bool) (q b : ℕ) → Kept q left tmk after → passed s (rule .reverse) q (t .end) ≡ met.Mark b → rule .marks ≡ false
+  ends-mark : (left : ℕ) (tmk after : Bool) (q b : ℕ) → Kept q left tmk after → passed s (rule .reverse) q (t .end) ≡ met.Mark b → (left ≡ 0 → ⊥) → rule .marks ≡ false
       → Ends b left (spaceEnd rule (span b left true true) stop-as.Mark)
   unfolding spaceEnd passedIn
-  ends-mark left tmk after q b k g z =
+  ends-mark left tmk after q b k g some z =
       let none : pick {A = ℕ} (rule .marks) 1 0 ≡ 0 = rw z in
-      record { over = then-mark (k .over) g; counted = omega (arith, k .adds, none); why = by-mark (k .goes) z }
+      record { over = then-mark (k .over) g; counted = omega (arith, k .adds, none); why = by-mark (k .goes) (more some (k .adds)) z }
 
   -- the second mark in a row
   ends-logical : (left : ℕ) (tmk after : Bool) (q b : ℕ) → Kept q left tmk after → passed s (rule .reverse) q (t .end) ≡ met.Mark b → (left ≡ 0 → ⊥)
@@ -132,16 +132,16 @@ module _ (s : List ℕ) (t : Tape) (rule : Rule) (count : ℕ) (first : Bool) wh
   unfolding spaceEnd passedIn
   ends-logical left tmk after q b k g some z w =
       let one : pick {A = ℕ} (rule .marks) 1 0 ≡ 1 = rw z in
-      record { over = then-mark (k .over) g; counted = omega (arith, k .adds, one); why = at-logical-end {r = k .over} (k .goes) z (rw (k .since) w) }
+      record { over = then-mark (k .over) g; counted = omega (arith, k .adds, one); why = at-logical-end {r = k .over} (k .goes) (more some (k .adds)) z (rw (k .since) w) }
 
   -- nothing lies ahead
-  ends-nothing : (left : ℕ) (tmk after : Bool) (q : ℕ) → Kept q left tmk after → ahead (rule .reverse) q (t .end) ≡ 0
+  ends-nothing : (left : ℕ) (tmk after : Bool) (q : ℕ) → Kept q left tmk after → (left ≡ 0 → ⊥) → ahead (rule .reverse) q (t .end) ≡ 0
       → Ends q left (spaceEnd rule (span q left tmk after) stop-as.Nothing)
   unfolding spaceEnd
-  ends-nothing left tmk after q k h =
+  ends-nothing left tmk after q k some h =
       pick-told (Ends q left) (rule .reverse) _ _
-      (λ z. record { over = k .over; counted = k .adds; why = rw (← k .marked) (at-bot (k .goes) z (rw z at h)) })
-      (λ z. record { over = k .over; counted = k .adds; why = rw (← k .marked) (at-recorded-end (k .goes) z (rw z at h)) })
+      (λ z. record { over = k .over; counted = k .adds; why = rw (← k .marked) (at-bot (k .goes) (more some (k .adds)) z (rw z at h)) })
+      (λ z. record { over = k .over; counted = k .adds; why = rw (← k .marked) (at-recorded-end (k .goes) (more some (k .adds)) z (rw z at h)) })
 
   -- where the space stopped, by why it did
   abbrev Why : Span → Stop → Type 0
@@ -154,29 +154,29 @@ module _ (s : List ℕ) (t : Tape) (rule : Rule) (count : ℕ) (first : Bool) wh
   abbrev Turned : Turn → Type 0
   Turned x = TurnHas KeptAt (λ z. Why (z .span) (z .stop)) x
 
-  abbrev Met-from : Span → Sought → Type 0
-  Met-from y f =
-      Meets s (t .end) (rule .reverse) (λ q. Kept q (y .left) (y .tmk) (y .«after_mark»)) (kept-gap (y .left) (y .tmk) (y .«after_mark»)) f
+  abbrev Met-from : (y : Span) → (y .left ≡ 0 → ⊥) → Sought → Type 0
+  Met-from y some f =
+      Meets s (t .end) (rule .reverse) (λ q. Kept q (y .left) (y .tmk) (y .«after_mark»)) (kept-gap (y .left) (y .tmk) (y .«after_mark») some) f
 
   -- each turn, by what its search found
-  turn-kept : (y : Span) (f : Sought) → (y .left ≡ 0 → ⊥) → Met-from y f → Turned (turnOf rule y f)
+  turn-kept : (y : Span) (f : Sought) (some : y .left ≡ 0 → ⊥) → Met-from y some f → Turned (turnOf rule y f)
   unfolding turnOf recordTurn markTurn
   turn-kept y (sought-as.Record n b) some (q, k, g) =
       pick-told Turned (rule .marks) _ _
-      (λ z. kept-record _ _ _ _ q b n k g (rw z (omega arith)))
-      (λ z. kept-record _ _ _ _ q b n k g (rw z (omega arith)))
+      (λ z. kept-record _ _ _ _ q b n k g some (rw z (omega arith)))
+      (λ z. kept-record _ _ _ _ q b n k g some (rw z (omega arith)))
   turn-kept y (sought-as.Mark b) some (q, k, g) =
       pick-told Turned (rule .marks) _ _
       (λ z. pick-told Turned (rule .ess && y .«after_mark») _ _ (λ w. ends-logical _ _ _ q b k g some z w) (λ w. kept-mark _ _ _ q b k g some z w))
-      (λ z. ends-mark _ _ _ q b k g z)
-  turn-kept y (sought-as.Nothing q) some (k, h) = ends-nothing _ _ _ q k h
+      (λ z. ends-mark _ _ _ q b k g some z)
+  turn-kept y (sought-as.Nothing q) some (k, h) = ends-nothing _ _ _ q k some h
   turn-kept y (sought-as.Bad k) some a = tt
 
   module _ (below-end : t .position ≤ t .end) where
     -- the search of a turn, from what is kept
-    kept-met : (y : Span) → KeptAt y → Met-from y (sought s (rule .reverse) (y .position) (t .end))
-    kept-met y k =
-        meets s (t .end) (rule .reverse) (λ q. Kept q (y .left) (y .tmk) (y .«after_mark»)) (kept-gap (y .left) (y .tmk) (y .«after_mark»)) (y .position)
+    kept-met : (y : Span) (some : y .left ≡ 0 → ⊥) → KeptAt y → Met-from y some (sought s (rule .reverse) (y .position) (t .end))
+    kept-met y some k =
+        meets s (t .end) (rule .reverse) (λ q. Kept q (y .left) (y .tmk) (y .«after_mark»)) (kept-gap (y .left) (y .tmk) (y .«after_mark») some) (y .position)
         (over-below s (t .end) (rule .reverse) below-end (k .over)) k
 
     -- so where the space stops
@@ -184,7 +184,7 @@ module _ (s : List ℕ) (t : Tape) (rule : Rule) (count : ℕ) (first : Bool) wh
     unfolding spaced
     spaced-kept x i =
         rounds s rule (t .end) (λ turns y. KeptAt y) (λ z. Why (z .span) (z .stop))
-        (λ turns y k some. turn-kept y _ some (kept-met y k)) (λ turns y k w. k) (t .end + 1) x i
+        (λ turns y k some. turn-kept y _ some (kept-met y some k)) (λ turns y k w. k) (t .end + 1) x i
 
   -- an end as the motion tells it
   ends-told : (y : Span) (why : Stop) → Ends (y .position) (y .left) (spaceEnd rule y why)

@@ -5,9 +5,8 @@
 use mathlib.Core.Bool.{Bool, true, false, _&&_, not}
 use mathlib.Core.List.{List}
 use mathlib.Core.Path.{_≡_}
-use Prim.Native.Nat.{ℕ, _+_, _-_}
+use Prim.Native.Nat.{ℕ, _+_, _<_}
 use lib.Dec.{eqb}
-use Rattle.lists.specs.Pick.{pick}
 use Rattle.tape.specs.Pass.{ahead, passed}
 use Rattle.tape.specs.declared.Met.the-variants as met
 use Rattle.signals.specs.Bits.{LET, OPI, REV, RIB, RLS, TMK}
@@ -34,13 +33,16 @@ module _ {s : List ℕ} {e : ℕ} {reverse : Bool} {p : ℕ} where
   sinceMark first (then-mark r x) = true
   sinceMark first (then-gap r x) = sinceMark first r
 
-  -- no mark was read over that ends the command: none at all where records are counted, with ESS no second in a row
-  pub data Goes (rule : Rule) (first : Bool) : (q : ℕ) → ReadOver s e reverse p q → Type 0 where
-    from-start : Goes rule first p nothing-yet
-    past-record : {q q′ n : ℕ} {r : ReadOver s e reverse p q} {x : passed s reverse q e ≡ met.Record n q′} → Goes rule first q r → Goes rule first q′ (then-record r x)
-    past-gap : {q q′ : ℕ} {r : ReadOver s e reverse p q} {x : passed s reverse q e ≡ met.Gap q′} → Goes rule first q r → Goes rule first q′ (then-gap r x)
-    past-mark : {q q′ : ℕ} {r : ReadOver s e reverse p q} {x : passed s reverse q e ≡ met.Mark q′}
-        → rule .marks ≡ true → (rule .ess && sinceMark first r) ≡ false → Goes rule first q r → Goes rule first q′ (then-mark r x)
+  -- each object was read over with some of the count left, and no mark that ends the command: none at all where records are counted, with ESS no
+  -- second in a row
+  pub data Goes (rule : Rule) (count : ℕ) (first : Bool) : (q : ℕ) → ReadOver s e reverse p q → Type 0 where
+    from-start : Goes rule count first p nothing-yet
+    past-record : {q q′ n : ℕ} {r : ReadOver s e reverse p q} {x : passed s reverse q e ≡ met.Record n q′} → passedIn (rule .marks) r < count
+        → Goes rule count first q r → Goes rule count first q′ (then-record r x)
+    past-gap : {q q′ : ℕ} {r : ReadOver s e reverse p q} {x : passed s reverse q e ≡ met.Gap q′} → passedIn (rule .marks) r < count
+        → Goes rule count first q r → Goes rule count first q′ (then-gap r x)
+    past-mark : {q q′ : ℕ} {r : ReadOver s e reverse p q} {x : passed s reverse q e ≡ met.Mark q′} → passedIn (rule .marks) r < count
+        → rule .marks ≡ true → (rule .ess && sinceMark first r) ≡ false → Goes rule count first q r → Goes rule count first q′ (then-mark r x)
 
 -- of a Position by the rule r with this count from the tape t on the reel s: the objects read over, and its class, XST0's upper bits and XST3. `left`
 -- is the residual
@@ -49,19 +51,19 @@ module _ (s : List ℕ) (t : Tape) (rule : Rule) (count : ℕ) (first : Bool) wh
   Over q = ReadOver s (t .end) (rule .reverse) (t .position) q
 
   pub data Stopped (left : ℕ) : (q : ℕ) → Over q → ℕ → ℕ → ℕ → Type 0 where
-    -- the count is satisfied
-    satisfied : {q : ℕ} {r : Over q} → Goes rule first q r → left ≡ 0 → Stopped left q r 0 (flagOf (markPassed r) TMK) (flagOf (rule .reverse) REV)
+    -- the count is satisfied, by the object read over last
+    satisfied : {q : ℕ} {r : Over q} → Goes rule count first q r → left ≡ 0 → Stopped left q r 0 (flagOf (markPassed r) TMK) (flagOf (rule .reverse) REV)
     -- records, and a mark
-    by-mark : {q q′ : ℕ} {r : Over q} {x : passed s (rule .reverse) q (t .end) ≡ met.Mark q′} → Goes rule first q r → rule .marks ≡ false
+    by-mark : {q q′ : ℕ} {r : Over q} {x : passed s (rule .reverse) q (t .end) ≡ met.Mark q′} → Goes rule count first q r → passedIn (rule .marks) r < count → rule .marks ≡ false
         → Stopped left q′ (then-mark r x) 2 (TMK + RLS) (flagOf (rule .reverse) REV)
     -- marks, and the second in a row
-    at-logical-end : {q q′ : ℕ} {r : Over q} {x : passed s (rule .reverse) q (t .end) ≡ met.Mark q′} → Goes rule first q r
+    at-logical-end : {q q′ : ℕ} {r : Over q} {x : passed s (rule .reverse) q (t .end) ≡ met.Mark q′} → Goes rule count first q r → passedIn (rule .marks) r < count
         → rule .marks ≡ true → (rule .ess && sinceMark first r) ≡ true
         → Stopped left q′ (then-mark r x) 2 (TMK + LET + flagOf (not (eqb left 0)) RLS) (flagOf (rule .reverse) REV)
-    -- nothing lies ahead, in reverse and forward
-    at-bot : {q : ℕ} {r : Over q} → Goes rule first q r → rule .reverse ≡ true → ahead true q (t .end) ≡ 0
+    -- some of the count is left and nothing lies ahead, in reverse and forward
+    at-bot : {q : ℕ} {r : Over q} → Goes rule count first q r → passedIn (rule .marks) r < count → rule .reverse ≡ true → ahead true q (t .end) ≡ 0
         → Stopped left q r 2 (flagOf (markPassed r) TMK + flagOf (not (eqb left 0)) RLS) (REV + RIB)
-    at-recorded-end : {q : ℕ} {r : Over q} → Goes rule first q r → rule .reverse ≡ false → ahead false q (t .end) ≡ 0
+    at-recorded-end : {q : ℕ} {r : Over q} → Goes rule count first q r → passedIn (rule .marks) r < count → rule .reverse ≡ false → ahead false q (t .end) ≡ 0
         → Stopped left q r 6 (flagOf (markPassed r) TMK) OPI
 
   -- how such a motion ended
