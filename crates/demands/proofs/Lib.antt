@@ -11,3 +11,4 @@ pub mod Rereads
 pub mod EndOfTape
 pub mod Done
 pub mod Stopping
+pub mod OneStop
