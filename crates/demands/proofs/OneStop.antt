@@ -1,7 +1,7 @@
 -- A Position mode 0 to 3 has one end only: what `SpaceEnded` says decides the position, the residual, the class and the bits.
 use mathlib.Core.Bool.{Bool, true, false, _&&_, false≢true, not, true≢false}
 use mathlib.Core.List.{List}
-use mathlib.Core.Path.{_≡_, sym, ap, subst, _∙_}
+use mathlib.Core.Path.{_≡_, refl, sym, ap, subst, _∙_}
 use Prim.Native.Nat.{ℕ, _+_, _-_, _<_}
 use native.Mathlib.Omega.{arith}
 use borrow.Author.Tests.{eq-eqb, le-ltb, lt-ltb}
@@ -17,7 +17,7 @@ use Rattle.state.specs.declared.Tape.{Tape}
 use Rattle.motions.specs.declared.parts.Ending.{Ending}
 use Rattle.moves.specs.declared.spacing.Rule.{Rule}
 use Rattle.demands.specs.Done.{passedIn}
-use Rattle.demands.specs.Stops.{Goes, Over, SpaceEnded, Stopped, at-bot, at-logical-end, at-recorded-end, by-mark, from-start, markPassed, past-gap, past-mark, past-record, satisfied, sinceMark}
+use Rattle.demands.specs.Stops.{Goes, Over, SpaceEnded, SpaceRefused, Stopped, at-bot, at-logical-end, at-recorded-end, by-mark, from-start, markPassed, past-gap, past-mark, past-record, satisfied, sinceMark}
 
 -- what an end tells
 record Told : Type 0 where
@@ -46,6 +46,17 @@ data Next : Type 0 where
   halts : Told → Next
   faults : Next
 
+-- what it tells where it ends
+abbrev told-of : Next → Told → Told
+told-of (goes-on y) z = z
+told-of (halts y) z = y
+told-of faults z = z
+
+abbrev halts-is : Next → Bool
+halts-is (goes-on y) = false
+halts-is (halts y) = true
+halts-is faults = false
+
 -- a Position from the tape t on the reel s
 module _ (s : List ℕ) (t : Tape) (rule : Rule) (count : ℕ) where
   abbrev left-at : Place → ℕ
@@ -73,32 +84,27 @@ module _ (s : List ℕ) (t : Tape) (rule : Rule) (count : ℕ) where
   abbrev next : Place → Next
   next x = pick (ltb (x .done) count) (onMet x (metAhead x)) (halts (tells (x .at) 0 0 (flagOf (x .tmk) TMK) (flagOf (rule .reverse) REV)))
 
-  -- from a place to the end
-  data Leads (z : Told) : Place → Type 0 where
-    now : {x : Place} → next x ≡ halts z → Leads z x
-    later : {x y : Place} → next x ≡ goes-on y → Leads z y → Leads z x
+  abbrev onward-is : Next → Bool
+  onward-is (goes-on y) = true
+  onward-is (halts y) = false
+  onward-is faults = false
 
-  abbrev told-of : Next → Told → Told
-  told-of (goes-on y) z = z
-  told-of (halts y) z = y
-  told-of faults z = z
+  -- from a place to the end, or a fault
+  data Leads (z : Next) : Place → Type 0 where
+    now : {x : Place} → next x ≡ z → onward-is z ≡ false → Leads z x
+    later : {x y : Place} → next x ≡ goes-on y → Leads z y → Leads z x
 
   abbrev place-of : Next → Place → Place
   place-of (goes-on y) z = y
   place-of (halts y) z = z
   place-of faults z = z
 
-  abbrev onward-is : Next → Bool
-  onward-is (goes-on y) = true
-  onward-is (halts y) = false
-  onward-is faults = false
-
-  -- a place leads to one end
-  one-told : {x : Place} {z z₂ : Told} → Leads z x → Leads z₂ x → z ≡ z₂
-  one-told {z = z} (now a) (now b) = ap (λ n. told-of n z) (sym a ∙ b)
-  one-told (now a) (later b l) = absurd (false≢true (ap onward-is (sym a ∙ b)))
-  one-told (later a l) (now b) = absurd (true≢false (ap onward-is (sym a ∙ b)))
-  one-told {z₂ = z₂} (later {y = y} a l) (later b k) = one-told l (subst (Leads z₂) (ap (λ n. place-of n y) (sym b ∙ a)) k)
+  -- a place leads to one of them
+  one-last : {x : Place} {z z₂ : Next} → Leads z x → Leads z₂ x → z ≡ z₂
+  one-last (now a o) (now b i) = sym a ∙ b
+  one-last (now a o) (later b l) = absurd (false≢true (sym o ∙ ap onward-is (sym a ∙ b)))
+  one-last (later a l) (now b o) = absurd (false≢true (sym o ∙ ap onward-is (sym b ∙ a)))
+  one-last {z₂ = z₂} (later {y = y} a l) (later b k) = one-last l (subst (Leads z₂) (ap (λ n. place-of n y) (sym b ∙ a)) k)
 
   -- the next object decides, while some of the count is left
   next-met : (x : Place) (m : Met) → x .done < count → metAhead x ≡ m → next x ≡ onMet x m
@@ -145,7 +151,7 @@ module _ (s : List ℕ) (t : Tape) (rule : Rule) (count : ℕ) where
     behind q r = place q (passedIn (rule .marks) r) (markPassed r) (sinceMark first r)
 
     -- what they lead to, the start leads to
-    goes-leads : {z : Told} {q : ℕ} {r : Over s t rule count first q} → Goes rule count first q r → Leads z (behind q r) → Leads z (place (t .position) 0 false first)
+    goes-leads : {z : Next} {q : ℕ} {r : Over s t rule count first q} → Goes rule count first q r → Leads z (behind q r) → Leads z (place (t .position) 0 false first)
     unfolding passedIn markPassed sinceMark
     goes-leads from-start l = l
     goes-leads (past-record {q = q} {r = r} {x = x} h g) l = goes-leads g (later (next-met (behind q r) _ h x) l)
@@ -154,24 +160,34 @@ module _ (s : List ℕ) (t : Tape) (rule : Rule) (count : ℕ) where
 
     -- and each reason is where it ends
     why-leads : {left q class found xst3 : ℕ} {r : Over s t rule count first q} → passedIn (rule .marks) r + left ≡ count → Stopped s t rule count first left q r class found xst3
-        → Leads (tells q left class found xst3) (place (t .position) 0 false first)
+        → Leads (halts (tells q left class found xst3)) (place (t .position) 0 false first)
     unfolding passedIn
-    why-leads c (satisfied {q = q} {r = r} g z) = goes-leads g (now (done-halts (behind q r) _ z c))
+    why-leads c (satisfied {q = q} {r = r} g z) = goes-leads g (now (done-halts (behind q r) _ z c) refl)
     why-leads {left = left} c (by-mark {q = q} {r = r} {x = x} g h z) =
         let none : pick {A = ℕ} (rule .marks) 1 0 ≡ 0 = rw z in
-        goes-leads g (now (next-met (behind q r) _ h x ∙ mark-halts (behind q r) _ left z (omega (arith, none, c))))
+        goes-leads g (now (next-met (behind q r) _ h x ∙ mark-halts (behind q r) _ left z (omega (arith, none, c))) refl)
     why-leads {left = left} c (at-logical-end {q = q} {r = r} {x = x} g h z w) =
         let one : pick {A = ℕ} (rule .marks) 1 0 ≡ 1 = rw z in
-        goes-leads g (now (next-met (behind q r) _ h x ∙ logical-halts (behind q r) _ left z w (omega (arith, one, c))))
-    why-leads c (at-bot {q = q} {r = r} g h z a) = goes-leads g (now (next-met (behind q r) met.Nothing h (rw z (none-ahead true q a)) ∙ bot-halts (behind q r) _ z c))
+        goes-leads g (now (next-met (behind q r) _ h x ∙ logical-halts (behind q r) _ left z w (omega (arith, one, c))) refl)
+    why-leads c (at-bot {q = q} {r = r} g h z a) = goes-leads g (now (next-met (behind q r) met.Nothing h (rw z (none-ahead true q a)) ∙ bot-halts (behind q r) _ z c) refl)
     why-leads c (at-recorded-end {q = q} {r = r} g h z a) =
-        goes-leads g (now (next-met (behind q r) met.Nothing h (rw z (none-ahead false q a)) ∙ recorded-halts (behind q r) _ z c))
+        goes-leads g (now (next-met (behind q r) met.Nothing h (rw z (none-ahead false q a)) ∙ recorded-halts (behind q r) _ z c) refl)
+
+    abbrev told-by : Ending → Told
+    told-by x = tells (x .tape .position) (residualWord (x .end .residual)) (x .end .class) (x .end .found) (x .end .xst3)
 
     -- two ends of one Position tell the same
     pub one-end : {x y : Ending} → SpaceEnded s t rule count first x → SpaceEnded s t rule count first y
         → (x .tape .position ≡ y .tape .position) × (residualWord (x .end .residual) ≡ residualWord (y .end .residual)) × (x .end .class ≡ y .end .class)
         × (x .end .found ≡ y .end .found)
         × (x .end .xst3 ≡ y .end .xst3)
-    one-end a b =
-        let same = one-told (why-leads (a .counted) (a .why)) (why-leads (b .counted) (b .why)) in
+    one-end {x = x} {y = y} a b =
+        let last = one-last (why-leads (a .counted) (a .why)) (why-leads (b .counted) (b .why)) in
+        let same : told-by x ≡ told-by y = ap (λ n. told-of n (told-by x)) last in
         (ap (λ z. z .position) same, ap (λ z. z .left) same, ap (λ z. z .class) same, ap (λ z. z .found) same, ap (λ z. z .xst3) same)
+
+    -- and where a block refuses it there is none
+    pub no-end : {x : Ending} {k : ℕ} → SpaceEnded s t rule count first x → SpaceRefused s t rule count first k → ⊥
+    no-end a b =
+        let leads : Leads faults (place (t .position) 0 false first) = goes-leads (b .goes) (now (next-met (behind (b .from) (b .over)) _ (b .more) (b .bad)) refl) in
+        true≢false (ap halts-is (one-last (why-leads (a .counted) (a .why)) leads))

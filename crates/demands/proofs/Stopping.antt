@@ -5,7 +5,7 @@ use mathlib.Core.Path.{_≡_, refl}
 use Prim.Native.Nat.{ℕ, zero, suc, _+_, _-_, _<_, _≤_}
 use native.Mathlib.Omega.{arith}
 use lib.Dec.{eqb}
-use Rattle.lists.specs.Pick.{Always, pick}
+use Rattle.lists.specs.Pick.{pick}
 use Rattle.lists.proofs.Cases.{pick-told}
 use Rattle.tape.specs.Pass.{ahead, passed}
 use Rattle.tape.specs.declared.Met.{Met}
@@ -28,11 +28,11 @@ use Rattle.moves.proofs.Rounds.{TurnHas, rounds}
 use Rattle.motions.specs.Parts.{end, resting, standing, stops}
 use Rattle.motions.specs.Spaces.{positioned, residualOf, spaceEnd, spaceMotion, spaceMotionBy, startSpan}
 use Rattle.motions.specs.declared.parts.Ending.{Ending}
+use Rattle.motions.specs.declared.parts.Motion.{Motion}
 use Rattle.motions.specs.declared.parts.Motion.the-variants as motion
-use Rattle.motions.proofs.Ends.{Has}
 use Rattle.demands.specs.Done.{passedIn}
 use Rattle.demands.specs.Faults.{nothing-yet, then-gap, then-mark, then-record}
-use Rattle.demands.specs.Stops.{Goes, Over, SpaceEnded, Stopped, at-bot, at-logical-end, at-recorded-end, by-mark, from-start, markPassed, past-gap, past-mark, past-record, satisfied, sinceMark}
+use Rattle.demands.specs.Stops.{Goes, Over, SpaceEnded, SpaceRefused, Stopped, at-bot, at-logical-end, at-recorded-end, by-mark, from-start, markPassed, past-gap, past-mark, past-record, satisfied, sinceMark}
 use Rattle.demands.proofs.Faults.{over-below}
 use Rattle.demands.proofs.Residuals.{left-told}
 
@@ -42,7 +42,7 @@ module _ (s : List ℕ) (e : ℕ) (reverse : Bool) (At : ℕ → Type 0) (behind
   Meets (sought-as.Record n t) = (q : ℕ) × At q × (passed s reverse q e ≡ met.Record n t)
   Meets (sought-as.Mark t) = (q : ℕ) × At q × (passed s reverse q e ≡ met.Mark t)
   Meets (sought-as.Nothing q) = At q × (ahead reverse q e ≡ 0)
-  Meets (sought-as.Bad k) = Always
+  Meets (sought-as.Bad k) = (q : ℕ) × At q × (passed s reverse q e ≡ met.Bad k)
 
   meets-on : (q : ℕ) (x : Met) (onward : ℕ → Sought) → At q → passed s reverse q e ≡ x → PassIn reverse q e x
       → ((t : ℕ) → Onward reverse q e t → At t → Meets (onward t)) → Meets (soughtOn x q onward)
@@ -51,7 +51,7 @@ module _ (s : List ℕ) (e : ℕ) (reverse : Bool) (At : ℕ → Type 0) (behind
   meets-on q (met.Mark t) onward a y i on = (q, a, y)
   meets-on q (met.Gap t) onward a y i on = on t i (behind q t a y)
   meets-on q met.Nothing onward a y i on = (a, i)
-  meets-on q (met.Bad k) onward a y i on = tt
+  meets-on q (met.Bad k) onward a y i on = (q, a, y)
 
   -- a gap takes a block, so the turns are enough
   meets-from : (turns q : ℕ) → q ≤ e → ahead reverse q e ≤ turns → At q → Meets (soughtFrom turns s reverse q e)
@@ -149,7 +149,7 @@ module _ (s : List ℕ) (t : Tape) (rule : Rule) (count : ℕ) (first : Bool) wh
   Why y stop-as.Mark = Ends (y .position) (y .left) (spaceEnd rule y stop-as.Mark)
   Why y stop-as.LogicalEnd = Ends (y .position) (y .left) (spaceEnd rule y stop-as.LogicalEnd)
   Why y stop-as.Nothing = Ends (y .position) (y .left) (spaceEnd rule y stop-as.Nothing)
-  Why y (stop-as.Bad k) = Always
+  Why y (stop-as.Bad k) = SpaceRefused s t rule count first k
 
   abbrev Turned : Turn → Type 0
   Turned x = TurnHas KeptAt (λ z. Why (z .span) (z .stop)) x
@@ -170,7 +170,7 @@ module _ (s : List ℕ) (t : Tape) (rule : Rule) (count : ℕ) (first : Bool) wh
       (λ z. pick-told Turned (rule .ess && y .«after_mark») _ _ (λ w. ends-logical _ _ _ q b k g some z w) (λ w. kept-mark _ _ _ q b k g some z w))
       (λ z. ends-mark _ _ _ q b k g some z)
   turn-kept y (sought-as.Nothing q) some (k, h) = ends-nothing _ _ _ q k some h
-  turn-kept y (sought-as.Bad k) some a = tt
+  turn-kept y (sought-as.Bad b) some (q, k, g) = record { from = q; over = k .over; goes = k .goes; more = more some (k .adds); bad = g }
 
   module _ (below-end : t .position ≤ t .end) where
     -- the search of a turn, from what is kept
@@ -191,29 +191,38 @@ module _ (s : List ℕ) (t : Tape) (rule : Rule) (count : ℕ) (first : Bool) wh
       → SpaceEnded s t rule count first (resting (spaceEnd rule y why) (standing (y .position) (t .end)))
   ends-told y why k = record { over = k .over; counted = rw (left-told rule y why) (k .counted); why = rw (left-told rule y why) (k .why) }
 
+  -- how a Position comes out
+  abbrev Comes : Motion → Type 0
+  Comes (motion.Ended x) = SpaceEnded s t rule count first x
+  Comes (motion.Fault k) = SpaceRefused s t rule count first k
+
   -- and so by why the space stopped
-  motion-ended : (y : Span) (why : Stop) → Why y why → (why ≡ stop-as.Count → y .left ≡ 0) → Has (SpaceEnded s t rule count first) (spaceMotionBy rule y (t .end) why)
+  motion-comes : (y : Span) (why : Stop) → Why y why → (why ≡ stop-as.Count → y .left ≡ 0) → Comes (spaceMotionBy rule y (t .end) why)
   unfolding spaceMotionBy
-  motion-ended y stop-as.Count k z = ends-told y stop-as.Count (ends-count y k (z refl))
-  motion-ended y stop-as.Mark k z = ends-told y stop-as.Mark k
-  motion-ended y stop-as.LogicalEnd k z = ends-told y stop-as.LogicalEnd k
-  motion-ended y stop-as.Nothing k z = ends-told y stop-as.Nothing k
-  motion-ended y (stop-as.Bad b) k z = tt
+  motion-comes y stop-as.Count k z = ends-told y stop-as.Count (ends-count y k (z refl))
+  motion-comes y stop-as.Mark k z = ends-told y stop-as.Mark k
+  motion-comes y stop-as.LogicalEnd k z = ends-told y stop-as.LogicalEnd k
+  motion-comes y stop-as.Nothing k z = ends-told y stop-as.Nothing k
+  motion-comes y (stop-as.Bad b) k z = k
 
 -- a Position with a count, from where the tape stands
 module _ (s : List ℕ) (t : Tape) (rule : Rule) (count : ℕ) (enb : Bool) where
-  position-ended : t .position ≤ t .end → eqb count 0 ≡ false → Has (SpaceEnded s t rule count (enb && eqb (t .position) 0)) (positioned s t rule count enb)
+  position-comes : t .position ≤ t .end → eqb count 0 ≡ false → Comes s t rule count (enb && eqb (t .position) 0) (positioned s t rule count enb)
   unfolding positioned spaceMotion
-  position-ended below-end some =
+  position-comes below-end some =
       let first : Bool = enb && eqb (t .position) 0 in
       let x : Span = startSpan t count enb in
       rw some
-      (motion-ended s t rule count first _ _ (spaced-kept s t rule count first below-end x (kept-none s t rule count first))
+      (motion-comes s t rule count first _ _ (spaced-kept s t rule count first below-end x (kept-none s t rule count first))
       (spaced-why s rule (t .end) x below-end))
 
   -- how a Position mode 0 to 3 ended that had a count
   pub space-ended : (x : Ending) → t .position ≤ t .end → eqb count 0 ≡ false → positioned s t rule count enb ≡ motion.Ended x → SpaceEnded s t rule count (enb && eqb (t .position) 0) x
-  space-ended x below-end some y = rw y at (position-ended below-end some)
+  space-ended x below-end some y = rw y at (position-comes below-end some)
+
+  -- and a block refuses it only where it has to be read
+  pub space-refused : (k : ℕ) → t .position ≤ t .end → eqb count 0 ≡ false → positioned s t rule count enb ≡ motion.Fault k → SpaceRefused s t rule count (enb && eqb (t .position) 0) k
+  space-refused k below-end some y = rw y at (position-comes below-end some)
 
 -- "A Position count of 0 moves nothing, class 0"
 pub space-of-none : (s : List ℕ) (t : Tape) (rule : Rule) (enb : Bool) → positioned s t rule 0 enb ≡ stops (end 0 0 0 (residualOf (rule .marks) 0)) t

@@ -71,3 +71,11 @@ module _ (s : List ℕ) (t : Tape) (rule : Rule) (count : ℕ) (first : Bool) wh
     pub over : Over (x .tape .position)
     pub counted : passedIn (rule .marks) over + residualWord (x .end .residual) ≡ count
     pub why : Stopped (residualWord (x .end .residual)) (x .tape .position) over (x .end .class) (x .end .found) (x .end .xst3)
+
+  -- block k refuses it: with some of the count left it has to be read, behind what was read over
+  pub record SpaceRefused (k : ℕ) : Type 0 where
+    pub from : ℕ
+    pub over : Over from
+    pub goes : Goes rule count first from over
+    pub more : passedIn (rule .marks) over < count
+    pub bad : passed s (rule .reverse) from (t .end) ≡ met.Bad k
