@@ -10,3 +10,5 @@ pub mod Nearest
 pub mod Rereads
 pub mod EndOfTape
 pub mod Done
+pub mod Stopping
+pub mod OneStop

@@ -4,6 +4,7 @@ pub mod Ways
 pub mod Commands
 pub mod Faults
 pub mod Done
+pub mod Stops
 pub mod Reading
 pub mod ReadBack
 pub mod Spacing
