@@ -12,3 +12,4 @@ pub mod Hosts
 pub mod Stands
 pub mod Mounted
 pub mod Always
+pub mod Advances
