@@ -71,9 +71,9 @@ use Rattle.storing.proofs.Lengths.{length-moved}
 use Rattle.storing.proofs.Ways.{message-sent}
 use Rattle.advance.specs.Rules.{hasExtent, isIllegal, reverseFirst, wholeCount}
 use Rattle.advance.specs.Steps.{advanced}
-use Rattle.demands.specs.Done.{Gapped, ReadDone, ReadEnds, Sent, SpaceDone, again, at-end, at-mark, at-once, at-record, behind-gap, not-run, passedIn, reads, way}
+use Rattle.demands.specs.Done.{Carried, Gapped, ReadDone, ReadEnds, Sent, SpaceDone, again, at-end, at-mark, at-once, at-record, behind-gap, not-run, passedIn, reads, way}
 use Rattle.demands.specs.Faults.{ReadOver, nothing-yet, then-gap, then-mark, then-record}
-use Rattle.demands.specs.Ways.{Fetched, Runs, Way, attention, bad-pointer, carried, ends, header, idle, locked, lost, no-buffer, no-extent, no-header, no-words, not-executable, not-mounted, not-owned, packet, started, unknown}
+use Rattle.demands.specs.Ways.{Fetched, Way, attention, bad-pointer, carried, ends, header, idle, locked, lost, no-buffer, no-extent, no-header, no-words, not-executable, not-mounted, not-owned, packet, started, unknown}
 use Rattle.demands.proofs.Faults.{sought-back}
 use Rattle.demands.proofs.ReadBack.{read-found}
 use Rattle.demands.proofs.Residuals.{left-told, residual-word}
@@ -260,6 +260,12 @@ unfolding movedTo
 chosen-place true pointer count n i l = (omega arith, omega arith)
 chosen-place false pointer count n i l = (omega arith, omega arith)
 
+-- the bytes that are moved tell it as well as all of the record's
+place-some : (reverse : Bool) (pointer count n k : ℕ) → k ≡ min n count → movedTo reverse pointer count n ≡ movedTo reverse pointer count k
+unfolding movedTo
+place-some true pointer count n k l = omega arith
+place-some false pointer count n k l = refl
+
 -- the advance of the state u over memory m and reel s
 module _ (u : Unit) (m s : List ℕ) where
   abbrev pub asks : Buffer
@@ -269,12 +275,17 @@ module _ (u : Unit) (m s : List ℕ) where
   abbrev pub Within : ℕ → List ℕ → Type 0
   Within place l = (i : ℕ) → i < length l → (asks .pointer ≤ place + i) × (place + i < asks .pointer + asks .count) × (place + i < length m)
 
+  -- and from the right place on: the first of the buffer, or for a read in reverse the one that lets them end with it
+  abbrev Filled : ℕ → List ℕ → Type 0
+  Filled place l = place ≡ movedTo (reads u m s) (asks .pointer) (asks .count) (length l)
+
   -- what an end of a Read stores of the reel, at which place; as many bytes as the count but for the residual
   record ReadAs (x : Ending) : Type 0 where
     stored : List ℕ
     ends-so : ReadEnds u m s stored (x .end .class) (x .end .found) (x .end .xst3) (x .tape .position)
     upper : Upper (x .end .found)
     place : ℕ
+    filled : Filled place stored
     within : Within place stored
     laid : x .laid ≡ noLay
     bytes : movedOn s (x .moved) m ≡ placed (asks .swb) m place stored
@@ -284,11 +295,12 @@ module _ (u : Unit) (m s : List ℕ) where
   rests-as : (x : End) (t : Tape) → ReadEnds u m s [] (x .class) (x .found) (x .xst3) (t .position) → Upper (x .found) → residualWord (x .residual) ≡ asks .count → ReadAs (resting x t)
   unfolding movedOn readInto movedBytes placed
   rests-as x t y up z =
-      record { stored = []; ends-so = y; upper = up; place = 0; within = λ i l. absurd (omega arith); laid = refl; bytes = refl; counted = omega (arith, z) }
+      record { stored = []; ends-so = y; upper = up; place = _; filled = refl; within = λ i l. absurd (omega arith); laid = refl; bytes = refl; counted = omega (arith, z) }
 
   -- the record of n bytes that the first stage passed up to t, and where it was met
   record Passed (n t : ℕ) : Type 0 where
     from : ℕ
+    ran : Carried u m s
     gapped : Gapped u m s from
     below : from ≤ u .tape .end
     met-as : passed s (way u m s) from (u .tape .end) ≡ met.Record n t
@@ -309,25 +321,26 @@ module _ (u : Unit) (m s : List ℕ) where
   nothing-as true q y = rests-as _ _ y (refl, omega arith) refl
   nothing-as false q y = rests-as _ _ y (refl, omega arith) refl
 
-  stage-by : (f : Sought) → Found s (u .tape .end) (way u m s) Here here-behind f → AtEnd s (u .tape .end) (way u m s) f → StageAs (stageBy (u .tape) (asks .count) (way u m s) f)
+  stage-by : (f : Sought) → Carried u m s → Found s (u .tape .end) (way u m s) Here here-behind f → AtEnd s (u .tape .end) (way u m s) f → StageAs (stageBy (u .tape) (asks .count) (way u m s) f)
   unfolding stageBy stopMotion markEnd
-  stage-by (sought-as.Record n t) (q, (g, h), y) z = record { from = q; gapped = g; below = h; met-as = y }
-  stage-by (sought-as.Mark t) (q, (g, h), y) z = rests-as _ _ (at-mark g y) (refl, omega arith) refl
-  stage-by (sought-as.Nothing q) (g, h) z = nothing-as (way u m s) q (at-end g z)
-  stage-by (sought-as.Bad k) a z = tt
+  stage-by (sought-as.Record n t) c (q, (g, h), y) z = record { from = q; ran = c; gapped = g; below = h; met-as = y }
+  stage-by (sought-as.Mark t) c (q, (g, h), y) z = rests-as _ _ (at-mark c g y) (refl, omega arith) refl
+  stage-by (sought-as.Nothing q) c (g, h) z = nothing-as (way u m s) q (at-end c g z)
+  stage-by (sought-as.Bad k) c a z = tt
 
   -- a record that is moved: read either way, from its first block p on
-  moves-as : (reverse : Bool) (n b p : ℕ) (t : Tape) (rev : Bool) → asks .pointer + asks .count ≤ length m → firstBlock reverse n b ≡ p → Standing s n p
+  moves-as : (reverse : Bool) (n b p : ℕ) (t : Tape) (rev : Bool) → asks .pointer + asks .count ≤ length m → reads u m s ≡ reverse → firstBlock reverse n b ≡ p → Standing s n p
       → ReadEnds u m s (movedBytes reverse (asks .count) (recordBytes s p n)) (pick (eqb n (asks .count)) 0 2) (flagOf (ltb n (asks .count)) RLS + flagOf (ltb (asks .count) n) RLL) (flagOf rev REV) (t .position)
       → Has ReadAs (readMotion asks reverse n b t rev)
   unfolding readMotion readEnd movedOn readInto
-  moves-as reverse n b p t rev fits first k y =
+  moves-as reverse n b p t rev fits go first k y =
       let d : List ℕ = recordBytes s p n in
       record {
         stored = movedBytes reverse (asks .count) d;
         ends-so = y;
         upper = upper-length (ltb n (asks .count)) (ltb (asks .count) n);
         place = movedTo reverse (asks .pointer) (asks .count) (length d);
+        filled = rw go (place-some reverse (asks .pointer) (asks .count) (length d) _ (length-some reverse (asks .count) d));
         laid = refl;
         bytes = rw first;
         within = λ i l. let at = chosen-place reverse (asks .pointer) (asks .count) (length d) i (omega (arith, length-some reverse (asks .count) d)) in (at .0, at .1, omega (arith, at .1));
@@ -337,16 +350,16 @@ module _ (u : Unit) (m s : List ℕ) where
   -- what `at-record` says, by the order and the ways of the stages
   record-so : (reverse rev : Bool) (b : ℕ) {n t : ℕ} (x : Passed n t) → reads u m s ≡ reverse → pick (again u m s) (not (way u m s)) (way u m s) ≡ rev → pick (again u m s) (x .from) t ≡ b
       → ReadEnds u m s (movedBytes reverse (asks .count) (recordBytes s (lowest (way u m s) (x .from) (piecesOf n)) n)) (pick (eqb n (asks .count)) 0 2) (flagOf (ltb n (asks .count)) RLS + flagOf (ltb (asks .count) n) RLL) (flagOf rev REV) b
-  record-so reverse rev b x i j k = rw (← i, ← j, ← k) (at-record (x .gapped) (x .met-as))
+  record-so reverse rev b x i j k = rw (← i, ← j, ← k) (at-record (x .ran) (x .gapped) (x .met-as))
 
   -- from inside the recorded part, with the data in memory (step 10 let it pass)
-  module _ (inside : u .tape .position ≤ u .tape .end) (fits : asks .pointer + asks .count ≤ length m) where
+  module _ (inside : u .tape .position ≤ u .tape .end) (ran : Carried u m s) (fits : asks .pointer + asks .count ≤ length m) where
     -- what goes on from the first stage
     goes-on : (f : ℕ → ℕ → Motion) → ((n t : ℕ) → Passed n t → Has ReadAs (f n t)) → Has ReadAs (onRecord (stageOf s (u .tape) (asks .count) (way u m s)) f)
     unfolding stageOf
     goes-on f on =
         on-record (Has ReadAs) Passed _ f
-        (stage-by _ (found s (u .tape .end) (way u m s) Here here-behind (u .tape .position) (at-once, inside)) (nothing-ahead s (u .tape .end) (way u m s) (u .tape .position) inside)) on
+        (stage-by _ ran (found s (u .tape .end) (way u m s) Here here-behind (u .tape .position) (at-once, inside)) (nothing-ahead s (u .tape .end) (way u m s) (u .tape .position) inside)) on
 
     -- a Read moves what it passed
     one-as : again u m s ≡ false → Has ReadAs (readOne s (u .tape) asks (way u m s))
@@ -355,7 +368,7 @@ module _ (u : Unit) (m s : List ℕ) where
         goes-on _
         (λ n t x.
         let k = passed-stands s (way u m s) (x .from) (u .tape .end) (x .met-as) in
-        moves-as (way u m s) n t _ _ (way u m s) fits (k .1) (k .0) (record-so (way u m s) (way u m s) t x (rw once) (rw once) (rw once)))
+        moves-as (way u m s) n t _ _ (way u m s) fits (rw once) (k .1) (k .0) (record-so (way u m s) (way u m s) t x (rw once) (rw once) (rw once)))
 
     -- a reread's second stage meets the same record, and leads back to where the first met it
     module _ (twice : again u m s ≡ true) {n t : ℕ} (x : Passed n t) where
@@ -366,7 +379,7 @@ module _ (u : Unit) (m s : List ℕ) where
       then-read last =
           let k = passed-stands s (way u m s) (x .from) (u .tape .end) (x .met-as) in
           rw (read-found s (not (way u m s)) t (u .tape .end) n (x .from) asks second)
-          (moves-as (not (way u m s)) n (x .from) _ _ (not (way u m s)) fits (first-back (way u m s) (x .from) n) (k .0)
+          (moves-as (not (way u m s)) n (x .from) _ _ (not (way u m s)) fits (rw (twice, last)) (first-back (way u m s) (x .from) n) (k .0)
           (record-so (not (way u m s)) (not (way u m s)) (x .from) x (rw (twice, last)) (rw twice) (rw twice)))
 
       then-space : header u m s .opp ≡ true → Has ReadAs (spaceBack s (u .tape .end) asks (way u m s) n t)
@@ -374,7 +387,7 @@ module _ (u : Unit) (m s : List ℕ) where
       then-space first =
           let k = passed-stands s (way u m s) (x .from) (u .tape .end) (x .met-as) in
           rw second
-          (moves-as (way u m s) n t _ _ (not (way u m s)) fits (k .1) (k .0) (record-so (way u m s) (not (way u m s)) (x .from) x (rw (twice, first)) (rw twice) (rw twice)))
+          (moves-as (way u m s) n t _ _ (not (way u m s)) fits (rw (twice, first)) (k .1) (k .0) (record-so (way u m s) (not (way u m s)) (x .from) x (rw (twice, first)) (rw twice) (rw twice)))
 
     reread-as : again u m s ≡ true → Has ReadAs (reread s (u .tape) asks (way u m s) (header u m s .opp))
     unfolding reread readThenSpace spaceThenRead
@@ -385,14 +398,10 @@ module _ (u : Unit) (m s : List ℕ) where
   abbrev Sends : Plan → Type 0
   Sends x = (x .sends ≡ true) × (x .unit .characteristics .address + messageBytes ≤ length m)
 
-  -- step 10 lets the data pass
-  abbrev Extent : Type 0
-  Extent = (hasExtent (header u m s) && ltb (length m) (packet u m s .pointer + packet u m s .count)) ≡ false
-
   -- what a command that was fetched comes to: an end of steps 8 to 10, that gives the whole count, or what it is carried out as
   data Ran : Plan → Type 0 where
-    ended-before : (class shown : ℕ) → Upper shown → (Runs u m s → Extent → ⊥) → Ran (ends (started u m s) (header u m s .ie) class shown (wholeCount (header u m s) (packet u m s .count)))
-    run : Extent → Ran (carriedOut (started u m s) m s (header u m s) (packet u m s) (commandOf (header u m s .code) (header u m s .mode)))
+    ended-before : (class shown : ℕ) → Upper shown → (Carried u m s → ⊥) → Ran (ends (started u m s) (header u m s .ie) class shown (wholeCount (header u m s) (packet u m s .count)))
+    run : Carried u m s → Ran (carriedOut (started u m s) m s (header u m s) (packet u m s) (commandOf (header u m s .code) (header u m s .mode)))
 
   fetched-ran : Fetched u m s → {x : Plan} → Way u m s x → Ran x
   fetched-ran f (idle a b) = absurd (clash (cc (a, f .begins .waits .waiting)))
@@ -403,12 +412,12 @@ module _ (u : Unit) (m s : List ℕ) where
   fetched-ran f (unknown b a) = absurd (clash (cc (a, f .known)))
   fetched-ran f (no-buffer b a c) = absurd (clash (cc (c, f .buffer)))
   fetched-ran f (no-words b a c d) = absurd (omega (arith, f .words))
-  fetched-ran f (bad-pointer g a) = ended-before 3 ILA (refl, omega arith) (λ r z. clash (cc (a, r .pointer)))
-  fetched-ran f (not-mounted g a b) = ended-before 3 NEF (refl, omega arith) (λ r z. clash (cc (b, r .mounted)))
-  fetched-ran f (locked g a b c) = ended-before 3 (NEF + WLE) (refl, omega arith) (λ r z. clash (cc (c, r .unlocked)))
-  fetched-ran f (not-executable g a b c d) = ended-before 3 NEF (refl, omega arith) (λ r z. clash (cc (d, r .executable)))
-  fetched-ran f (no-extent r a) = ended-before 5 0 (refl, omega arith) (λ r z. clash (cc (a, z)))
-  fetched-ran f (carried r a) = run a
+  fetched-ran f (bad-pointer g a) = ended-before 3 ILA (refl, omega arith) (λ r. clash (cc (a, r .0 .pointer)))
+  fetched-ran f (not-mounted g a b) = ended-before 3 NEF (refl, omega arith) (λ r. clash (cc (b, r .0 .mounted)))
+  fetched-ran f (locked g a b c) = ended-before 3 (NEF + WLE) (refl, omega arith) (λ r. clash (cc (c, r .0 .unlocked)))
+  fetched-ran f (not-executable g a b c d) = ended-before 3 NEF (refl, omega arith) (λ r. clash (cc (d, r .0 .executable)))
+  fetched-ran f (no-extent r a) = ended-before 5 0 (refl, omega arith) (λ r. clash (cc (a, r .1)))
+  fetched-ran f (carried r a) = run (r, a)
 
   -- a motion that sends ended: a fault sends nothing
   motion-sends : (P : Plan → Type 0) (Q : Ending → Type 0) (v : Unit) (ie : Bool) → ((x : Ending) → Q x → Sends (told v ie x) → P (told v ie x)) → (y : Motion) → Has Q y → Sends (motionPlan v ie y) → P (motionPlan v ie y)
@@ -423,6 +432,7 @@ module _ (u : Unit) (m s : List ℕ) where
     ends-so : ReadEnds u m s stored (x .unit .registers .class) found-so (wordAt (memoryAfter x m s) (x .unit .characteristics .address + 12)) (x .unit .tape .position)
     shown : wordAt (memoryAfter x m s) (x .unit .characteristics .address + 6) / 256 * 256 ≡ found-so
     place : ℕ
+    filled : Filled place stored
     within : Within place stored
     memory : memoryAfter x m s ≡ messaged (placed (header u m s .swb) m place stored) (x .unit .characteristics .address) (x .message)
     counted : length stored + wordAt (memoryAfter x m s) (x .unit .characteristics .address + 4) ≡ packet u m s .count
@@ -441,6 +451,7 @@ module _ (u : Unit) (m s : List ℕ) where
         ends-so = rw (told-xst3 v ie x m s t room) (k .ends-so);
         shown = told-found v ie x m s t room (k .upper);
         place = k .place;
+        filled = k .filled;
         within = k .within;
         memory = message-over (told v ie x) m s t ∙ rw (none-laid (x .laid) (k .laid), k .bytes);
         counted = rw (told-word v ie x m s t room) (k .counted);
@@ -465,11 +476,11 @@ read-way h mode y z = simp (y, z, or-false)
 
 module _ (u : Unit) (m s : List ℕ) (inside : u .tape .position ≤ u .tape .end) (code : header u m s .code ≡ 1) where
   -- a Read by its mode: every mode that is known reads
-  mode-told : asks u m s .pointer + asks u m s .count ≤ length m → isIllegal (readMode (header u m s .mode)) ≡ false
+  mode-told : Carried u m s → asks u m s .pointer + asks u m s .count ≤ length m → isIllegal (readMode (header u m s .mode)) ≡ false
       → Sends u m s (carriedOut (started u m s) m s (header u m s) (packet u m s) (readMode (header u m s .mode)))
       → ReadTold u m s (carriedOut (started u m s) m s (header u m s) (packet u m s) (readMode (header u m s .mode)))
   unfolding readMode isIllegal carriedOut readBy rereadBy
-  mode-told fits known =
+  mode-told ran fits known =
       let h : Header = header u m s in
       let v : Unit = started u m s in
       let mode : ℕ = h .mode in
@@ -478,9 +489,9 @@ module _ (u : Unit) (m s : List ℕ) (inside : u .tape .position ≤ u .tape .en
       motion-sends u m s (ReadTold u m s) (ReadAs u m s) v (h .ie) (read-told u m s v (h .ie)) in
       let is : (k : ℕ) → eqb mode k ≡ true → (reverseFirst h ≡ (eqb k 1 || eqb k 2)) × (leb 2 mode ≡ leb 2 k) = λ k t. (read-way h k code (eqb-true mode k t), ap (leb 2) (eqb-true mode k t)) in
       let one : (b : Bool) → reverseFirst h ≡ b → leb 2 mode ≡ false → Has (ReadAs u m s) (readOne s (u .tape) (asks u m s) b) =
-      λ b w a. subst (λ b. Has (ReadAs u m s) (readOne s (u .tape) (asks u m s) b)) w (one-as u m s inside fits a) in
+      λ b w a. subst (λ b. Has (ReadAs u m s) (readOne s (u .tape) (asks u m s) b)) w (one-as u m s inside ran fits a) in
       let two : (b : Bool) → reverseFirst h ≡ b → leb 2 mode ≡ true → Has (ReadAs u m s) (reread s (u .tape) (asks u m s) b (h .opp)) =
-      λ b w a. subst (λ b. Has (ReadAs u m s) (reread s (u .tape) (asks u m s) b (h .opp))) w (reread-as u m s inside fits a) in
+      λ b w a. subst (λ b. Has (ReadAs u m s) (reread s (u .tape) (asks u m s) b (h .opp))) w (reread-as u m s inside ran fits a) in
       pick-told P (eqb mode 0) _ _ (λ t i. by _ (one false (is 0 t .0) (is 0 t .1)))
       (λ f.
       pick-told P (eqb mode 1) _ _ (λ t i. by _ (one true (is 1 t .0) (is 1 t .1)))
@@ -496,7 +507,7 @@ module _ (u : Unit) (m s : List ℕ) (inside : u .tape .position ≤ u .tape .en
   read-ran known (run a) =
       let h : Header = header u m s in
       let P : Command → Type 0 = λ c. isIllegal c ≡ false → Sends u m s (carriedOut (started u m s) m s h (packet u m s) c) → ReadTold u m s (carriedOut (started u m s) m s h (packet u m s) c) in
-      subst P (sym (read-command (h .code) (h .mode) code)) (mode-told (read-extent h (length m) _ code a)) known
+      subst P (sym (read-command (h .code) (h .mode) code)) (mode-told a (read-extent h (length m) _ code (a .1))) known
 
 -- "The residual counts bytes for Read": of every Read that was fetched and whose message went out, from a position inside the recorded part
 pub read-done : (u : Unit) (m s : List ℕ) → u .tape .position ≤ u .tape .end → Fetched u m s → header u m s .code ≡ 1 → Sent u m s → ReadDone u m s
@@ -509,6 +520,7 @@ read-done u m s inside f code sent =
       ends = told .ends-so;
       shown = told .shown;
       place = told .place;
+      filled = told .filled;
       within = told .within;
       memory = told .memory;
       counted = told .counted;

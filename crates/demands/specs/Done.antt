@@ -10,7 +10,7 @@ use lib.ListN.{length}
 use Rattle.lists.specs.Pick.{pick}
 use Rattle.lists.specs.Places.{placed}
 use Rattle.lists.specs.Words.{wordAt}
-use Rattle.tape.specs.Bytes.{movedBytes, recordBytes}
+use Rattle.tape.specs.Bytes.{movedBytes, movedTo, recordBytes}
 use Rattle.tape.specs.Numbers.{piecesOf}
 use Rattle.tape.specs.Pass.{ahead, lowest, passed}
 use Rattle.tape.specs.declared.Met.the-variants as met
@@ -66,17 +66,20 @@ module _ (u : Unit) (m s : List ℕ) where
   abbrev pub reads : Bool
   reads = pick (again && not (header u m s .opp)) (not way) way
 
+  -- steps 8 to 10 let the command pass
+  abbrev pub Carried : Type 0
+  Carried = Runs u m s × ((hasExtent (header u m s) && ltb (length m) (packet u m s .pointer + packet u m s .count)) ≡ false)
+
   -- how a Read whose packet was fetched ends: the bytes that it stores, its class, what XST0 shows above its low byte, XST3, the position after it
   pub data ReadEnds : List ℕ → ℕ → ℕ → ℕ → ℕ → Type 0 where
     -- ended at steps 8 to 10
-    not-run : {class found : ℕ} → (Runs u m s → (hasExtent (header u m s) && ltb (length m) (packet u m s .pointer + packet u m s .count)) ≡ false → ⊥)
-        → ReadEnds [] class found 0 (u .tape .position)
+    not-run : {class found : ℕ} → (Carried → ⊥) → ReadEnds [] class found 0 (u .tape .position)
     -- "A mark: TMK, RLS, class 2, position past it, nothing moved."
-    at-mark : {q q′ : ℕ} → Gapped q → passed s way q (u .tape .end) ≡ met.Mark q′ → ReadEnds [] 2 (TMK + RLS) (flagOf way REV) q′
+    at-mark : {q q′ : ℕ} → Carried → Gapped q → passed s way q (u .tape .end) ≡ met.Mark q′ → ReadEnds [] 2 (TMK + RLS) (flagOf way REV) q′
     -- "Forward at the recorded end: OPI, class 6. Reverse to block 0 with no further record or mark: RIB, class 2, position 0."
-    at-end : {q : ℕ} → Gapped q → ahead way q (u .tape .end) ≡ 0 → ReadEnds [] (pick way 2 6) 0 (pick way (REV + RIB) OPI) q
+    at-end : {q : ℕ} → Carried → Gapped q → ahead way q (u .tape .end) ≡ 0 → ReadEnds [] (pick way 2 6) 0 (pick way (REV + RIB) OPI) q
     -- "Record longer than the count: RLL; shorter: RLS; class 2": the first record that lies ahead
-    at-record : {q q′ n : ℕ} → Gapped q → passed s way q (u .tape .end) ≡ met.Record n q′
+    at-record : {q q′ n : ℕ} → Carried → Gapped q → passed s way q (u .tape .end) ≡ met.Record n q′
         → ReadEnds (movedBytes reads (packet u m s .count) (recordBytes s (lowest way q (piecesOf n)) n)) (pick (eqb n (packet u m s .count)) 0 2)
         (flagOf (ltb n (packet u m s .count)) RLS + flagOf (ltb (packet u m s .count) n) RLL)
         (flagOf (pick again (not way) way) REV)
@@ -89,6 +92,7 @@ module _ (u : Unit) (m s : List ℕ) where
     pub ends : ReadEnds stored (plan .unit .registers .class) found (sentWord 6) (plan .unit .tape .position)
     pub shown : sentWord 3 / 256 * 256 ≡ found
     pub place : ℕ
+    pub filled : place ≡ movedTo reads (packet u m s .pointer) (packet u m s .count) (length stored)
     pub within : (i : ℕ) → i < length stored → (packet u m s .pointer ≤ place + i) × (place + i < packet u m s .pointer + packet u m s .count) × (place + i < length m)
     pub memory : memoryThen ≡ messaged (placed (header u m s .swb) m place stored) buffer (plan .message)
     pub counted : length stored + sentWord 2 ≡ packet u m s .count
