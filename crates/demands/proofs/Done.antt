@@ -2,7 +2,7 @@
 use mathlib.Core.Bool.{Bool, true, false, _||_, _&&_, not, or-false}
 use mathlib.Core.List.{List, [], _∷_}
 use mathlib.Core.Path.{_≡_, refl, sym, ap, subst, _∙_}
-use Prim.Native.Nat.{ℕ, zero, suc, _+_, _-_, _*_, _/_, _<_, _≤_, min}
+use Prim.Native.Nat.{ℕ, zero, suc, _+_, _-_, _*_, _/_, _%_, _<_, _≤_, min}
 use native.Mathlib.Nat.{suc-add}
 use native.Mathlib.Omega.{arith}
 use borrow.Author.Tests.{eqb-true, lt-ltb, ltb-false, ltb-true}
@@ -16,25 +16,29 @@ use Rattle.lists.proofs.Stores.{getD-within}
 use Rattle.tape.specs.Bytes.{movedBytes, movedTo, readInto, recordBytes}
 use Rattle.tape.specs.Numbers.{blockBytes, piecesOf}
 use Rattle.tape.specs.Objects.{imagesOf}
-use Rattle.tape.specs.Pass.{beyond, lowest, passed}
+use Rattle.tape.specs.Pass.{ahead, beyond, lowest, passed}
 use Rattle.tape.specs.Reading.{blockAt, classAt, classOf}
 use Rattle.tape.specs.declared.Block.the-variants as block
 use Rattle.tape.specs.declared.Met.{Met}
 use Rattle.tape.specs.declared.Met.the-variants as met
 use Rattle.tape.proofs.Accepted.{clash, pick-first}
-use Rattle.tape.proofs.Outcomes.{Outcome, at-end, at-fault, outcome, over-gap, over-mark, over-record}
+use Rattle.tape.proofs.Outcomes.{Outcome, at-fault, outcome, over-gap, over-mark, over-record}
+use Rattle.tape.proofs.Outcomes as outcomes
 use Rattle.tape.proofs.Passes.{PiecesAt}
 use Rattle.tape.proofs.Recorded.{record-length}
+use Rattle.tape.proofs.Within.{PassIn, fewer-ahead, gap-within, pass-in}
+use Rattle.signals.specs.Bits.{BOT, EOT, IE, ILA, MOT, NEF, ONL, OPI, REV, RIB, RLL, RLS, VCK, WLE, WLK}
 use Rattle.signals.specs.Codes.{commandOf, positionMode, readMode}
-use Rattle.signals.specs.Message.{messageBytes, messageOf, messaged, wordsBytes}
+use Rattle.signals.specs.Message.{flagOf, messageBytes, messageOf, messaged, statusByte, wordsBytes, xst0Of}
 use Rattle.signals.specs.Residuals.{residualWord}
 use Rattle.signals.specs.declared.codes.Command.{Command}
 use Rattle.signals.specs.declared.codes.Command.the-variants as command
 use Rattle.signals.specs.declared.message.End.{End}
+use Rattle.signals.specs.declared.message.Status.{Status}
 use Rattle.signals.specs.declared.counts.Residual.{Residual}
 use Rattle.signals.specs.declared.packet.Header.{Header}
 use Rattle.signals.specs.declared.packet.Packet.{Packet}
-use Rattle.signals.proofs.Messages.{length-words}
+use Rattle.signals.proofs.Messages.{length-words, xst0-sum}
 use Rattle.state.specs.declared.Tape.{Tape}
 use Rattle.state.specs.declared.Unit.{Unit}
 use Rattle.state.proofs.Tests.{either, neither}
@@ -48,7 +52,7 @@ use Rattle.moves.specs.declared.spacing.Stop.{Stop}
 use Rattle.moves.specs.declared.spacing.Stop.the-variants as stop-as
 use Rattle.moves.specs.declared.spacing.Turn.the-variants as turn-as
 use Rattle.moves.proofs.Rounds.{SpanHas, spaced-keeps}
-use Rattle.motions.specs.Parts.{noLay, resting}
+use Rattle.motions.specs.Parts.{noLay, resting, standing}
 use Rattle.motions.specs.Reads.{firstBlock, markEnd, nothingEnd, onRecord, readEnd, readMotion, readOne, readThenSpace, reread, spaceBack, spaceThenRead, stageBy, stageOf, stopMotion}
 use Rattle.motions.specs.Spaces.{positioned, spaceMotion, spaceMotionBy, startSpan}
 use Rattle.motions.specs.declared.parts.Ending.{Ending}
@@ -57,19 +61,21 @@ use Rattle.motions.specs.declared.parts.Motion.{Motion}
 use Rattle.motions.specs.declared.parts.Motion.the-variants as motion
 use Rattle.motions.specs.declared.reads.Buffer.{Buffer}
 use Rattle.motions.specs.declared.reads.Stage.{Stage}
-use Rattle.motions.proofs.Ends.{Has}
+use Rattle.motions.proofs.Ends.{Has, flag-most}
 use Rattle.motions.proofs.Onward.{StageHas, on-record}
 use Rattle.commands.specs.Commands.{asked, carriedOut, positionedBy, readBy, rereadBy}
-use Rattle.commands.specs.Ends.{ended, motionPlan, still, told, toldUnit}
+use Rattle.commands.specs.Ends.{ended, motionPlan, motionSeen, statusOf, still, told, toldUnit}
 use Rattle.commands.specs.declared.plans.Plan.{Plan}
 use Rattle.storing.specs.Stored.{laidObject, laidObjects, laidOn, memoryAfter, movedOn, reelAfter}
 use Rattle.storing.proofs.Lengths.{length-moved}
 use Rattle.storing.proofs.Ways.{message-sent}
 use Rattle.advance.specs.Rules.{hasExtent, isIllegal, reverseFirst, wholeCount}
 use Rattle.advance.specs.Steps.{advanced}
-use Rattle.demands.specs.Done.{Gave, ReadDone, Sent, SpaceDone, gave-none, gave-record, passedIn}
+use Rattle.demands.specs.Done.{Carried, Gapped, ReadDone, ReadEnds, Sent, SpaceDone, again, at-end, at-mark, at-once, at-record, behind-gap, not-run, passedIn, reads, way}
 use Rattle.demands.specs.Faults.{ReadOver, nothing-yet, then-gap, then-mark, then-record}
 use Rattle.demands.specs.Ways.{Fetched, Way, attention, bad-pointer, carried, ends, header, idle, locked, lost, no-buffer, no-extent, no-header, no-words, not-executable, not-mounted, not-owned, packet, started, unknown}
+use Rattle.demands.proofs.Faults.{sought-back}
+use Rattle.demands.proofs.ReadBack.{read-found}
 use Rattle.demands.proofs.Residuals.{left-told, residual-word}
 use Rattle.demands.proofs.Ways.{advanced-way}
 
@@ -105,10 +111,40 @@ module _ (p : Plan) (m s : List ℕ) (sends : p .sends ≡ true) where
       ap (λ (b : List ℕ). wordAt b (a + 2 * k)) message-over
       ∙ word-sent l a (p .message) k (omega arith) (omega (arith, length-moved (reelAfter p m s) (p .moved) m))
 
--- of an end that is told, word 2 is its residual
-told-word : (v : Unit) (ie : Bool) (x : Ending) (m s : List ℕ) → told v ie x .sends ≡ true → v .characteristics .address + messageBytes ≤ length m → wordAt (memoryAfter (told v ie x) m s) (v .characteristics .address + 4) ≡ residualWord (x .end .residual)
-unfolding told toldUnit ended messageOf
-told-word v ie x m s sends room = sent-word (told v ie x) m s sends refl room 2 (omega arith)
+-- what an end found leaves XST0's low byte to the unit's condition
+abbrev Upper : ℕ → Type 0
+Upper w = (w % 256 ≡ 0) × (w ≤ 0xFF00)
+
+upper-length : (short long : Bool) → Upper (flagOf short RLS + flagOf long RLL)
+upper-length true true = (refl, omega arith)
+upper-length true false = (refl, omega arith)
+upper-length false true = (refl, omega arith)
+upper-length false false = (refl, omega arith)
+
+-- which takes no more than a byte
+status-most : (x : Status) → statusByte x ≤ 0xFF
+status-most x =
+    omega (arith, flag-most (x .mot) MOT, flag-most (x .onl) ONL, flag-most (x .ie) IE, flag-most (x .vck) VCK, flag-most (x .wlk) WLK, flag-most (x .bot) BOT, flag-most (x .eot) EOT)
+
+above : (w b : ℕ) → w % 256 ≡ 0 → b ≤ 0xFF → (w + b) / 256 * 256 ≡ w
+above w b z l = omega arith
+
+upper-word : (w : ℕ) (x : Status) → Upper w → xst0Of w x / 256 * 256 ≡ w
+upper-word w x (z, l) = ap (λ (n : ℕ). n / 256 * 256) (xst0-sum w x l) ∙ above w (statusByte x) z (status-most x)
+
+-- of an end that is told, word 2 is its residual, word 3 shows what it found, word 6 is its XST3
+module _ (v : Unit) (ie : Bool) (x : Ending) (m s : List ℕ) (sends : told v ie x .sends ≡ true) (room : v .characteristics .address + messageBytes ≤ length m) where
+  told-word : wordAt (memoryAfter (told v ie x) m s) (v .characteristics .address + 4) ≡ residualWord (x .end .residual)
+  unfolding told toldUnit ended messageOf
+  told-word = sent-word (told v ie x) m s sends refl room 2 (omega arith)
+
+  told-found : Upper (x .end .found) → wordAt (memoryAfter (told v ie x) m s) (v .characteristics .address + 6) / 256 * 256 ≡ x .end .found
+  unfolding told toldUnit ended messageOf
+  told-found up = ap (λ (n : ℕ). n / 256 * 256) (sent-word (told v ie x) m s sends refl room 3 (omega arith)) ∙ upper-word (x .end .found) (statusOf (toldUnit v x) ie (motionSeen (v .tape .position) x)) up
+
+  told-xst3 : wordAt (memoryAfter (told v ie x) m s) (v .characteristics .address + 12) ≡ x .end .xst3
+  unfolding told toldUnit ended messageOf
+  told-xst3 = sent-word (told v ie x) m s sends refl room 6 (omega arith)
 
 -- a search, turn by turn: At holds where it began, and behind each gap, and so where it met what it found
 module _ (s : List ℕ) (e : ℕ) (reverse : Bool) (At : ℕ → Type 0) (behind : (q t : ℕ) → At q → passed s reverse q e ≡ met.Gap t → At t) where
@@ -135,6 +171,35 @@ module _ (s : List ℕ) (e : ℕ) (reverse : Bool) (At : ℕ → Type 0) (behind
   unfolding sought
   found p a = found-from e p a
 
+-- where a search from inside the recorded part finds nothing, nothing more lies ahead
+module _ (s : List ℕ) (e : ℕ) (reverse : Bool) where
+  abbrev AtEnd : Sought → Type 0
+  AtEnd (sought-as.Nothing q) = ahead reverse q e ≡ 0
+  AtEnd (sought-as.Record n t) = Always
+  AtEnd (sought-as.Mark t) = Always
+  AtEnd (sought-as.Bad k) = Always
+
+  end-on : (turns q : ℕ) (x : Met) (onward : ℕ → Sought) → q ≤ e → ahead reverse q e ≤ suc turns → PassIn reverse q e x → ((t : ℕ) → t ≤ e → ahead reverse t e ≤ turns → AtEnd (onward t)) → AtEnd (soughtOn x q onward)
+  unfolding soughtOn
+  end-on turns q (met.Record n t) onward h few i on = tt
+  end-on turns q (met.Mark t) onward h few i on = tt
+  end-on turns q (met.Gap t) onward h few i on = on t (i .below) (omega (arith, fewer-ahead reverse q e t h i))
+  end-on turns q met.Nothing onward h few i on = i
+  end-on turns q (met.Bad k) onward h few i on = tt
+
+  -- each gap takes a block, so the turns last
+  end-from : (turns q : ℕ) → q ≤ e → ahead reverse q e ≤ turns → AtEnd (soughtFrom turns s reverse q e)
+  unfolding soughtFrom
+  end-from zero q h few = omega arith
+  end-from (suc turns) q h few = end-on turns q (passed s reverse q e) (λ t. soughtFrom turns s reverse t e) h few (pass-in s reverse q e h) (λ t k l. end-from turns t k l)
+
+  at-most : (p : ℕ) → p ≤ e → ahead reverse p e ≤ e
+  at-most p h = either (λ n. n ≤ e) reverse p (e - p) h (omega arith)
+
+  nothing-ahead : (p : ℕ) → p ≤ e → AtEnd (sought s reverse p e)
+  unfolding sought
+  nothing-ahead p h = end-from e p h (at-most p h)
+
 -- a block that is read as a piece lies on the reel
 piece-held : (s : List ℕ) (k n i : ℕ) → classAt s k ≡ block.Piece n i → blockBytes * (k + 1) ≤ length s
 unfolding classAt
@@ -142,40 +207,45 @@ piece-held s k n i y =
     let held = pick-first (ltb k (length s / blockBytes)) (classOf (blockAt s k)) block.Damaged (block.Piece n i) y (λ h. clash cc) .0 in
     omega (arith, ltb-true k (length s / blockBytes) held)
 
--- the first block of a record that was passed
+-- the first block of a record that was passed, and of one that was passed back
 first-of : (reverse : Bool) (q n : ℕ) → firstBlock reverse n (beyond reverse q (piecesOf n)) ≡ lowest reverse q (piecesOf n)
 unfolding firstBlock
 first-of true q n = refl
 first-of false q n = omega arith
 
+first-back : (reverse : Bool) (q n : ℕ) → firstBlock (not reverse) n q ≡ lowest reverse q (piecesOf n)
+unfolding firstBlock
+first-back true q n = refl
+first-back false q n = refl
+
 module _ (s : List ℕ) where
-  -- all pieces of a record of n bytes that was passed up to q stand on the reel
-  abbrev StandsTo : Bool → ℕ → ℕ → Type 0
-  StandsTo reverse n q = (1 ≤ n) × PiecesAt s (firstBlock reverse n q) n
+  -- all pieces of a record of n bytes stand on the reel, from block p on
+  abbrev Standing : ℕ → ℕ → Type 0
+  Standing n p = (1 ≤ n) × PiecesAt s p n
 
   -- so the reel holds its blocks, and gives all its bytes
-  stands-long : (reverse : Bool) (n q : ℕ) → StandsTo reverse n q → length (recordBytes s (firstBlock reverse n q) n) ≡ n
-  stands-long reverse n q (some, all) =
-      let p : ℕ = firstBlock reverse n q in
+  stands-long : (n p : ℕ) → Standing n p → length (recordBytes s p n) ≡ n
+  stands-long n p (some, all) =
       let last : ℕ = piecesOf n - 1 in
       record-length s p n (omega (arith, piece-held s (p + last) n last (all last (omega arith))))
 
-  abbrev Stood : Bool → Met → Type 0
-  Stood reverse (met.Record n t) = StandsTo reverse n t
-  Stood reverse (met.Mark t) = Always
-  Stood reverse (met.Gap t) = Always
-  Stood reverse met.Nothing = Always
-  Stood reverse (met.Bad k) = Always
+  -- a record that was met from q on stands, and the position beyond it tells its first block
+  abbrev Stood : Bool → ℕ → Met → Type 0
+  Stood reverse q (met.Record n t) = Standing n (lowest reverse q (piecesOf n)) × (firstBlock reverse n t ≡ lowest reverse q (piecesOf n))
+  Stood reverse q (met.Mark t) = Always
+  Stood reverse q (met.Gap t) = Always
+  Stood reverse q met.Nothing = Always
+  Stood reverse q (met.Bad k) = Always
 
-  stood-by : (reverse : Bool) (q e : ℕ) (x : Met) → Outcome s reverse q e x → Stood reverse x
-  stood-by reverse q e x (at-end z y) = rw y tt
-  stood-by reverse q e x (over-record n some most fits all y) = rw (y, first-of reverse q n) (some, all)
+  stood-by : (reverse : Bool) (q e : ℕ) (x : Met) → Outcome s reverse q e x → Stood reverse q x
+  stood-by reverse q e x (outcomes.at-end z y) = rw y tt
+  stood-by reverse q e x (over-record n some most fits all y) = rw y ((some, all), first-of reverse q n)
   stood-by reverse q e x (over-mark f c y) = rw y tt
   stood-by reverse q e x (over-gap f c y) = rw y tt
   stood-by reverse q e x (at-fault k y) = rw y tt
 
   -- the pass over it said so
-  passed-stands : (reverse : Bool) (q e : ℕ) {n t : ℕ} → passed s reverse q e ≡ met.Record n t → StandsTo reverse n t
+  passed-stands : (reverse : Bool) (q e : ℕ) {n t : ℕ} → passed s reverse q e ≡ met.Record n t → Stood reverse q (met.Record n t)
   passed-stands reverse q e y = rw y at (stood-by reverse q e (passed s reverse q e) (outcome s reverse q e))
 
 -- how many bytes of a record are moved, either way
@@ -190,6 +260,12 @@ unfolding movedTo
 chosen-place true pointer count n i l = (omega arith, omega arith)
 chosen-place false pointer count n i l = (omega arith, omega arith)
 
+-- the bytes that are moved tell it as well as all of the record's
+place-some : (reverse : Bool) (pointer count n k : ℕ) → k ≡ min n count → movedTo reverse pointer count n ≡ movedTo reverse pointer count k
+unfolding movedTo
+place-some true pointer count n k l = omega arith
+place-some false pointer count n k l = refl
+
 -- the advance of the state u over memory m and reel s
 module _ (u : Unit) (m s : List ℕ) where
   abbrev pub asks : Buffer
@@ -199,68 +275,124 @@ module _ (u : Unit) (m s : List ℕ) where
   abbrev pub Within : ℕ → List ℕ → Type 0
   Within place l = (i : ℕ) → i < length l → (asks .pointer ≤ place + i) × (place + i < asks .pointer + asks .count) × (place + i < length m)
 
+  -- and from the right place on: the first of the buffer, or for a read in reverse the one that lets them end with it
+  abbrev Filled : ℕ → List ℕ → Type 0
+  Filled place l = place ≡ movedTo (reads u m s) (asks .pointer) (asks .count) (length l)
+
   -- what an end of a Read stores of the reel, at which place; as many bytes as the count but for the residual
   record ReadAs (x : Ending) : Type 0 where
     stored : List ℕ
-    gave : Gave u m s stored
+    ends-so : ReadEnds u m s stored (x .end .class) (x .end .found) (x .end .xst3) (x .tape .position)
+    upper : Upper (x .end .found)
     place : ℕ
+    filled : Filled place stored
     within : Within place stored
     laid : x .laid ≡ noLay
     bytes : movedOn s (x .moved) m ≡ placed (asks .swb) m place stored
     counted : length stored + residualWord (x .end .residual) ≡ asks .count
 
   -- an end that moves nothing and gives the whole count
-  rests-as : (x : End) (t : Tape) → residualWord (x .residual) ≡ asks .count → ReadAs (resting x t)
+  rests-as : (x : End) (t : Tape) → ReadEnds u m s [] (x .class) (x .found) (x .xst3) (t .position) → Upper (x .found) → residualWord (x .residual) ≡ asks .count → ReadAs (resting x t)
   unfolding movedOn readInto movedBytes placed
-  rests-as x t y = record { stored = []; gave = gave-none; place = 0; within = λ i l. absurd (omega arith); laid = refl; bytes = refl; counted = omega (arith, y) }
+  rests-as x t y up z =
+      record { stored = []; ends-so = y; upper = up; place = _; filled = refl; within = λ i l. absurd (omega arith); laid = refl; bytes = refl; counted = omega (arith, z) }
 
-  -- a stage that is over ends so, and a record that it found stands
-  abbrev StageAs : Bool → Stage → Type 0
-  StageAs reverse = StageHas (Has ReadAs) (StandsTo s reverse)
+  -- the record of n bytes that the first stage passed up to t, and where it was met
+  record Passed (n t : ℕ) : Type 0 where
+    from : ℕ
+    ran : Carried u m s
+    gapped : Gapped u m s from
+    below : from ≤ u .tape .end
+    met-as : passed s (way u m s) from (u .tape .end) ≡ met.Record n t
 
-  stage-by : (t : Tape) (reverse : Bool) (f : Sought) → Found s (t .end) reverse (λ q. Always) (λ q t a y. tt) f → StageAs reverse (stageBy t (asks .count) reverse f)
-  unfolding stageBy stopMotion markEnd nothingEnd
-  stage-by t reverse (sought-as.Record n q) (b, a, y) = passed-stands s reverse b (t .end) y
-  stage-by t reverse (sought-as.Mark q) k = rests-as _ _ refl
-  stage-by t true (sought-as.Nothing q) k = rests-as _ _ refl
-  stage-by t false (sought-as.Nothing q) k = rests-as _ _ refl
-  stage-by t reverse (sought-as.Bad k) b = tt
+  -- a position behind nothing but gaps, inside the recorded part
+  abbrev Here : ℕ → Type 0
+  Here q = Gapped u m s q × (q ≤ u .tape .end)
 
-  -- what goes on from a stage
-  goes-on : (t : Tape) (reverse : Bool) (f : ℕ → ℕ → Motion) → ((n q : ℕ) → StandsTo s reverse n q → Has ReadAs (f n q)) → Has ReadAs (onRecord (stageOf s t (asks .count) reverse) f)
-  unfolding stageOf
-  goes-on t reverse f on =
-      on-record (Has ReadAs) (StandsTo s reverse) _ f (stage-by t reverse _ (found s (t .end) reverse (λ q. Always) (λ q t a y. tt) (t .position) tt)) on
+  here-behind : (q t : ℕ) → Here q → passed s (way u m s) q (u .tape .end) ≡ met.Gap t → Here t
+  here-behind q t (g, h) y = (behind-gap g y, gap-within s (way u m s) q (u .tape .end) h y .below)
 
-  -- step 10 let it pass: the data lie in memory
-  module _ (fits : asks .pointer + asks .count ≤ length m) where
-    -- an end that moves a record whose pieces stand
-    record-as : (reverse : Bool) (n q : ℕ) (t : Tape) (rev : Bool) → StandsTo s reverse n q → Has ReadAs (readMotion asks reverse n q t rev)
-    unfolding readMotion readEnd movedOn readInto
-    record-as reverse n q t rev k =
-        let p : ℕ = firstBlock reverse n q in
-        let d : List ℕ = recordBytes s p n in
-        record {
-          stored = movedBytes reverse (asks .count) d;
-          gave = gave-record reverse p n (k .1);
-          place = movedTo reverse (asks .pointer) (asks .count) (length d);
-          laid = refl;
-          bytes = refl;
-          within = λ i l. let at = chosen-place reverse (asks .pointer) (asks .count) (length d) i (omega (arith, length-some reverse (asks .count) d)) in (at .0, at .1, omega (arith, at .1));
-          counted = omega (arith, length-some reverse (asks .count) d, stands-long s reverse n q k);
-        }
+  -- the first stage ends so where it is over, and goes on from a record that it passed
+  abbrev StageAs : Stage → Type 0
+  StageAs = StageHas (Has ReadAs) Passed
 
-    -- a Read, and a reread in either order of its stages
-    one-as : (t : Tape) (reverse : Bool) → Has ReadAs (readOne s t asks reverse)
+  nothing-as : (reverse : Bool) (q : ℕ) → ReadEnds u m s [] (pick reverse 2 6) 0 (pick reverse (REV + RIB) OPI) q → Has ReadAs (stopMotion (nothingEnd (asks .count) reverse) q (u .tape .end))
+  unfolding stopMotion nothingEnd
+  nothing-as true q y = rests-as _ _ y (refl, omega arith) refl
+  nothing-as false q y = rests-as _ _ y (refl, omega arith) refl
+
+  stage-by : (f : Sought) → Carried u m s → Found s (u .tape .end) (way u m s) Here here-behind f → AtEnd s (u .tape .end) (way u m s) f → StageAs (stageBy (u .tape) (asks .count) (way u m s) f)
+  unfolding stageBy stopMotion markEnd
+  stage-by (sought-as.Record n t) c (q, (g, h), y) z = record { from = q; ran = c; gapped = g; below = h; met-as = y }
+  stage-by (sought-as.Mark t) c (q, (g, h), y) z = rests-as _ _ (at-mark c g y) (refl, omega arith) refl
+  stage-by (sought-as.Nothing q) c (g, h) z = nothing-as (way u m s) q (at-end c g z)
+  stage-by (sought-as.Bad k) c a z = tt
+
+  -- a record that is moved: read either way, from its first block p on
+  moves-as : (reverse : Bool) (n b p : ℕ) (t : Tape) (rev : Bool) → asks .pointer + asks .count ≤ length m → reads u m s ≡ reverse → firstBlock reverse n b ≡ p → Standing s n p
+      → ReadEnds u m s (movedBytes reverse (asks .count) (recordBytes s p n)) (pick (eqb n (asks .count)) 0 2) (flagOf (ltb n (asks .count)) RLS + flagOf (ltb (asks .count) n) RLL) (flagOf rev REV) (t .position)
+      → Has ReadAs (readMotion asks reverse n b t rev)
+  unfolding readMotion readEnd movedOn readInto
+  moves-as reverse n b p t rev fits go first k y =
+      let d : List ℕ = recordBytes s p n in
+      record {
+        stored = movedBytes reverse (asks .count) d;
+        ends-so = y;
+        upper = upper-length (ltb n (asks .count)) (ltb (asks .count) n);
+        place = movedTo reverse (asks .pointer) (asks .count) (length d);
+        filled = rw go (place-some reverse (asks .pointer) (asks .count) (length d) _ (length-some reverse (asks .count) d));
+        laid = refl;
+        bytes = rw first;
+        within = λ i l. let at = chosen-place reverse (asks .pointer) (asks .count) (length d) i (omega (arith, length-some reverse (asks .count) d)) in (at .0, at .1, omega (arith, at .1));
+        counted = omega (arith, length-some reverse (asks .count) d, stands-long s n p k);
+      }
+
+  -- what `at-record` says, by the order and the ways of the stages
+  record-so : (reverse rev : Bool) (b : ℕ) {n t : ℕ} (x : Passed n t) → reads u m s ≡ reverse → pick (again u m s) (not (way u m s)) (way u m s) ≡ rev → pick (again u m s) (x .from) t ≡ b
+      → ReadEnds u m s (movedBytes reverse (asks .count) (recordBytes s (lowest (way u m s) (x .from) (piecesOf n)) n)) (pick (eqb n (asks .count)) 0 2) (flagOf (ltb n (asks .count)) RLS + flagOf (ltb (asks .count) n) RLL) (flagOf rev REV) b
+  record-so reverse rev b x i j k = rw (← i, ← j, ← k) (at-record (x .ran) (x .gapped) (x .met-as))
+
+  -- from inside the recorded part, with the data in memory (step 10 let it pass)
+  module _ (inside : u .tape .position ≤ u .tape .end) (ran : Carried u m s) (fits : asks .pointer + asks .count ≤ length m) where
+    -- what goes on from the first stage
+    goes-on : (f : ℕ → ℕ → Motion) → ((n t : ℕ) → Passed n t → Has ReadAs (f n t)) → Has ReadAs (onRecord (stageOf s (u .tape) (asks .count) (way u m s)) f)
+    unfolding stageOf
+    goes-on f on =
+        on-record (Has ReadAs) Passed _ f
+        (stage-by _ ran (found s (u .tape .end) (way u m s) Here here-behind (u .tape .position) (at-once, inside)) (nothing-ahead s (u .tape .end) (way u m s) (u .tape .position) inside)) on
+
+    -- a Read moves what it passed
+    one-as : again u m s ≡ false → Has ReadAs (readOne s (u .tape) asks (way u m s))
     unfolding readOne
-    one-as t reverse = goes-on t reverse _ (λ n q k. record-as reverse n q _ reverse k)
+    one-as once =
+        goes-on _
+        (λ n t x.
+        let k = passed-stands s (way u m s) (x .from) (u .tape .end) (x .met-as) in
+        moves-as (way u m s) n t _ _ (way u m s) fits (rw once) (k .1) (k .0) (record-so (way u m s) (way u m s) t x (rw once) (rw once) (rw once)))
 
-    reread-as : (t : Tape) (reverse opp : Bool) → Has ReadAs (reread s t asks reverse opp)
-    unfolding reread readThenSpace spaceThenRead spaceBack
-    reread-as t reverse opp =
-        either (Has ReadAs) opp _ _
-        (goes-on t reverse _ (λ n q k. goes-on _ (not reverse) _ (λ n′ b l. record-as reverse n q _ (not reverse) k)))
-        (goes-on t reverse _ (λ n q k. one-as _ (not reverse)))
+    -- a reread's second stage meets the same record, and leads back to where the first met it
+    module _ (twice : again u m s ≡ true) {n t : ℕ} (x : Passed n t) where
+      second : sought s (not (way u m s)) t (u .tape .end) ≡ sought-as.Record n (x .from)
+      second = sought-back s (u .tape .end) (way u m s) (x .from) (x .below) (x .met-as)
+
+      then-read : header u m s .opp ≡ false → Has ReadAs (readOne s (standing t (u .tape .end)) asks (not (way u m s)))
+      then-read last =
+          let k = passed-stands s (way u m s) (x .from) (u .tape .end) (x .met-as) in
+          rw (read-found s (not (way u m s)) t (u .tape .end) n (x .from) asks second)
+          (moves-as (not (way u m s)) n (x .from) _ _ (not (way u m s)) fits (rw (twice, last)) (first-back (way u m s) (x .from) n) (k .0)
+          (record-so (not (way u m s)) (not (way u m s)) (x .from) x (rw (twice, last)) (rw twice) (rw twice)))
+
+      then-space : header u m s .opp ≡ true → Has ReadAs (spaceBack s (u .tape .end) asks (way u m s) n t)
+      unfolding spaceBack stageOf stageBy onRecord
+      then-space first =
+          let k = passed-stands s (way u m s) (x .from) (u .tape .end) (x .met-as) in
+          rw second
+          (moves-as (way u m s) n t _ _ (not (way u m s)) fits (rw (twice, first)) (k .1) (k .0) (record-so (way u m s) (not (way u m s)) (x .from) x (rw (twice, first)) (rw twice) (rw twice)))
+
+    reread-as : again u m s ≡ true → Has ReadAs (reread s (u .tape) asks (way u m s) (header u m s .opp))
+    unfolding reread readThenSpace spaceThenRead
+    reread-as twice =
+        pick-told (Has ReadAs) (header u m s .opp) _ _ (λ z. goes-on _ (λ n t x. then-space twice x z)) (λ z. goes-on _ (λ n t x. then-read twice x z))
 
   -- a plan whose message goes into a buffer inside memory
   abbrev Sends : Plan → Type 0
@@ -268,9 +400,8 @@ module _ (u : Unit) (m s : List ℕ) where
 
   -- what a command that was fetched comes to: an end of steps 8 to 10, that gives the whole count, or what it is carried out as
   data Ran : Plan → Type 0 where
-    not-run : (class shown : ℕ) → Ran (ends (started u m s) (header u m s .ie) class shown (wholeCount (header u m s) (packet u m s .count)))
-    run : (hasExtent (header u m s) && ltb (length m) (packet u m s .pointer + packet u m s .count)) ≡ false
-        → Ran (carriedOut (started u m s) m s (header u m s) (packet u m s) (commandOf (header u m s .code) (header u m s .mode)))
+    ended-before : (class shown : ℕ) → Upper shown → (Carried u m s → ⊥) → Ran (ends (started u m s) (header u m s .ie) class shown (wholeCount (header u m s) (packet u m s .count)))
+    run : Carried u m s → Ran (carriedOut (started u m s) m s (header u m s) (packet u m s) (commandOf (header u m s .code) (header u m s .mode)))
 
   fetched-ran : Fetched u m s → {x : Plan} → Way u m s x → Ran x
   fetched-ran f (idle a b) = absurd (clash (cc (a, f .begins .waits .waiting)))
@@ -281,12 +412,12 @@ module _ (u : Unit) (m s : List ℕ) where
   fetched-ran f (unknown b a) = absurd (clash (cc (a, f .known)))
   fetched-ran f (no-buffer b a c) = absurd (clash (cc (c, f .buffer)))
   fetched-ran f (no-words b a c d) = absurd (omega (arith, f .words))
-  fetched-ran f (bad-pointer g a) = not-run _ _
-  fetched-ran f (not-mounted g a b) = not-run _ _
-  fetched-ran f (locked g a b c) = not-run _ _
-  fetched-ran f (not-executable g a b c d) = not-run _ _
-  fetched-ran f (no-extent r a) = not-run _ _
-  fetched-ran f (carried r a) = run a
+  fetched-ran f (bad-pointer g a) = ended-before 3 ILA (refl, omega arith) (λ r. clash (cc (a, r .0 .pointer)))
+  fetched-ran f (not-mounted g a b) = ended-before 3 NEF (refl, omega arith) (λ r. clash (cc (b, r .0 .mounted)))
+  fetched-ran f (locked g a b c) = ended-before 3 (NEF + WLE) (refl, omega arith) (λ r. clash (cc (c, r .0 .unlocked)))
+  fetched-ran f (not-executable g a b c d) = ended-before 3 NEF (refl, omega arith) (λ r. clash (cc (d, r .0 .executable)))
+  fetched-ran f (no-extent r a) = ended-before 5 0 (refl, omega arith) (λ r. clash (cc (a, r .1)))
+  fetched-ran f (carried r a) = run (r, a)
 
   -- a motion that sends ended: a fault sends nothing
   motion-sends : (P : Plan → Type 0) (Q : Ending → Type 0) (v : Unit) (ie : Bool) → ((x : Ending) → Q x → Sends (told v ie x) → P (told v ie x)) → (y : Motion) → Has Q y → Sends (motionPlan v ie y) → P (motionPlan v ie y)
@@ -297,8 +428,11 @@ module _ (u : Unit) (m s : List ℕ) where
   -- of a plan, what `ReadDone` says of the advance
   record ReadTold (x : Plan) : Type 0 where
     stored : List ℕ
-    gave : Gave u m s stored
+    found-so : ℕ
+    ends-so : ReadEnds u m s stored (x .unit .registers .class) found-so (wordAt (memoryAfter x m s) (x .unit .characteristics .address + 12)) (x .unit .tape .position)
+    shown : wordAt (memoryAfter x m s) (x .unit .characteristics .address + 6) / 256 * 256 ≡ found-so
     place : ℕ
+    filled : Filled place stored
     within : Within place stored
     memory : memoryAfter x m s ≡ messaged (placed (header u m s .swb) m place stored) (x .unit .characteristics .address) (x .message)
     counted : length stored + wordAt (memoryAfter x m s) (x .unit .characteristics .address + 4) ≡ packet u m s .count
@@ -313,26 +447,15 @@ module _ (u : Unit) (m s : List ℕ) where
   read-told v ie x k (t, room) =
       record {
         stored = k .stored;
-        gave = k .gave;
+        found-so = x .end .found;
+        ends-so = rw (told-xst3 v ie x m s t room) (k .ends-so);
+        shown = told-found v ie x m s t room (k .upper);
         place = k .place;
+        filled = k .filled;
         within = k .within;
         memory = message-over (told v ie x) m s t ∙ rw (none-laid (x .laid) (k .laid), k .bytes);
         counted = rw (told-word v ie x m s t room) (k .counted);
       }
-
-  -- a Read by its mode: every mode that is known reads
-  mode-told : asks .pointer + asks .count ≤ length m → (mode : ℕ) → isIllegal (readMode mode) ≡ false → (v : Unit) → Sends (carriedOut v m s (header u m s) (packet u m s) (readMode mode))
-      → ReadTold (carriedOut v m s (header u m s) (packet u m s) (readMode mode))
-  unfolding readMode isIllegal carriedOut readBy rereadBy
-  mode-told fits mode known v =
-      let h : Header = header u m s in
-      let P : Command → Type 0 = λ c. isIllegal c ≡ false → Sends (carriedOut v m s h (packet u m s) c) → ReadTold (carriedOut v m s h (packet u m s) c) in
-      let by : (y : Motion) → Has ReadAs y → Sends (motionPlan v (h .ie) y) → ReadTold (motionPlan v (h .ie) y) = motion-sends ReadTold ReadAs v (h .ie) (read-told v (h .ie)) in
-      either P (eqb mode 0) _ _ (λ i. by _ (one-as fits (v .tape) false))
-      (either P (eqb mode 1) _ _ (λ i. by _ (one-as fits (v .tape) true))
-      (either P (eqb mode 2) _ _ (λ i. by _ (reread-as fits (v .tape) true (h .opp)))
-      (either P (eqb mode 3) _ _ (λ i. by _ (reread-as fits (v .tape) false (h .opp)))
-      (λ i. absurd (clash (cc i)))))) known
 
 -- code 1 is a Read, and an end of steps 8 to 10 gives its whole count
 read-command : (code mode : ℕ) → code ≡ 1 → commandOf code mode ≡ readMode mode
@@ -347,24 +470,61 @@ read-whole h count y = rw y
 read-extent : (h : Header) (room to : ℕ) → h .code ≡ 1 → (hasExtent h && ltb room to) ≡ false → to ≤ room
 read-extent h room to y z = ltb-false room to (rw y at z)
 
-module _ (u : Unit) (m s : List ℕ) where
-  read-ran : header u m s .code ≡ 1 → isIllegal (commandOf (header u m s .code) (header u m s .mode)) ≡ false → {x : Plan} → Ran u m s x → Sends u m s x → ReadTold u m s x
-  read-ran code known (not-run class shown) = read-told u m s _ _ _ (rests-as u m s _ _ (read-whole (header u m s) (packet u m s .count) code))
-  read-ran code known (run a) =
+-- its first stage goes in reverse in modes 1 and 2
+read-way : (h : Header) (mode : ℕ) → h .code ≡ 1 → h .mode ≡ mode → reverseFirst h ≡ (eqb mode 1 || eqb mode 2)
+read-way h mode y z = simp (y, z, or-false)
+
+module _ (u : Unit) (m s : List ℕ) (inside : u .tape .position ≤ u .tape .end) (code : header u m s .code ≡ 1) where
+  -- a Read by its mode: every mode that is known reads
+  mode-told : Carried u m s → asks u m s .pointer + asks u m s .count ≤ length m → isIllegal (readMode (header u m s .mode)) ≡ false
+      → Sends u m s (carriedOut (started u m s) m s (header u m s) (packet u m s) (readMode (header u m s .mode)))
+      → ReadTold u m s (carriedOut (started u m s) m s (header u m s) (packet u m s) (readMode (header u m s .mode)))
+  unfolding readMode isIllegal carriedOut readBy rereadBy
+  mode-told ran fits known =
+      let h : Header = header u m s in
+      let v : Unit = started u m s in
+      let mode : ℕ = h .mode in
+      let P : Command → Type 0 = λ c. isIllegal c ≡ false → Sends u m s (carriedOut v m s h (packet u m s) c) → ReadTold u m s (carriedOut v m s h (packet u m s) c) in
+      let by : (y : Motion) → Has (ReadAs u m s) y → Sends u m s (motionPlan v (h .ie) y) → ReadTold u m s (motionPlan v (h .ie) y) =
+      motion-sends u m s (ReadTold u m s) (ReadAs u m s) v (h .ie) (read-told u m s v (h .ie)) in
+      let is : (k : ℕ) → eqb mode k ≡ true → (reverseFirst h ≡ (eqb k 1 || eqb k 2)) × (leb 2 mode ≡ leb 2 k) = λ k t. (read-way h k code (eqb-true mode k t), ap (leb 2) (eqb-true mode k t)) in
+      let one : (b : Bool) → reverseFirst h ≡ b → leb 2 mode ≡ false → Has (ReadAs u m s) (readOne s (u .tape) (asks u m s) b) =
+      λ b w a. subst (λ b. Has (ReadAs u m s) (readOne s (u .tape) (asks u m s) b)) w (one-as u m s inside ran fits a) in
+      let two : (b : Bool) → reverseFirst h ≡ b → leb 2 mode ≡ true → Has (ReadAs u m s) (reread s (u .tape) (asks u m s) b (h .opp)) =
+      λ b w a. subst (λ b. Has (ReadAs u m s) (reread s (u .tape) (asks u m s) b (h .opp))) w (reread-as u m s inside ran fits a) in
+      pick-told P (eqb mode 0) _ _ (λ t i. by _ (one false (is 0 t .0) (is 0 t .1)))
+      (λ f.
+      pick-told P (eqb mode 1) _ _ (λ t i. by _ (one true (is 1 t .0) (is 1 t .1)))
+      (λ f.
+      pick-told P (eqb mode 2) _ _ (λ t i. by _ (two true (is 2 t .0) (is 2 t .1)))
+      (λ f.
+      pick-told P (eqb mode 3) _ _ (λ t i. by _ (two false (is 3 t .0) (is 3 t .1)))
+      (λ f i. absurd (clash (cc i)))))) known
+
+  read-ran : isIllegal (commandOf (header u m s .code) (header u m s .mode)) ≡ false → {x : Plan} → Ran u m s x → Sends u m s x → ReadTold u m s x
+  read-ran known (ended-before class shown up not) =
+      read-told u m s _ _ _ (rests-as u m s _ _ (not-run not) up (read-whole (header u m s) (packet u m s .count) code))
+  read-ran known (run a) =
       let h : Header = header u m s in
       let P : Command → Type 0 = λ c. isIllegal c ≡ false → Sends u m s (carriedOut (started u m s) m s h (packet u m s) c) → ReadTold u m s (carriedOut (started u m s) m s h (packet u m s) c) in
-      subst P (sym (read-command (h .code) (h .mode) code)) (λ i. mode-told u m s (read-extent h (length m) _ code a) (h .mode) i (started u m s)) known
+      subst P (sym (read-command (h .code) (h .mode) code)) (mode-told a (read-extent h (length m) _ code (a .1))) known
 
-  -- "The residual counts bytes for Read": of every Read that was fetched and whose message went out; and each byte stored has its place in the
-  -- buffer that the command gave, inside memory
-  pub read-stored : Fetched u m s → header u m s .code ≡ 1 → Sent u m s → (r : ReadDone u m s) × Within u m s (r .place) (r .stored)
-  read-stored f code sent =
-      let known = neither (not (header u m s .plain)) (isIllegal (commandOf (header u m s .code) (header u m s .mode))) (f .known) .1 in
-      let told : ReadTold u m s (advanced u m s) = read-ran code known (fetched-ran u m s f (advanced-way u m s)) (sent .sends, sent .inside) in
-      (record { stored = told .stored; gave = told .gave; place = told .place; memory = told .memory; counted = told .counted }, told .within)
-
-  pub read-done : Fetched u m s → header u m s .code ≡ 1 → Sent u m s → ReadDone u m s
-  read-done f code sent = read-stored f code sent .0
+-- "The residual counts bytes for Read": of every Read that was fetched and whose message went out, from a position inside the recorded part
+pub read-done : (u : Unit) (m s : List ℕ) → u .tape .position ≤ u .tape .end → Fetched u m s → header u m s .code ≡ 1 → Sent u m s → ReadDone u m s
+read-done u m s inside f code sent =
+    let known = neither (not (header u m s .plain)) (isIllegal (commandOf (header u m s .code) (header u m s .mode))) (f .known) .1 in
+    let told : ReadTold u m s (advanced u m s) = read-ran u m s inside code known (fetched-ran u m s f (advanced-way u m s)) (sent .sends, sent .inside) in
+    record {
+      stored = told .stored;
+      found = told .found-so;
+      ends = told .ends-so;
+      shown = told .shown;
+      place = told .place;
+      filled = told .filled;
+      within = told .within;
+      memory = told .memory;
+      counted = told .counted;
+    }
 
 -- a space on the reel s recorded up to e, from p on: objects were read over up to q, and those that count and what is left make up the count
 module _ (s : List ℕ) (e : ℕ) (reverse : Bool) (p count : ℕ) where
@@ -489,7 +649,7 @@ module _ (u : Unit) (m s : List ℕ) where
       (position-past s (u .tape) (record { reverse = reverse; marks = marks; ess = u .characteristics .ess }) (packet u m s .count) (u .characteristics .enb))
 
   space-ran : header u m s .code ≡ 8 → header u m s .mode < 4 → {x : Plan} → Ran u m s x → Sends u m s x → SpaceTold (reverseFirst (header u m s)) (leb 2 (header u m s .mode)) x
-  space-ran code few (not-run class shown) = space-told _ _ _ _ _ (past-none s _ _ _ _ _ _ (position-whole (header u m s) (packet u m s .count) code few))
+  space-ran code few (ended-before class shown up not) = space-told _ _ _ _ _ (past-none s _ _ _ _ _ _ (position-whole (header u m s) (packet u m s .count) code few))
   space-ran code few (run a) =
       let h : Header = header u m s in
       let reverse : Bool = reverseFirst h in

@@ -235,7 +235,7 @@ module _ (s : List ℕ) (e : ℕ) (reverse : Bool) (q : ℕ) (h : q ≤ e) where
   pass-back y = rw y at (back-by (passed s reverse q e) (outcome s reverse q e))
 
   -- so a search back finds it at once
-  sought-back : {n t : ℕ} → passed s reverse q e ≡ met.Record n t → sought s (not reverse) t e ≡ sought-as.Record n q
+  pub sought-back : {n t : ℕ} → passed s reverse q e ≡ met.Record n t → sought s (not reverse) t e ≡ sought-as.Record n q
   sought-back {n = n} {t = t} y =
       let i : RecordIn reverse e n t = pass-within s reverse q e h y in
       found-at-once s (not reverse) t e n q (omega (arith, i .inside, i .some)) (pass-back y)

@@ -1,27 +1,28 @@
 -- "Done plus residual equals the count asked": what was really stored in memory, or passed on the reel, and the residual word that stands in
 -- the message buffer. (01, "The message": "The residual counts bytes for Read, records or marks for Position modes 0 to 3 .. Ended at steps 8
 -- to 10 they give the whole count")
-use mathlib.Core.Bool.{Bool, true}
+use mathlib.Core.Bool.{Bool, true, false, _&&_, not}
 use mathlib.Core.List.{List, []}
 use mathlib.Core.Path.{_≡_}
-use Prim.Native.Nat.{ℕ, _+_, _*_, _<_, _≤_}
-use lib.Dec.{leb}
+use Prim.Native.Nat.{ℕ, _+_, _*_, _/_, _<_, _≤_}
+use lib.Dec.{eqb, leb, ltb}
 use lib.ListN.{length}
 use Rattle.lists.specs.Pick.{pick}
 use Rattle.lists.specs.Places.{placed}
 use Rattle.lists.specs.Words.{wordAt}
-use Rattle.tape.specs.Bytes.{movedBytes, recordBytes}
+use Rattle.tape.specs.Bytes.{movedBytes, movedTo, recordBytes}
 use Rattle.tape.specs.Numbers.{piecesOf}
-use Rattle.tape.specs.Reading.{classAt}
-use Rattle.tape.specs.declared.Block.the-variants as block
-use Rattle.signals.specs.Message.{messageBytes, messaged}
+use Rattle.tape.specs.Pass.{ahead, lowest, passed}
+use Rattle.tape.specs.declared.Met.the-variants as met
+use Rattle.signals.specs.Bits.{OPI, REV, RIB, RLL, RLS, TMK}
+use Rattle.signals.specs.Message.{flagOf, messageBytes, messaged}
 use Rattle.state.specs.declared.Unit.{Unit}
 use Rattle.commands.specs.declared.plans.Plan.{Plan}
 use Rattle.storing.specs.Stored.{memoryAfter}
-use Rattle.advance.specs.Rules.{reverseFirst}
+use Rattle.advance.specs.Rules.{hasExtent, reverseFirst}
 use Rattle.advance.specs.Steps.{advanced}
 use Rattle.demands.specs.Faults.{ReadOver, nothing-yet, then-gap, then-mark, then-record}
-use Rattle.demands.specs.Ways.{header, packet}
+use Rattle.demands.specs.Ways.{Runs, header, packet}
 
 -- how many records, or how many marks, were read over
 unfoldable pub passedIn : {s : List ℕ} {e : ℕ} {reverse : Bool} {p q : ℕ} → Bool → ReadOver s e reverse p q → ℕ
@@ -50,18 +51,49 @@ module _ (u : Unit) (m s : List ℕ) where
     pub sends : plan .sends ≡ true
     pub inside : buffer + messageBytes ≤ length m
 
-  -- what a Read of this count may store: nothing, or bytes of a record all of whose pieces stand on the reel: all of a short one, of a long one
-  -- the first, in reverse the last
-  pub data Gave : List ℕ → Type 0 where
-    gave-none : Gave []
-    gave-record : (reverse : Bool) (p n : ℕ) → ((i : ℕ) → i < piecesOf n → classAt s (p + i) ≡ block.Piece n i)
-        → Gave (movedBytes reverse (packet u m s .count) (recordBytes s p n))
+  -- the way of the first stage, and what lies ahead of the tape this way: nothing but gaps between its position and q
+  abbrev pub way : Bool
+  way = reverseFirst (header u m s)
 
-  -- of a Read: the bytes stored, at their places, with the message over them; as many as the count but for the residual that is sent
+  pub data Gapped : ℕ → Type 0 where
+    at-once : Gapped (u .tape .position)
+    behind-gap : {q q′ : ℕ} → Gapped q → passed s way q (u .tape .end) ≡ met.Gap q′ → Gapped q′
+
+  -- a reread's read goes the other way unless OPP puts it first, and leaves the tape at the edge of the record that is met first
+  abbrev pub again : Bool
+  again = leb 2 (header u m s .mode)
+
+  abbrev pub reads : Bool
+  reads = pick (again && not (header u m s .opp)) (not way) way
+
+  -- steps 8 to 10 let the command pass
+  abbrev pub Carried : Type 0
+  Carried = Runs u m s × ((hasExtent (header u m s) && ltb (length m) (packet u m s .pointer + packet u m s .count)) ≡ false)
+
+  -- how a Read whose packet was fetched ends: the bytes that it stores, its class, what XST0 shows above its low byte, XST3, the position after it
+  pub data ReadEnds : List ℕ → ℕ → ℕ → ℕ → ℕ → Type 0 where
+    -- ended at steps 8 to 10
+    not-run : {class found : ℕ} → (Carried → ⊥) → ReadEnds [] class found 0 (u .tape .position)
+    -- "A mark: TMK, RLS, class 2, position past it, nothing moved."
+    at-mark : {q q′ : ℕ} → Carried → Gapped q → passed s way q (u .tape .end) ≡ met.Mark q′ → ReadEnds [] 2 (TMK + RLS) (flagOf way REV) q′
+    -- "Forward at the recorded end: OPI, class 6. Reverse to block 0 with no further record or mark: RIB, class 2, position 0."
+    at-end : {q : ℕ} → Carried → Gapped q → ahead way q (u .tape .end) ≡ 0 → ReadEnds [] (pick way 2 6) 0 (pick way (REV + RIB) OPI) q
+    -- "Record longer than the count: RLL; shorter: RLS; class 2": the first record that lies ahead
+    at-record : {q q′ n : ℕ} → Carried → Gapped q → passed s way q (u .tape .end) ≡ met.Record n q′
+        → ReadEnds (movedBytes reads (packet u m s .count) (recordBytes s (lowest way q (piecesOf n)) n)) (pick (eqb n (packet u m s .count)) 0 2)
+        (flagOf (ltb n (packet u m s .count)) RLS + flagOf (ltb (packet u m s .count) n) RLL)
+        (flagOf (pick again (not way) way) REV)
+        (pick again q q′)
+
+  -- of a Read: the bytes stored, inside the buffer asked, with the message over them; as many as the count but for the residual that is sent
   pub record ReadDone : Type 0 where
     pub stored : List ℕ
-    pub gave : Gave stored
+    pub found : ℕ
+    pub ends : ReadEnds stored (plan .unit .registers .class) found (sentWord 6) (plan .unit .tape .position)
+    pub shown : sentWord 3 / 256 * 256 ≡ found
     pub place : ℕ
+    pub filled : place ≡ movedTo reads (packet u m s .pointer) (packet u m s .count) (length stored)
+    pub within : (i : ℕ) → i < length stored → (packet u m s .pointer ≤ place + i) × (place + i < packet u m s .pointer + packet u m s .count) × (place + i < length m)
     pub memory : memoryThen ≡ messaged (placed (header u m s .swb) m place stored) buffer (plan .message)
     pub counted : length stored + sentWord 2 ≡ packet u m s .count
 
