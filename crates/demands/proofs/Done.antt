@@ -71,7 +71,7 @@ use Rattle.storing.proofs.Lengths.{length-moved}
 use Rattle.storing.proofs.Ways.{message-sent}
 use Rattle.advance.specs.Rules.{hasExtent, isIllegal, reverseFirst, wholeCount}
 use Rattle.advance.specs.Steps.{advanced}
-use Rattle.demands.specs.Done.{Carried, Gapped, ReadDone, ReadEnds, Sent, SpaceDone, again, at-end, at-mark, at-once, at-record, behind-gap, not-run, passedIn, reads, way}
+use Rattle.demands.specs.Done.{RunsOn, Gapped, ReadDone, ReadStops, Sent, SpaceDone, again, at-end, at-mark, at-once, at-record, behind-gap, not-run, passedIn, reads, way}
 use Rattle.demands.specs.Faults.{ReadOver, nothing-yet, then-gap, then-mark, then-record}
 use Rattle.demands.specs.Ways.{Fetched, Way, attention, bad-pointer, carried, ends, header, idle, locked, lost, no-buffer, no-extent, no-header, no-words, not-executable, not-mounted, not-owned, packet, started, unknown}
 use Rattle.demands.proofs.Faults.{sought-back}
@@ -282,7 +282,7 @@ module _ (u : Unit) (m s : List ℕ) where
   -- what an end of a Read stores of the reel, at which place; as many bytes as the count but for the residual
   record ReadAs (x : Ending) : Type 0 where
     stored : List ℕ
-    ends-so : ReadEnds u m s stored (x .end .class) (x .end .found) (x .end .xst3) (x .tape .position)
+    ends-so : ReadStops u m s stored (x .end .class) (x .end .found) (x .end .xst3) (x .tape .position)
     upper : Upper (x .end .found)
     place : ℕ
     filled : Filled place stored
@@ -292,7 +292,7 @@ module _ (u : Unit) (m s : List ℕ) where
     counted : length stored + residualWord (x .end .residual) ≡ asks .count
 
   -- an end that moves nothing and gives the whole count
-  rests-as : (x : End) (t : Tape) → ReadEnds u m s [] (x .class) (x .found) (x .xst3) (t .position) → Upper (x .found) → residualWord (x .residual) ≡ asks .count → ReadAs (resting x t)
+  rests-as : (x : End) (t : Tape) → ReadStops u m s [] (x .class) (x .found) (x .xst3) (t .position) → Upper (x .found) → residualWord (x .residual) ≡ asks .count → ReadAs (resting x t)
   unfolding movedOn readInto movedBytes placed
   rests-as x t y up z =
       record { stored = []; ends-so = y; upper = up; place = _; filled = refl; within = λ i l. absurd (omega arith); laid = refl; bytes = refl; counted = omega (arith, z) }
@@ -300,7 +300,7 @@ module _ (u : Unit) (m s : List ℕ) where
   -- the record of n bytes that the first stage passed up to t, and where it was met
   record Passed (n t : ℕ) : Type 0 where
     from : ℕ
-    ran : Carried u m s
+    ran : RunsOn u m s
     gapped : Gapped u m s from
     below : from ≤ u .tape .end
     met-as : passed s (way u m s) from (u .tape .end) ≡ met.Record n t
@@ -316,12 +316,12 @@ module _ (u : Unit) (m s : List ℕ) where
   abbrev StageAs : Stage → Type 0
   StageAs = StageHas (Has ReadAs) Passed
 
-  nothing-as : (reverse : Bool) (q : ℕ) → ReadEnds u m s [] (pick reverse 2 6) 0 (pick reverse (REV + RIB) OPI) q → Has ReadAs (stopMotion (nothingEnd (asks .count) reverse) q (u .tape .end))
+  nothing-as : (reverse : Bool) (q : ℕ) → ReadStops u m s [] (pick reverse 2 6) 0 (pick reverse (REV + RIB) OPI) q → Has ReadAs (stopMotion (nothingEnd (asks .count) reverse) q (u .tape .end))
   unfolding stopMotion nothingEnd
   nothing-as true q y = rests-as _ _ y (refl, omega arith) refl
   nothing-as false q y = rests-as _ _ y (refl, omega arith) refl
 
-  stage-by : (f : Sought) → Carried u m s → Found s (u .tape .end) (way u m s) Here here-behind f → AtEnd s (u .tape .end) (way u m s) f → StageAs (stageBy (u .tape) (asks .count) (way u m s) f)
+  stage-by : (f : Sought) → RunsOn u m s → Found s (u .tape .end) (way u m s) Here here-behind f → AtEnd s (u .tape .end) (way u m s) f → StageAs (stageBy (u .tape) (asks .count) (way u m s) f)
   unfolding stageBy stopMotion markEnd
   stage-by (sought-as.Record n t) c (q, (g, h), y) z = record { from = q; ran = c; gapped = g; below = h; met-as = y }
   stage-by (sought-as.Mark t) c (q, (g, h), y) z = rests-as _ _ (at-mark c g y) (refl, omega arith) refl
@@ -330,7 +330,7 @@ module _ (u : Unit) (m s : List ℕ) where
 
   -- a record that is moved: read either way, from its first block p on
   moves-as : (reverse : Bool) (n b p : ℕ) (t : Tape) (rev : Bool) → asks .pointer + asks .count ≤ length m → reads u m s ≡ reverse → firstBlock reverse n b ≡ p → Standing s n p
-      → ReadEnds u m s (movedBytes reverse (asks .count) (recordBytes s p n)) (pick (eqb n (asks .count)) 0 2) (flagOf (ltb n (asks .count)) RLS + flagOf (ltb (asks .count) n) RLL) (flagOf rev REV) (t .position)
+      → ReadStops u m s (movedBytes reverse (asks .count) (recordBytes s p n)) (pick (eqb n (asks .count)) 0 2) (flagOf (ltb n (asks .count)) RLS + flagOf (ltb (asks .count) n) RLL) (flagOf rev REV) (t .position)
       → Has ReadAs (readMotion asks reverse n b t rev)
   unfolding readMotion readEnd movedOn readInto
   moves-as reverse n b p t rev fits go first k y =
@@ -349,11 +349,11 @@ module _ (u : Unit) (m s : List ℕ) where
 
   -- what `at-record` says, by the order and the ways of the stages
   record-so : (reverse rev : Bool) (b : ℕ) {n t : ℕ} (x : Passed n t) → reads u m s ≡ reverse → pick (again u m s) (not (way u m s)) (way u m s) ≡ rev → pick (again u m s) (x .from) t ≡ b
-      → ReadEnds u m s (movedBytes reverse (asks .count) (recordBytes s (lowest (way u m s) (x .from) (piecesOf n)) n)) (pick (eqb n (asks .count)) 0 2) (flagOf (ltb n (asks .count)) RLS + flagOf (ltb (asks .count) n) RLL) (flagOf rev REV) b
+      → ReadStops u m s (movedBytes reverse (asks .count) (recordBytes s (lowest (way u m s) (x .from) (piecesOf n)) n)) (pick (eqb n (asks .count)) 0 2) (flagOf (ltb n (asks .count)) RLS + flagOf (ltb (asks .count) n) RLL) (flagOf rev REV) b
   record-so reverse rev b x i j k = rw (← i, ← j, ← k) (at-record (x .ran) (x .gapped) (x .met-as))
 
   -- from inside the recorded part, with the data in memory (step 10 let it pass)
-  module _ (inside : u .tape .position ≤ u .tape .end) (ran : Carried u m s) (fits : asks .pointer + asks .count ≤ length m) where
+  module _ (inside : u .tape .position ≤ u .tape .end) (ran : RunsOn u m s) (fits : asks .pointer + asks .count ≤ length m) where
     -- what goes on from the first stage
     goes-on : (f : ℕ → ℕ → Motion) → ((n t : ℕ) → Passed n t → Has ReadAs (f n t)) → Has ReadAs (onRecord (stageOf s (u .tape) (asks .count) (way u m s)) f)
     unfolding stageOf
@@ -400,8 +400,8 @@ module _ (u : Unit) (m s : List ℕ) where
 
   -- what a command that was fetched comes to: an end of steps 8 to 10, that gives the whole count, or what it is carried out as
   data Ran : Plan → Type 0 where
-    ended-before : (class shown : ℕ) → Upper shown → (Carried u m s → ⊥) → Ran (ends (started u m s) (header u m s .ie) class shown (wholeCount (header u m s) (packet u m s .count)))
-    run : Carried u m s → Ran (carriedOut (started u m s) m s (header u m s) (packet u m s) (commandOf (header u m s .code) (header u m s .mode)))
+    ended-before : (class shown : ℕ) → Upper shown → (RunsOn u m s → ⊥) → Ran (ends (started u m s) (header u m s .ie) class shown (wholeCount (header u m s) (packet u m s .count)))
+    run : RunsOn u m s → Ran (carriedOut (started u m s) m s (header u m s) (packet u m s) (commandOf (header u m s .code) (header u m s .mode)))
 
   fetched-ran : Fetched u m s → {x : Plan} → Way u m s x → Ran x
   fetched-ran f (idle a b) = absurd (clash (cc (a, f .begins .waits .waiting)))
@@ -429,7 +429,7 @@ module _ (u : Unit) (m s : List ℕ) where
   record ReadTold (x : Plan) : Type 0 where
     stored : List ℕ
     found-so : ℕ
-    ends-so : ReadEnds u m s stored (x .unit .registers .class) found-so (wordAt (memoryAfter x m s) (x .unit .characteristics .address + 12)) (x .unit .tape .position)
+    ends-so : ReadStops u m s stored (x .unit .registers .class) found-so (wordAt (memoryAfter x m s) (x .unit .characteristics .address + 12)) (x .unit .tape .position)
     shown : wordAt (memoryAfter x m s) (x .unit .characteristics .address + 6) / 256 * 256 ≡ found-so
     place : ℕ
     filled : Filled place stored
@@ -476,7 +476,7 @@ read-way h mode y z = simp (y, z, or-false)
 
 module _ (u : Unit) (m s : List ℕ) (inside : u .tape .position ≤ u .tape .end) (code : header u m s .code ≡ 1) where
   -- a Read by its mode: every mode that is known reads
-  mode-told : Carried u m s → asks u m s .pointer + asks u m s .count ≤ length m → isIllegal (readMode (header u m s .mode)) ≡ false
+  mode-told : RunsOn u m s → asks u m s .pointer + asks u m s .count ≤ length m → isIllegal (readMode (header u m s .mode)) ≡ false
       → Sends u m s (carriedOut (started u m s) m s (header u m s) (packet u m s) (readMode (header u m s .mode)))
       → ReadTold u m s (carriedOut (started u m s) m s (header u m s) (packet u m s) (readMode (header u m s .mode)))
   unfolding readMode isIllegal carriedOut readBy rereadBy

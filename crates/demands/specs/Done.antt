@@ -67,29 +67,30 @@ module _ (u : Unit) (m s : List ℕ) where
   reads = pick (again && not (header u m s .opp)) (not way) way
 
   -- steps 8 to 10 let the command pass
-  abbrev pub Carried : Type 0
-  Carried = Runs u m s × ((hasExtent (header u m s) && ltb (length m) (packet u m s .pointer + packet u m s .count)) ≡ false)
+  abbrev pub RunsOn : Type 0
+  RunsOn = Runs u m s × ((hasExtent (header u m s) && ltb (length m) (packet u m s .pointer + packet u m s .count)) ≡ false)
 
   -- how a Read whose packet was fetched ends: the bytes that it stores, its class, what XST0 shows above its low byte, XST3, the position after it
-  pub data ReadEnds : List ℕ → ℕ → ℕ → ℕ → ℕ → Type 0 where
+  pub data ReadStops : List ℕ → ℕ → ℕ → ℕ → ℕ → Type 0 where
     -- ended at steps 8 to 10
-    not-run : {class found : ℕ} → (Carried → ⊥) → ReadEnds [] class found 0 (u .tape .position)
+    not-run : {class found : ℕ} → (RunsOn → ⊥) → ReadStops [] class found 0 (u .tape .position)
     -- "A mark: TMK, RLS, class 2, position past it, nothing moved."
-    at-mark : {q q′ : ℕ} → Carried → Gapped q → passed s way q (u .tape .end) ≡ met.Mark q′ → ReadEnds [] 2 (TMK + RLS) (flagOf way REV) q′
+    at-mark : {q q′ : ℕ} → RunsOn → Gapped q → passed s way q (u .tape .end) ≡ met.Mark q′ → ReadStops [] 2 (TMK + RLS) (flagOf way REV) q′
     -- "Forward at the recorded end: OPI, class 6. Reverse to block 0 with no further record or mark: RIB, class 2, position 0."
-    at-end : {q : ℕ} → Carried → Gapped q → ahead way q (u .tape .end) ≡ 0 → ReadEnds [] (pick way 2 6) 0 (pick way (REV + RIB) OPI) q
+    at-end : {q : ℕ} → RunsOn → Gapped q → ahead way q (u .tape .end) ≡ 0 → ReadStops [] (pick way 2 6) 0 (pick way (REV + RIB) OPI) q
     -- "Record longer than the count: RLL; shorter: RLS; class 2": the first record that lies ahead
-    at-record : {q q′ n : ℕ} → Carried → Gapped q → passed s way q (u .tape .end) ≡ met.Record n q′
-        → ReadEnds (movedBytes reads (packet u m s .count) (recordBytes s (lowest way q (piecesOf n)) n)) (pick (eqb n (packet u m s .count)) 0 2)
+    at-record : {q q′ n : ℕ} → RunsOn → Gapped q → passed s way q (u .tape .end) ≡ met.Record n q′
+        → ReadStops (movedBytes reads (packet u m s .count) (recordBytes s (lowest way q (piecesOf n)) n)) (pick (eqb n (packet u m s .count)) 0 2)
         (flagOf (ltb n (packet u m s .count)) RLS + flagOf (ltb (packet u m s .count) n) RLL)
         (flagOf (pick again (not way) way) REV)
         (pick again q q′)
 
-  -- of a Read: the bytes stored, inside the buffer asked, with the message over them; as many as the count but for the residual that is sent
+  -- of a Read: the bytes stored at their place in the buffer asked (by addresses, before SWB flips them), with the message over them; as many as
+  -- the count but for the residual that is sent
   pub record ReadDone : Type 0 where
     pub stored : List ℕ
     pub found : ℕ
-    pub ends : ReadEnds stored (plan .unit .registers .class) found (sentWord 6) (plan .unit .tape .position)
+    pub ends : ReadStops stored (plan .unit .registers .class) found (sentWord 6) (plan .unit .tape .position)
     pub shown : sentWord 3 / 256 * 256 ≡ found
     pub place : ℕ
     pub filled : place ≡ movedTo reads (packet u m s .pointer) (packet u m s .count) (length stored)
