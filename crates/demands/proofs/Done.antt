@@ -112,7 +112,7 @@ module _ (p : Plan) (m s : List ℕ) (sends : p .sends ≡ true) where
       ∙ word-sent l a (p .message) k (omega arith) (omega (arith, length-moved (reelAfter p m s) (p .moved) m))
 
 -- what an end found leaves XST0's low byte to the unit's condition
-abbrev Upper : ℕ → Type 0
+abbrev pub Upper : ℕ → Type 0
 Upper w = (w % 256 ≡ 0) × (w ≤ 0xFF00)
 
 upper-length : (short long : Bool) → Upper (flagOf short RLS + flagOf long RLL)
@@ -134,15 +134,15 @@ upper-word w x (z, l) = ap (λ (n : ℕ). n / 256 * 256) (xst0-sum w x l) ∙ ab
 
 -- of an end that is told, word 2 is its residual, word 3 shows what it found, word 6 is its XST3
 module _ (v : Unit) (ie : Bool) (x : Ending) (m s : List ℕ) (sends : told v ie x .sends ≡ true) (room : v .characteristics .address + messageBytes ≤ length m) where
-  told-word : wordAt (memoryAfter (told v ie x) m s) (v .characteristics .address + 4) ≡ residualWord (x .end .residual)
+  pub told-word : wordAt (memoryAfter (told v ie x) m s) (v .characteristics .address + 4) ≡ residualWord (x .end .residual)
   unfolding told toldUnit ended messageOf
   told-word = sent-word (told v ie x) m s sends refl room 2 (omega arith)
 
-  told-found : Upper (x .end .found) → wordAt (memoryAfter (told v ie x) m s) (v .characteristics .address + 6) / 256 * 256 ≡ x .end .found
+  pub told-found : Upper (x .end .found) → wordAt (memoryAfter (told v ie x) m s) (v .characteristics .address + 6) / 256 * 256 ≡ x .end .found
   unfolding told toldUnit ended messageOf
   told-found up = ap (λ (n : ℕ). n / 256 * 256) (sent-word (told v ie x) m s sends refl room 3 (omega arith)) ∙ upper-word (x .end .found) (statusOf (toldUnit v x) ie (motionSeen (v .tape .position) x)) up
 
-  told-xst3 : wordAt (memoryAfter (told v ie x) m s) (v .characteristics .address + 12) ≡ x .end .xst3
+  pub told-xst3 : wordAt (memoryAfter (told v ie x) m s) (v .characteristics .address + 12) ≡ x .end .xst3
   unfolding told toldUnit ended messageOf
   told-xst3 = sent-word (told v ie x) m s sends refl room 6 (omega arith)
 
@@ -395,7 +395,7 @@ module _ (u : Unit) (m s : List ℕ) where
         pick-told (Has ReadAs) (header u m s .opp) _ _ (λ z. goes-on _ (λ n t x. then-space twice x z)) (λ z. goes-on _ (λ n t x. then-read twice x z))
 
   -- a plan whose message goes into a buffer inside memory
-  abbrev Sends : Plan → Type 0
+  abbrev pub Sends : Plan → Type 0
   Sends x = (x .sends ≡ true) × (x .unit .characteristics .address + messageBytes ≤ length m)
 
   -- what a command that was fetched comes to: an end of steps 8 to 10, that gives the whole count, or what it is carried out as
@@ -420,7 +420,7 @@ module _ (u : Unit) (m s : List ℕ) where
   fetched-ran f (carried r a) = run (r, a)
 
   -- a motion that sends ended: a fault sends nothing
-  motion-sends : (P : Plan → Type 0) (Q : Ending → Type 0) (v : Unit) (ie : Bool) → ((x : Ending) → Q x → Sends (told v ie x) → P (told v ie x)) → (y : Motion) → Has Q y → Sends (motionPlan v ie y) → P (motionPlan v ie y)
+  pub motion-sends : (P : Plan → Type 0) (Q : Ending → Type 0) (v : Unit) (ie : Bool) → ((x : Ending) → Q x → Sends (told v ie x) → P (told v ie x)) → (y : Motion) → Has Q y → Sends (motionPlan v ie y) → P (motionPlan v ie y)
   unfolding motionPlan still
   motion-sends P Q v ie tells (motion.Ended x) k t = tells x k t
   motion-sends P Q v ie tells (motion.Fault b) k t = absurd (clash (cc (t .0)))
@@ -609,11 +609,11 @@ position-past s t r count enb =
     (λ z. space-past s (t .end) r (t .position) count _ _ (spaced-past s (t .end) r (t .position) count x (past-none s (t .end) (r .reverse) (t .position) count (r .marks) count refl)))
 
 -- code 8 is a Position: modes 0 to 3 go one way or the other, over records or marks, and an end of steps 8 to 10 gives their whole count
-position-command : (code mode : ℕ) → code ≡ 8 → commandOf code mode ≡ positionMode mode
+pub position-command : (code mode : ℕ) → code ≡ 8 → commandOf code mode ≡ positionMode mode
 unfolding commandOf
 position-command code mode y = rw y
 
-position-mode : (v : Unit) (m s : List ℕ) (h : Header) (x : Packet) (mode : ℕ) → mode < 4 → carriedOut v m s h x (positionMode mode) ≡ positionedBy v s h x (eqb mode 1 || eqb mode 3) (leb 2 mode)
+pub position-mode : (v : Unit) (m s : List ℕ) (h : Header) (x : Packet) (mode : ℕ) → mode < 4 → carriedOut v m s h x (positionMode mode) ≡ positionedBy v s h x (eqb mode 1 || eqb mode 3) (leb 2 mode)
 unfolding positionMode carriedOut
 position-mode v m s h x zero l = refl
 position-mode v m s h x (suc zero) l = refl
@@ -621,7 +621,7 @@ position-mode v m s h x (suc (suc zero)) l = refl
 position-mode v m s h x (suc (suc (suc zero))) l = refl
 position-mode v m s h x (suc (suc (suc (suc mode)))) l = absurd (omega arith)
 
-position-reverse : (h : Header) → h .code ≡ 8 → reverseFirst h ≡ (eqb (h .mode) 1 || eqb (h .mode) 3)
+pub position-reverse : (h : Header) → h .code ≡ 8 → reverseFirst h ≡ (eqb (h .mode) 1 || eqb (h .mode) 3)
 position-reverse h y = simp (y, or-false)
 
 position-whole : (h : Header) (count : ℕ) → h .code ≡ 8 → h .mode < 4 → residualWord (wholeCount h count) ≡ count

@@ -12,3 +12,4 @@ pub mod EndOfTape
 pub mod Done
 pub mod Stopping
 pub mod OneStop
+pub mod Said

@@ -5,6 +5,7 @@ pub mod Commands
 pub mod Faults
 pub mod Done
 pub mod Stops
+pub mod Saying
 pub mod Reading
 pub mod ReadBack
 pub mod Spacing

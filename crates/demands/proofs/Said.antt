@@ -1,0 +1,109 @@
+-- The message of a Position that was carried out says how its motion ended.
+use mathlib.Core.Bool.{Bool, true, false, _&&_, _||_, not}
+use mathlib.Core.List.{List}
+use mathlib.Core.Path.{_≡_, refl, sym, ap, subst, _∙_}
+use Prim.Native.Nat.{ℕ, _+_, _*_, _/_, _<_, _≤_}
+use native.Mathlib.Omega.{arith}
+use lib.Dec.{eqb, leb}
+use Rattle.lists.specs.Words.{wordAt}
+use Rattle.signals.specs.Bits.{LET, RLS, TMK}
+use Rattle.signals.specs.Codes.{commandOf}
+use Rattle.signals.specs.Message.{flagOf}
+use Rattle.signals.specs.Residuals.{residualWord}
+use Rattle.signals.specs.declared.packet.Header.{Header}
+use Rattle.state.specs.declared.Tape.{Tape}
+use Rattle.state.specs.declared.Unit.{Unit}
+use Rattle.moves.specs.declared.spacing.Rule.{Rule}
+use Rattle.motions.proofs.Ends.{Has}
+use Rattle.motions.specs.Spaces.{positioned}
+use Rattle.motions.specs.declared.parts.Ending.{Ending}
+use Rattle.motions.specs.declared.parts.Motion.{Motion}
+use Rattle.motions.specs.declared.parts.Motion.the-variants as motion
+use Rattle.commands.specs.Commands.{carriedOut, positionedBy}
+use Rattle.commands.specs.Ends.{ended, told, toldUnit}
+use Rattle.commands.specs.declared.plans.Plan.{Plan}
+use Rattle.storing.specs.Stored.{memoryAfter}
+use Rattle.advance.specs.Rules.{reverseFirst}
+use Rattle.advance.specs.Steps.{advanced}
+use Rattle.demands.specs.Done.{RunsOn, Sent}
+use Rattle.demands.specs.Saying.{SpaceSays, markAtStart}
+use Rattle.demands.specs.Stops.{Over, SpaceEnded, Stopped, at-bot, at-logical-end, at-recorded-end, by-mark, markPassed, satisfied}
+use Rattle.demands.specs.Ways.{carried, header, packet, started}
+use Rattle.demands.proofs.Done.{Sends, Upper, motion-sends, position-command, position-mode, position-reverse, told-found, told-word, told-xst3}
+use Rattle.demands.proofs.Stopping.{space-ended}
+use Rattle.demands.proofs.Ways.{advanced-is}
+
+-- TMK, LET and RLS stand above XST0's low byte
+upper-mark : (a c : Bool) → Upper (flagOf a TMK + flagOf c RLS)
+upper-mark true true = (refl, omega arith)
+upper-mark true false = (refl, omega arith)
+upper-mark false true = (refl, omega arith)
+upper-mark false false = (refl, omega arith)
+
+upper-end : (c : Bool) → Upper (TMK + LET + flagOf c RLS)
+upper-end true = (refl, omega arith)
+upper-end false = (refl, omega arith)
+
+upper-alone : (a : Bool) → Upper (flagOf a TMK)
+upper-alone true = (refl, omega arith)
+upper-alone false = (refl, omega arith)
+
+-- and an end of a Position shows no more than these
+upper-stopped : {s : List ℕ} {t : Tape} {rule : Rule} {count : ℕ} {first : Bool} {left q : ℕ} {r : Over s t rule count first q} {class found xst3 : ℕ} → Stopped s t rule count first left q r class found xst3 → Upper found
+upper-stopped (satisfied {r = r} g z) = upper-alone (markPassed r)
+upper-stopped (by-mark g more x) = (refl, omega arith)
+upper-stopped {left = left} (at-logical-end g more x y) = upper-end (not (eqb left 0))
+upper-stopped {left = left} (at-bot {r = r} g more x y) = upper-mark (markPassed r) (not (eqb left 0))
+upper-stopped (at-recorded-end {r = r} g more x y) = upper-alone (markPassed r)
+
+-- a law of every end of a motion
+has-by : (Q : Ending → Type 0) (y : Motion) → ((x : Ending) → y ≡ motion.Ended x → Q x) → Has Q y
+has-by Q (motion.Ended x) f = f x refl
+has-by Q (motion.Fault k) f = tt
+
+module _ (u : Unit) (m s : List ℕ) where
+  -- the ending of a Position by a rule, and of a plan, what `SpaceSays` says of the advance
+  abbrev EndedBy : Rule → Ending → Type 0
+  EndedBy rule x = SpaceEnded s (u .tape) rule (packet u m s .count) (markAtStart u m s) x
+
+  record SaysBy (rule : Rule) (q : Plan) : Type 0 where
+    ending : Ending
+    is-ended : EndedBy rule ending
+    position : q .unit .tape .position ≡ ending .tape .position
+    class : q .unit .registers .class ≡ ending .end .class
+    residual : wordAt (memoryAfter q m s) (q .unit .characteristics .address + 4) ≡ residualWord (ending .end .residual)
+    found : wordAt (memoryAfter q m s) (q .unit .characteristics .address + 6) / 256 * 256 ≡ ending .end .found
+    xst3 : wordAt (memoryAfter q m s) (q .unit .characteristics .address + 12) ≡ ending .end .xst3
+
+  says : (rule : Rule) (v : Unit) (ie : Bool) (x : Ending) → EndedBy rule x → Sends u m s (told v ie x) → SaysBy rule (told v ie x)
+  unfolding told toldUnit ended
+  says rule v ie x k (t, room) =
+      record {
+        ending = x;
+        is-ended = k;
+        position = refl;
+        class = refl;
+        residual = told-word v ie x m s t room;
+        found = told-found v ie x m s t room (upper-stopped (k .why));
+        xst3 = told-xst3 v ie x m s t room;
+      }
+
+  abbrev byRule : Bool → Rule
+  byRule reverse = record { reverse = reverse; marks = leb 2 (header u m s .mode); ess = u .characteristics .ess }
+
+  -- a Position either way
+  position-says : (reverse : Bool) → u .tape .position ≤ u .tape .end → eqb (packet u m s .count) 0 ≡ false → Sends u m s (positionedBy (started u m s) s (header u m s) (packet u m s) reverse (leb 2 (header u m s .mode)))
+      → SaysBy (byRule reverse) (positionedBy (started u m s) s (header u m s) (packet u m s) reverse (leb 2 (header u m s .mode)))
+  unfolding positionedBy
+  position-says reverse inside some =
+      motion-sends u m s (SaysBy (byRule reverse)) (EndedBy (byRule reverse)) (started u m s) (header u m s .ie) (says (byRule reverse) (started u m s) (header u m s .ie)) _
+      (has-by (EndedBy (byRule reverse)) _ (λ x e. space-ended s (u .tape) (byRule reverse) (packet u m s .count) (u .characteristics .enb) x inside some e))
+
+  -- of every Position mode 0 to 3 with a count that was carried out and whose message went out
+  pub space-says : u .tape .position ≤ u .tape .end → RunsOn u m s → header u m s .code ≡ 8 → header u m s .mode < 4 → eqb (packet u m s .count) 0 ≡ false → Sent u m s → SpaceSays u m s
+  space-says inside (runs, room) code few some sent =
+      let h : Header = header u m s in
+      let by : Bool → Plan = λ b. positionedBy (started u m s) s h (packet u m s) b (leb 2 (h .mode)) in
+      let is : advanced u m s ≡ by (reverseFirst h) = advanced-is u m s (carried runs room) ∙ ap (carriedOut (started u m s) m s h (packet u m s)) (position-command (h .code) (h .mode) code) ∙ position-mode (started u m s) m s h (packet u m s) (h .mode) few ∙ ap by (sym (position-reverse h code)) in
+      let k : SaysBy (byRule (reverseFirst h)) (advanced u m s) = subst (λ (x : Plan). Sends u m s x → SaysBy (byRule (reverseFirst h)) x) (sym is) (position-says (reverseFirst h) inside some) (sent .sends, sent .inside) in
+      record { ending = k .ending; ended = k .is-ended; position = k .position; class = k .class; residual = k .residual; found = k .found; xst3 = k .xst3 }

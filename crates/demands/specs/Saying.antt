@@ -1,0 +1,33 @@
+-- What the message of a Position says: how its motion ended, word by word.
+use mathlib.Core.Bool.{Bool, _&&_}
+use mathlib.Core.List.{List}
+use mathlib.Core.Path.{_≡_}
+use Prim.Native.Nat.{ℕ, _*_, _/_}
+use lib.Dec.{eqb, leb}
+use Rattle.signals.specs.Residuals.{residualWord}
+use Rattle.state.specs.declared.Unit.{Unit}
+use Rattle.motions.specs.declared.parts.Ending.{Ending}
+use Rattle.moves.specs.declared.spacing.Rule.{Rule}
+use Rattle.advance.specs.Rules.{reverseFirst}
+use Rattle.demands.specs.Done.{plan, sentWord}
+use Rattle.demands.specs.Stops.{SpaceEnded}
+use Rattle.demands.specs.Ways.{header, packet}
+
+-- of an advance of the state u over memory m and reel s that carried out a Position mode 0 to 3
+module _ (u : Unit) (m s : List ℕ) where
+  -- which way, what is counted, and ESS; and whether the start counts as a mark (ENB, from block 0)
+  abbrev pub ruleAsked : Rule
+  ruleAsked = record { reverse = reverseFirst (header u m s); marks = leb 2 (header u m s .mode); ess = u .characteristics .ess }
+
+  abbrev pub markAtStart : Bool
+  markAtStart = u .characteristics .enb && eqb (u .tape .position) 0
+
+  pub record SpaceSays : Type 0 where
+    pub ending : Ending
+    pub ended : SpaceEnded s (u .tape) ruleAsked (packet u m s .count) markAtStart ending
+    pub position : plan u m s .unit .tape .position ≡ ending .tape .position
+    pub class : plan u m s .unit .registers .class ≡ ending .end .class
+    -- residual, XST0 above its low byte, XST3
+    pub residual : sentWord u m s 2 ≡ residualWord (ending .end .residual)
+    pub found : sentWord u m s 3 / 256 * 256 ≡ ending .end .found
+    pub xst3 : sentWord u m s 6 ≡ ending .end .xst3
