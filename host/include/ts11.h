@@ -15,7 +15,7 @@
  * each must have the bytes that its length says. Two calls may run at once if they share no buffer that either
  * writes.
  *
- * A CALL ANSWERS 0 OR A REFUSAL'S NUMBER. Refused, it has changed nothing in state, memory, reel or used journal.
+ * A CALL ANSWERS 0 OR A REFUSAL'S NUMBER. Refused, it has changed no byte of state, memory, reel or journal.
  * Where several refusals hold, the least number is given.
  *
  * A STEP IS UNDONE EXACTLY. ts11_write_tsdb, ts11_write_tssr, ts11_operate, ts11_host_store and ts11_advance are
