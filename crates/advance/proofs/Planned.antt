@@ -10,6 +10,7 @@ use Rattle.state.specs.Legal.{Legal}
 use Rattle.state.specs.declared.Unit.{Unit}
 use Rattle.commands.specs.Ends.{ended, still, told, untold}
 use Rattle.commands.specs.declared.plans.Plan.{Plan}
+use Rattle.commands.specs.declared.plans.Answer.the-variants as answer
 use Rattle.commands.proofs.Every.{Stands, ToldAll, every-carried}
 use Rattle.advance.specs.Steps.{advanced}
 use Rattle.advance.proofs.Carrying.{carried-sound}
@@ -18,18 +19,18 @@ use Rattle.advance.proofs.Walk.{Carries, Rejects, Untold, advanced-all,
 pub use Rattle.advance.proofs.Sound.{SoundPlan}
 
 module _ (u : Unit) (m s : List ℕ) where
-  -- what holds of every end that is told and of every plan that stores nothing holds of an advance
-  pub every-advanced : (P : Plan → Type 0) → ToldAll (u .characteristics) (length m) P → Stands (u .characteristics) (length m) P → P (advanced u m s)
+  -- what holds of every end that is told, of every other plan that stores nothing, and of an idle advance, holds of an advance
+  pub every-advanced : (P : Plan → Type 0) → ToldAll (u .characteristics) (length m) P → Stands (u .characteristics) (length m) P → P (still u answer.Idle) → P (advanced u m s)
   unfolding untold ended
-  every-advanced P tells stands =
-      advanced-all u m s P (λ v a ie x h. tells v (inl (a .characteristics)) ie _) (λ v a class i h. stands _ (inl (a .characteristics)) _)
-      (λ v a h p f d. every-carried v m P (λ w b ie x. tells w (rw (a .characteristics) at b) ie x) (λ w b x. stands w (rw (a .characteristics) at b) x) s h p (commandOf (h .code) (h .mode)))
-      (stands u (inl refl) _)
+  every-advanced P tells stands idle =
+      advanced-all u m s P (λ v a ie x h. tells v (inl (a .characteristics)) ie _) (λ v a class i h. stands _ (inl (a .characteristics)) (answer.Done i) tt)
+      (λ v a h p f d. every-carried v m P (λ w b ie x. tells w (rw (a .characteristics) at b) ie x) (λ w b x n. stands w (rw (a .characteristics) at b) x n) s h p (commandOf (h .code) (h .mode)))
+      idle
 
   -- a message has seven words, whether it goes out or not
   pub advanced-seven : length (advanced u m s .message) ≡ 7
   unfolding told still messageOf
-  advanced-seven = every-advanced (λ p. length (p .message) ≡ 7) (λ v b ie x. refl) (λ v b a. refl)
+  advanced-seven = every-advanced (λ p. length (p .message) ≡ 7) (λ v b ie x. refl) (λ v b a n. refl) refl
 
   module _ (l : Legal u) (e : length m ≡ u .lengths .memory) where
     sound-rejects : Rejects u (SoundPlan u)

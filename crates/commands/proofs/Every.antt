@@ -1,12 +1,13 @@
 -- What holds of every end that is told and of every plan that stores nothing holds of every command carried out. The state of such a plan has
 -- the message buffer of the state before, or one that lies inside memory.
-use mathlib.Core.Bool.{Bool, _||_}
+use mathlib.Core.Bool.{Bool, false, _||_}
 use mathlib.Core.List.{List}
 use mathlib.Core.Logic.{_⊎_, inl, inr}
 use mathlib.Core.Path.{_≡_, refl}
 use Prim.Native.Nat.{ℕ}
 use lib.Dec.{leb, ltb}
 use lib.ListN.{length}
+use Rattle.lists.specs.Pick.{Always}
 use Rattle.lists.proofs.Cases.{pick-told}
 use Rattle.signals.specs.Numbers.{pointerLimit}
 use Rattle.signals.specs.declared.codes.Command.{Command}
@@ -24,6 +25,7 @@ use Rattle.motions.specs.declared.parts.Motion.{Motion}
 use Rattle.commands.specs.Commands.{carriedOut, characteristicsAt, characterized, formatted, plainEffect, positionedBy, readBy, refusedCharacteristics, released, rereadBy, rewound, takenCharacteristics, unloaded, writtenBy}
 use Rattle.commands.specs.Ends.{ended, motionPlan, still, told, untold}
 use Rattle.commands.specs.declared.plans.Answer.{Answer}
+use Rattle.commands.specs.declared.plans.Answer.the-variants as answer
 use Rattle.commands.specs.declared.plans.Plan.{Plan}
 use Rattle.commands.proofs.Told.{motion-either}
 
@@ -35,12 +37,19 @@ Buffered c memory v = (v .characteristics ≡ c) ⊎ BufferFits (v .characterist
 abbrev pub ToldAll : Characteristics → ℕ → (Plan → Type 0) → Type 0
 ToldAll c memory P = (v : Unit) → Buffered c memory v → (ie : Bool) (x : Ending) → P (told v ie x)
 
+-- a command that is carried out is done, or a block at fault refuses it
+abbrev pub DoneOrBad : Answer → Type 0
+DoneOrBad (answer.Done i) = Always
+DoneOrBad answer.Idle = ⊥
+DoneOrBad (answer.Refused n) = ⊥
+DoneOrBad (answer.BadBlock k) = Always
+
 abbrev pub Stands : Characteristics → ℕ → (Plan → Type 0) → Type 0
-Stands c memory P = (v : Unit) → Buffered c memory v → (a : Answer) → P (still v a)
+Stands c memory P = (v : Unit) → Buffered c memory v → (a : Answer) → DoneOrBad a → P (still v a)
 
 module _ (u : Unit) (m : List ℕ) (P : Plan → Type 0) (tells : ToldAll (u .characteristics) (length m) P) (stands : Stands (u .characteristics) (length m) P) where
   moves : (ie : Bool) (y : Motion) → P (motionPlan u ie y)
-  moves ie y = motion-either u ie P y (λ x e. tells u (inl refl) ie x) (λ k e. stands u (inl refl) _)
+  moves ie y = motion-either u ie P y (λ x e. tells u (inl refl) ie x) (λ k e. stands u (inl refl) (answer.BadBlock k) tt)
 
   characterizes : (p : Packet) (ie : Bool) → P (characterized u m p ie)
   unfolding characterized refusedCharacteristics takenCharacteristics
@@ -67,7 +76,7 @@ module _ (u : Unit) (m : List ℕ) (P : Plan → Type 0) (tells : ToldAll (u .ch
   every-carried s h p command.WriteMark = moves (h .ie) _
   every-carried s h p command.Erase = moves (h .ie) _
   every-carried s h p command.MarkRetry = moves (h .ie) _
-  every-carried s h p command.Release = stands _ (inl refl) _
+  every-carried s h p command.Release = stands _ (inl refl) (answer.Done false) tt
   every-carried s h p command.Unload = tells _ (inl refl) (h .ie) _
   every-carried s h p command.Clean = tells u (inl refl) (h .ie) _
   every-carried s h p command.Initialize = tells u (inl refl) (h .ie) _

@@ -71,6 +71,7 @@ use Rattle.storing.proofs.Lengths.{length-moved}
 use Rattle.storing.proofs.Ways.{message-sent}
 use Rattle.advance.specs.Rules.{hasExtent, isIllegal, reverseFirst, wholeCount}
 use Rattle.advance.specs.Steps.{advanced}
+use Rattle.advance.proofs.Planned.{advanced-seven}
 use Rattle.demands.specs.Done.{RunsOn, Gapped, ReadDone, ReadStops, Sent, SpaceDone, again, at-end, at-mark, at-once, at-record, behind-gap, not-run, passedIn, reads, way}
 use Rattle.demands.specs.Faults.{ReadOver, nothing-yet, then-gap, then-mark, then-record}
 use Rattle.demands.specs.Ways.{Fetched, Way, attention, bad-pointer, carried, ends, header, idle, locked, lost, no-buffer, no-extent, no-header, no-words, not-executable, not-mounted, not-owned, packet, started, unknown}
@@ -173,7 +174,7 @@ module _ (s : List ℕ) (e : ℕ) (reverse : Bool) (At : ℕ → Type 0) (behind
 
 -- where a search from inside the recorded part finds nothing, nothing more lies ahead
 module _ (s : List ℕ) (e : ℕ) (reverse : Bool) where
-  abbrev AtEnd : Sought → Type 0
+  abbrev pub AtEnd : Sought → Type 0
   AtEnd (sought-as.Nothing q) = ahead reverse q e ≡ 0
   AtEnd (sought-as.Record n t) = Always
   AtEnd (sought-as.Mark t) = Always
@@ -196,7 +197,7 @@ module _ (s : List ℕ) (e : ℕ) (reverse : Bool) where
   at-most : (p : ℕ) → p ≤ e → ahead reverse p e ≤ e
   at-most p h = either (λ n. n ≤ e) reverse p (e - p) h (omega arith)
 
-  nothing-ahead : (p : ℕ) → p ≤ e → AtEnd (sought s reverse p e)
+  pub nothing-ahead : (p : ℕ) → p ≤ e → AtEnd (sought s reverse p e)
   unfolding sought
   nothing-ahead p h = end-from e p h (at-most p h)
 
@@ -510,7 +511,7 @@ module _ (u : Unit) (m s : List ℕ) (inside : u .tape .position ≤ u .tape .en
       subst P (sym (read-command (h .code) (h .mode) code)) (mode-told a (read-extent h (length m) _ code (a .1))) known
 
 -- "The residual counts bytes for Read": of every Read that was fetched and whose message went out, from a position inside the recorded part
-pub read-done : (u : Unit) (m s : List ℕ) → u .tape .position ≤ u .tape .end → Fetched u m s → header u m s .code ≡ 1 → Sent u m s → ReadDone u m s
+pub read-done : (u : Unit) (m s : List ℕ) → u .tape .position ≤ u .tape .end → Fetched u m s → header u m s .code ≡ 1 → Sent u m s → ReadDone u m s (advanced u m s .unit) (memoryAfter (advanced u m s) m s)
 read-done u m s inside f code sent =
     let known = neither (not (header u m s .plain)) (isIllegal (commandOf (header u m s .code) (header u m s .mode))) (f .known) .1 in
     let told : ReadTold u m s (advanced u m s) = read-ran u m s inside code known (fetched-ran u m s f (advanced-way u m s)) (sent .sends, sent .inside) in
@@ -522,6 +523,8 @@ read-done u m s inside f code sent =
       place = told .place;
       filled = told .filled;
       within = told .within;
+      message = advanced u m s .message;
+      seven = advanced-seven u m s;
       memory = told .memory;
       counted = told .counted;
     }
@@ -659,7 +662,7 @@ module _ (u : Unit) (m s : List ℕ) where
       subst (λ (x : Plan). Sends u m s x → SpaceTold reverse marks x) (sym is) (position-told reverse marks)
 
   -- "records or marks for Position modes 0 to 3": of every such Position that was fetched and whose message went out
-  pub space-done : Fetched u m s → header u m s .code ≡ 8 → header u m s .mode < 4 → Sent u m s → SpaceDone u m s
+  pub space-done : Fetched u m s → header u m s .code ≡ 8 → header u m s .mode < 4 → Sent u m s → SpaceDone u m s (advanced u m s .unit) (memoryAfter (advanced u m s) m s)
   space-done f code few sent =
       let past : SpaceTold (reverseFirst (header u m s)) (leb 2 (header u m s .mode)) (advanced u m s) = space-ran code few (fetched-ran u m s f (advanced-way u m s)) (sent .sends, sent .inside) in
       record { over = past .0; counted = past .1 }

@@ -13,3 +13,5 @@ pub mod Done
 pub mod Stopping
 pub mod OneStop
 pub mod Said
+pub mod Sending
+pub mod Answering

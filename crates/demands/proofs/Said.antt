@@ -100,7 +100,7 @@ module _ (u : Unit) (m s : List ℕ) where
       (has-by (EndedBy (byRule reverse)) _ (λ x e. space-ended s (u .tape) (byRule reverse) (packet u m s .count) (u .characteristics .enb) x inside some e))
 
   -- of every Position mode 0 to 3 with a count that was carried out and whose message went out
-  pub space-says : u .tape .position ≤ u .tape .end → RunsOn u m s → header u m s .code ≡ 8 → header u m s .mode < 4 → eqb (packet u m s .count) 0 ≡ false → Sent u m s → SpaceSays u m s
+  pub space-says : u .tape .position ≤ u .tape .end → RunsOn u m s → header u m s .code ≡ 8 → header u m s .mode < 4 → eqb (packet u m s .count) 0 ≡ false → Sent u m s → SpaceSays u m s (advanced u m s .unit) (memoryAfter (advanced u m s) m s)
   space-says inside (runs, room) code few some sent =
       let h : Header = header u m s in
       let by : Bool → Plan = λ b. positionedBy (started u m s) s h (packet u m s) b (leb 2 (h .mode)) in

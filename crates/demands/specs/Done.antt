@@ -17,8 +17,6 @@ use Rattle.tape.specs.declared.Met.the-variants as met
 use Rattle.signals.specs.Bits.{OPI, REV, RIB, RLL, RLS, TMK}
 use Rattle.signals.specs.Message.{flagOf, messageBytes, messaged}
 use Rattle.state.specs.declared.Unit.{Unit}
-use Rattle.commands.specs.declared.plans.Plan.{Plan}
-use Rattle.storing.specs.Stored.{memoryAfter}
 use Rattle.advance.specs.Rules.{hasExtent, reverseFirst}
 use Rattle.advance.specs.Steps.{advanced}
 use Rattle.demands.specs.Faults.{ReadOver, nothing-yet, then-gap, then-mark, then-record}
@@ -31,25 +29,16 @@ passedIn marks (then-record r x) = passedIn marks r + pick marks 0 1
 passedIn marks (then-mark r x) = passedIn marks r + pick marks 1 0
 passedIn marks (then-gap r x) = passedIn marks r
 
+-- word k of the message that stands in memory m, in the message buffer of the state u
+abbrev pub sentWord : Unit → List ℕ → ℕ → ℕ
+sentWord u m k = wordAt m (u .characteristics .address + 2 * k)
+
 -- an advance of the state u over memory m and reel s
 module _ (u : Unit) (m s : List ℕ) where
-  abbrev pub plan : Plan
-  plan = advanced u m s
-
-  abbrev pub memoryThen : List ℕ
-  memoryThen = memoryAfter plan m s
-
-  -- where its message goes, and word k of it as it stands there afterwards
-  abbrev pub buffer : ℕ
-  buffer = plan .unit .characteristics .address
-
-  abbrev pub sentWord : ℕ → ℕ
-  sentWord k = wordAt memoryThen (buffer + 2 * k)
-
-  -- its message went out, into a buffer inside memory
+  -- its message goes out, into a buffer inside memory
   pub record Sent : Type 0 where
-    pub sends : plan .sends ≡ true
-    pub inside : buffer + messageBytes ≤ length m
+    pub sends : advanced u m s .sends ≡ true
+    pub inside : advanced u m s .unit .characteristics .address + messageBytes ≤ length m
 
   -- the way of the first stage, and what lies ahead of the tape this way: nothing but gaps between its position and q
   abbrev pub way : Bool
@@ -85,20 +74,24 @@ module _ (u : Unit) (m s : List ℕ) where
         (flagOf (pick again (not way) way) REV)
         (pick again q q′)
 
-  -- of a Read: the bytes stored at their place in the buffer asked (by addresses, before SWB flips them), with the message over them; as many as
-  -- the count but for the residual that is sent
-  pub record ReadDone : Type 0 where
-    pub stored : List ℕ
-    pub found : ℕ
-    pub ends : ReadStops stored (plan .unit .registers .class) found (sentWord 6) (plan .unit .tape .position)
-    pub shown : sentWord 3 / 256 * 256 ≡ found
-    pub place : ℕ
-    pub filled : place ≡ movedTo reads (packet u m s .pointer) (packet u m s .count) (length stored)
-    pub within : (i : ℕ) → i < length stored → (packet u m s .pointer ≤ place + i) × (place + i < packet u m s .pointer + packet u m s .count) × (place + i < length m)
-    pub memory : memoryThen ≡ messaged (placed (header u m s .swb) m place stored) buffer (plan .message)
-    pub counted : length stored + sentWord 2 ≡ packet u m s .count
+  -- the advance left the state u′ and the memory m′
+  module _ (u′ : Unit) (m′ : List ℕ) where
+    -- of a Read: the bytes stored at their place in the buffer asked (by addresses, before SWB flips them), with the message's seven words over
+    -- them; as many as the count but for the residual that is sent
+    pub record ReadDone : Type 0 where
+      pub stored : List ℕ
+      pub found : ℕ
+      pub ends : ReadStops stored (u′ .registers .class) found (sentWord u′ m′ 6) (u′ .tape .position)
+      pub shown : sentWord u′ m′ 3 / 256 * 256 ≡ found
+      pub place : ℕ
+      pub filled : place ≡ movedTo reads (packet u m s .pointer) (packet u m s .count) (length stored)
+      pub within : (i : ℕ) → i < length stored → (packet u m s .pointer ≤ place + i) × (place + i < packet u m s .pointer + packet u m s .count) × (place + i < length m)
+      pub message : List ℕ
+      pub seven : length message ≡ 7
+      pub memory : m′ ≡ messaged (placed (header u m s .swb) m place stored) (u′ .characteristics .address) message
+      pub counted : length stored + sentWord u′ m′ 2 ≡ packet u m s .count
 
-  -- of a Position mode 0 to 3: the objects read over, from the position before to the one after; those that count and the residual that is sent
-  pub record SpaceDone : Type 0 where
-    pub over : ReadOver s (u .tape .end) (reverseFirst (header u m s)) (u .tape .position) (plan .unit .tape .position)
-    pub counted : passedIn (leb 2 (header u m s .mode)) over + sentWord 2 ≡ packet u m s .count
+    -- of a Position mode 0 to 3: the objects read over, from the position before to the one after; those that count and the residual that is sent
+    pub record SpaceDone : Type 0 where
+      pub over : ReadOver s (u .tape .end) (reverseFirst (header u m s)) (u .tape .position) (u′ .tape .position)
+      pub counted : passedIn (leb 2 (header u m s .mode)) over + sentWord u′ m′ 2 ≡ packet u m s .count

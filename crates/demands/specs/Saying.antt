@@ -9,7 +9,7 @@ use Rattle.state.specs.declared.Unit.{Unit}
 use Rattle.motions.specs.declared.parts.Ending.{Ending}
 use Rattle.moves.specs.declared.spacing.Rule.{Rule}
 use Rattle.advance.specs.Rules.{reverseFirst}
-use Rattle.demands.specs.Done.{plan, sentWord}
+use Rattle.demands.specs.Done.{sentWord}
 use Rattle.demands.specs.Stops.{SpaceEnded}
 use Rattle.demands.specs.Ways.{header, packet}
 
@@ -22,12 +22,13 @@ module _ (u : Unit) (m s : List ℕ) where
   abbrev pub markAtStart : Bool
   markAtStart = u .characteristics .enb && eqb (u .tape .position) 0
 
-  pub record SpaceSays : Type 0 where
+  -- the advance left the state u′ and the memory m′
+  pub record SpaceSays (u′ : Unit) (m′ : List ℕ) : Type 0 where
     pub ending : Ending
     pub ended : SpaceEnded s (u .tape) ruleAsked (packet u m s .count) markAtStart ending
-    pub position : plan u m s .unit .tape .position ≡ ending .tape .position
-    pub class : plan u m s .unit .registers .class ≡ ending .end .class
+    pub position : u′ .tape .position ≡ ending .tape .position
+    pub class : u′ .registers .class ≡ ending .end .class
     -- residual, XST0 above its low byte, XST3
-    pub residual : sentWord u m s 2 ≡ residualWord (ending .end .residual)
-    pub found : sentWord u m s 3 / 256 * 256 ≡ ending .end .found
-    pub xst3 : sentWord u m s 6 ≡ ending .end .xst3
+    pub residual : sentWord u′ m′ 2 ≡ residualWord (ending .end .residual)
+    pub found : sentWord u′ m′ 3 / 256 * 256 ≡ ending .end .found
+    pub xst3 : sentWord u′ m′ 6 ≡ ending .end .xst3

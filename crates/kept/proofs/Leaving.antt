@@ -142,7 +142,7 @@ module _ (u : Unit) (m s : List ℕ) {os : List Object} (whole : length s ≡ bl
   leaves : WriteRuns u m s → PlanLeaves s m (u .tape) os Asked (header u m s .mode) (advanced u m s)
   leaves w = lay-leaves (started u m s) m s (header u m s) (packet u m s) whole f b (advance-lays u m s w)
 
-  as-wrote : Left s m (u .tape) os Asked (header u m s .mode) (reelAfter (advanced u m s) m s) (advanced u m s .unit .tape) → Wrote u m s os
+  as-wrote : Left s m (u .tape) os Asked (header u m s .mode) (reelAfter (advanced u m s) m s) (advanced u m s .unit .tape) → Wrote u m s os (advanced u m s .unit) (reelAfter (advanced u m s) m s)
   as-wrote y =
       record {
         before = y .between .before;
@@ -156,17 +156,17 @@ module _ (u : Unit) (m s : List ℕ) {os : List Object} (whole : length s ≡ bl
         position = y .last ∙ sym (y .holds .ends);
       }
 
-  wrote-or-stays : (WriteRuns u m s × Wrote u m s os) ⊎ Unlaid (u .tape .end) (advanced u m s)
+  wrote-or-stays : (WriteRuns u m s × Wrote u m s os (advanced u m s .unit) (reelAfter (advanced u m s) m s)) ⊎ Unlaid (u .tape .end) (advanced u m s)
   wrote-or-stays = ⊎-elim (λ w. ⊎-elim (λ y. inl (w, as-wrote y)) inr (leaves w)) inr (writes-or-stays u m s (bound-below f b))
 
   -- a Write or Format that is carried out leaves the objects before the position, a retry those before the one that it goes over, and the new
   -- ones; or the reel and its recorded end are as they were
-  pub wrote-else-nothing : (WriteRuns u m s × Wrote u m s os) ⊎ ((reelAfter (advanced u m s) m s ≡ s) × (advanced u m s .unit .tape .end ≡ u .tape .end))
+  pub wrote-else-nothing : (WriteRuns u m s × Wrote u m s os (advanced u m s .unit) (reelAfter (advanced u m s) m s)) ⊎ ((reelAfter (advanced u m s) m s ≡ s) × (advanced u m s .unit .tape .end ≡ u .tape .end))
   unfolding reelAfter
   wrote-else-nothing = ⊎-elim inl (λ y. inr (rw (y .0) (unlaid s m), y .1)) wrote-or-stays
 
   -- so whatever lays anything has written
-  pub advanced-wrote : (laidBlocks (advanced u m s .laid) ≡ 0 → ⊥) → Wrote u m s os
+  pub advanced-wrote : (laidBlocks (advanced u m s .laid) ≡ 0 → ⊥) → Wrote u m s os (advanced u m s .unit) (reelAfter (advanced u m s) m s)
   unfolding laidBlocks objectBlocks
   advanced-wrote some = ⊎-elim (λ y. y .1) (λ y. absurd (some (rw (y .0)))) wrote-or-stays
 
@@ -176,21 +176,21 @@ module _ (u : Unit) (m s : List ℕ) {os : List Object} (whole : length s ≡ bl
   one-laid = advance-lays u m s w
 
   -- what is laid at the object's place, and fits there, is laid
-  fits-wrote : (l : Laid) → advanced u m s ≡ motionPlan (started u m s) (header u m s .ie) (writtenAt (u .tape) (u .lengths .blocks) l (one-laid .mark)) → blocksIn (objectFor m (header u m s) (packet u m s)) ≤ laidBlocks l → ltb (u .lengths .blocks) (l .at + laidBlocks l) ≡ false → Wrote u m s os
+  fits-wrote : (l : Laid) → advanced u m s ≡ motionPlan (started u m s) (header u m s .ie) (writtenAt (u .tape) (u .lengths .blocks) l (one-laid .mark)) → blocksIn (objectFor m (header u m s) (packet u m s)) ≤ laidBlocks l → ltb (u .lengths .blocks) (l .at + laidBlocks l) ≡ false → Wrote u m s os (advanced u m s .unit) (reelAfter (advanced u m s) m s)
   fits-wrote l e more room =
       let some = asked-some (started u m s) m s (header u m s) (packet u m s) one-laid in
       let laid = laid-there (started u m s) (header u m s .ie) l (one-laid .mark) e room in
       advanced-wrote u m s whole f b (λ none. absurd (omega (arith, ap laidBlocks laid)))
 
   -- if its object fits where the tape stands, it is written
-  pub room-wrote : eqb (header u m s .mode) 2 ≡ false → ltb (u .lengths .blocks) (u .tape .position + blocksIn (objectFor m (header u m s) (packet u m s))) ≡ false → Wrote u m s os
+  pub room-wrote : eqb (header u m s .mode) 2 ≡ false → ltb (u .lengths .blocks) (u .tape .position + blocksIn (objectFor m (header u m s) (packet u m s))) ≡ false → Wrote u m s os (advanced u m s .unit) (reelAfter (advanced u m s) m s)
   room-wrote e room =
       let v = started u m s in
       let size = here-blocks v m s (header u m s) (packet u m s) one-laid in
       fits-wrote (Here v m s (header u m s) (packet u m s) one-laid) (here-plan v m s (header u m s) (packet u m s) one-laid e) (omega arith) (rw size room)
 
   -- and a retry, if it finds a record or mark, and gap and object fit from there on
-  pub room-wrote-retry : {at : ℕ} → header u m s .mode ≡ 2 → Found at (sought s true (u .tape .position) (u .tape .end)) → ltb (u .lengths .blocks) (at + (blocksIn (objectFor m (header u m s) (packet u m s)) + 1)) ≡ false → Wrote u m s os
+  pub room-wrote-retry : {at : ℕ} → header u m s .mode ≡ 2 → Found at (sought s true (u .tape .position) (u .tape .end)) → ltb (u .lengths .blocks) (at + (blocksIn (objectFor m (header u m s) (packet u m s)) + 1)) ≡ false → Wrote u m s os (advanced u m s .unit) (reelAfter (advanced u m s) m s)
   unfolding behindGap
   room-wrote-retry {at} e found room =
       let v = started u m s in

@@ -1,9 +1,10 @@
 -- Demand 2 at the call: what is proved of an advance, and of the sweep, holds of the calls `advance` and `mount`.
-use mathlib.Core.Bool.{Bool, true, false, true≢false}
+use mathlib.Core.Bool.{Bool, true, false, _||_, _&&_, not, true≢false}
 use mathlib.Core.List.{List}
-use mathlib.Core.Path.{_≡_, refl, sym, ap, _∙_}
-use Prim.Native.Nat.{ℕ, _/_}
-use borrow.Author.Tests.{eqb-true}
+use mathlib.Core.Path.{_≡_, refl, sym, _∙_}
+use Prim.Native.Nat.{ℕ, _*_, _/_, _%_, _-_, _≤_}
+use native.Mathlib.Omega.{arith}
+use borrow.Author.Tests.{eqb-false, eqb-true, ltb-false, ltb-true}
 use lib.Dec.{eqb, ltb}
 use lib.ListN.{length}
 use Rattle.lists.proofs.Cases.{by-test}
@@ -12,84 +13,114 @@ use Rattle.tape.specs.Sweep.{sweptBelow}
 use Rattle.tape.specs.declared.Swept.{Swept}
 use Rattle.tape.specs.declared.Swept.the-variants as swept
 use Rattle.state.specs.Changes.{mountedAs}
-use Rattle.commands.specs.Answers.{faultIn}
+use Rattle.state.specs.Checks.{blocksRight, memoryRight, refusalOf, stateWrong}
+use Rattle.state.specs.declared.Unit.{Unit}
+use Rattle.state.proofs.Tests.{either}
+use Rattle.commands.specs.Answers.{faultIn, numberOf}
+use Rattle.commands.specs.Ends.{still}
 use Rattle.commands.specs.declared.plans.Answer.{Answer}
 use Rattle.commands.specs.declared.plans.Answer.the-variants as answer
 use Rattle.commands.specs.declared.plans.Plan.{Plan}
-use Rattle.storing.specs.Stored.{memoryAfter, reelAfter}
-use Rattle.advance.specs.Rules.{reverseFirst}
+use Rattle.commands.proofs.Every.{DoneOrBad}
 use Rattle.advance.specs.Steps.{advanced}
 use Rattle.demands.specs.Faults.{FirstFault}
-use Rattle.demands.specs.Ways.{header}
+use Rattle.demands.specs.Ways.{idle as idle-way}
+use Rattle.demands.proofs.Answering.{busy-answers}
 use Rattle.demands.proofs.Faults.{advanced-first, swept-first}
+use Rattle.demands.proofs.Ways.{advanced-is}
 use Rattle.unit.specs.Asks.{advance}
+use Rattle.unit.specs.Cores.{Admitted}
 use Rattle.unit.specs.Mounts.{mountCall, mountRefusal, mountSwept}
-use Rattle.unit.specs.Steps.{Step, carried, stepOf}
+use Rattle.unit.specs.Steps.{carried, stepOf}
+use Rattle.entries.specs.Entries.{entryLength}
 use Rattle.worlds.specs.Worlds.{World, sessionOf}
-use Rattle.worlds.specs.Refusals.{checked, journalLimit}
+use Rattle.worlds.specs.Refusals.{checked, journalLimit, sessionWrong}
 use Rattle.worlds.specs.Calls.{entryFor, guarded, mountOn, mountedBy, stepOn, takenAs, takenBy, tooFull}
 use Rattle.worlds.specs.declared.Session.{Session}
-use Rattle.worlds.proofs.Passing.{passed}
-use Rattle.sessions.specs.Session.{stepped}
-use Rattle.sessions.specs.Calling.{callKind, doing, onCall, step, stepKind}
-use Rattle.sessions.proofs.Taken.{took}
+use Rattle.worlds.proofs.Passing.{core-accepted, passed}
+use Rattle.sessions.specs.Advancing.{Comes, Idle, a-step, at-fault, checkedWith, idle, no-room, refused}
+use Rattle.sessions.specs.Calling.{doing}
+use Rattle.sessions.proofs.Obeying.{advanced-obeys}
 
--- only refusal 7 names a block
-isBad : Answer → Bool
-isBad (answer.Done i) = false
-isBad answer.Idle = false
-isBad (answer.Refused n) = false
-isBad (answer.BadBlock k) = true
+-- refusals 1 to 4 have these numbers, and so has a mount's 2 or 3
+abbrev pub Few : ℕ → Type 0
+Few k = k ≤ 4
 
-no-block : {P : Type 0} (a : Answer) {k : ℕ} → isBad a ≡ false → a ≡ answer.BadBlock k → P
-unfolding isBad
-no-block a h e = absurd (true≢false (sym (ap isBad e) ∙ h))
+few-of : (u : Unit) (memory reel : ℕ) → Few (refusalOf u memory reel)
+unfolding refusalOf
+few-of u memory reel =
+    either Few (stateWrong u) 1 _ (omega arith)
+    (either Few (not (eqb memory (u .lengths .memory))) 2 _ (omega arith) (either Few (not (eqb reel (blockBytes * u .lengths .blocks))) 3 0 (omega arith) (omega arith)))
+
+pub checked-few : (s : Session) (memory reel journal : ℕ) → Few (checked s memory reel journal)
+unfolding checked
+checked-few s memory reel journal =
+    either Few (sessionWrong s) 1 _ (omega arith)
+    (either Few (not (eqb (refusalOf (s .unit) memory reel) 0)) _ _ (few-of (s .unit) memory reel) (either Few (not (eqb journal (s .journal))) 4 0 (omega arith) (omega arith)))
+
+mount-few : (memory reel e : ℕ) → Few (mountRefusal memory reel e)
+unfolding mountRefusal
+mount-few memory reel e =
+    either Few (memoryRight memory) _ 2
+    (either Few ((not (eqb (reel % blockBytes) 0) || not (blocksRight (reel / blockBytes))) || ltb (reel / blockBytes) e) 3 0 (omega arith) (omega arith))
+    (omega arith)
 
 module _ (n : ℕ) (w : World) where
   abbrev plan : Plan
   plan = advanced (w .core .unit) (w .core .memory) (w .core .reel)
 
-  -- a call of advance that took a step left the state, memory and reel that its plan says
-  pub advance-core : stepKind (stepOn w n advance .answer) ≡ stepped
-      → stepOn w n advance .world .core ≡ record { unit = plan .unit; memory = memoryAfter plan (w .core .memory) (w .core .reel); reel = reelAfter plan (w .core .memory) (w .core .reel) }
-  unfolding onCall callKind doing stepOf carried
-  advance-core k = ap (λ (x : World). x .core) (took n (step advance tt) w k .is)
+  -- what is left to say where no check refuses
+  module _ (sound : checkedWith n w ≡ 0) where
+    admitted : Admitted (w .core)
+    admitted = core-accepted w n (passed (sessionOf w) (length (w .core .memory)) (length (w .core .reel)) n sound)
 
-  module _ (k : ℕ) where
-    taken-bad : (x : Step) (a : Answer) → takenBy w x a .answer ≡ answer.BadBlock k → a ≡ answer.BadBlock k
-    unfolding takenBy takenAs isBad
-    taken-bad x (answer.Done i) e =
-        by-test (tooFull (w .ledger) (entryFor (w .core) x))
-        (λ t. let y : answer.Refused 9 ≡ answer.BadBlock k = rw t at e in no-block (answer.Refused 9) refl y)
-        (λ t. rw t at e)
-    taken-bad x answer.Idle e = e
-    taken-bad x (answer.Refused j) e = e
-    taken-bad x (answer.BadBlock j) e = e
+    comes-idle : Idle (w .core .unit) → Comes n w (takenBy w (carried (w .core) plan) (plan .answer))
+    unfolding takenBy still
+    comes-idle h = idle sound h (rw (advanced-is (w .core .unit) (w .core .memory) (w .core .reel) (idle-way (h .0) (h .1))))
 
-    -- "7 a block that mount or the command must read is damaged or out of place (its number is given)": the first at fault that the command meets
-    pub advance-names : stepOn w n advance .answer ≡ answer.BadBlock k
-        → FirstFault (w .core .reel) (w .core .unit .tape .end) (reverseFirst (header (w .core .unit) (w .core .memory) (w .core .reel))) (w .core .unit .tape .position) k
-    unfolding stepOn guarded stepOf carried isBad
-    advance-names e =
-        let c : ℕ = checked (sessionOf w) (length (w .core .memory)) (length (w .core .reel)) n in
-        by-test (eqb c 0)
-        (λ t.
-        let y : takenBy w (carried (w .core) plan) (plan .answer) .answer ≡ answer.BadBlock k = rw t at e in
-        advanced-first (w .core .unit) (w .core .memory) (w .core .reel) k (passed (sessionOf w) _ _ n (eqb-true c 0 t) .legal .place) (taken-bad (carried (w .core) plan) (plan .answer) y))
-        (λ t. let y : answer.Refused c ≡ answer.BadBlock k = rw t at e in no-block (answer.Refused c) refl y)
+    comes-by : (a : Answer) → plan .answer ≡ a → DoneOrBad a → (Idle (w .core .unit) → ⊥) → Comes n w (takenBy w (carried (w .core) plan) a)
+    unfolding takenBy takenAs carried stepOf doing
+    comes-by (answer.Done i) e d busy =
+        let free : ℕ = w .ledger .length - w .ledger .used in
+        let long : ℕ = entryLength (entryFor (w .core) (carried (w .core) plan)) in
+        by-test (tooFull (w .ledger) (entryFor (w .core) (carried (w .core) plan)))
+        (λ t. no-room sound busy (ltb-true free long t) (rw t))
+        (λ t. rw t (a-step sound busy (λ f. absurd (omega (arith, f, ltb-false free long t))) refl (advanced-obeys (w .core) admitted i e)))
+    comes-by answer.Idle e d busy = absurd d
+    comes-by (answer.Refused k) e d busy = absurd d
+    comes-by (answer.BadBlock k) e d busy = at-fault sound busy (advanced-first (w .core .unit) (w .core .memory) (w .core .reel) k (admitted .legal .place) e) refl
 
-module _ (old : Session) (memory : ℕ) (r : List ℕ) (journal e : ℕ) (online locked : Bool) (k : ℕ) where
-  swept-bad : (x : Swept) → mountedBy old journal (mountSwept (old .unit) (mountedAs e online locked (record { memory = memory; blocks = length r / blockBytes })) x .unit) (mountSwept (old .unit) (mountedAs e online locked (record { memory = memory; blocks = length r / blockBytes })) x .answer) .answer ≡ answer.BadBlock k → x ≡ swept.Bad k
-  unfolding mountSwept mountedBy isBad faultIn
-  swept-bad swept.Whole z = no-block (answer.Done false) refl z
-  swept-bad (swept.Bad j) z = ap swept.Bad (ap faultIn z)
+    comes-on : Comes n w (takenBy w (carried (w .core) plan) (plan .answer))
+    comes-on =
+        let u : Unit = w .core .unit in
+        let on : (Idle u → ⊥) → Comes n w (takenBy w (carried (w .core) plan) (plan .answer)) =
+        λ busy. comes-by (plan .answer) refl (busy-answers u (w .core .memory) (w .core .reel) (λ a b. busy (a, b))) busy in
+        by-test (u .registers .ssr)
+        (λ s. by-test (u .attention .pending && u .attention .«unit_owns») (λ t. on (λ h. absurd (true≢false (sym t ∙ h .1)))) (λ t. comes-idle (s, t)))
+        (λ s. on (λ h. absurd (true≢false (sym (h .0) ∙ s))))
+
+  -- every call of advance
+  pub advance-comes : Comes n w (stepOn w n advance)
+  unfolding stepOn guarded stepOf carried
+  advance-comes =
+      let c : ℕ = checkedWith n w in
+      by-test (eqb c 0)
+      (λ t. rw t (comes-on (eqb-true c 0 t)))
+      (λ t. rw t (refused (eqb-false c 0 t) refl))
+
+module _ (old : Session) (memory : ℕ) (r : List ℕ) (journal e : ℕ) (online locked : Bool) where
+  swept-seven : (x : Swept) → numberOf (mountedBy old journal (mountSwept (old .unit) (mountedAs e online locked (record { memory = memory; blocks = length r / blockBytes })) x .unit) (mountSwept (old .unit) (mountedAs e online locked (record { memory = memory; blocks = length r / blockBytes })) x .answer) .answer) ≡ 7
+      → x ≡ swept.Bad (faultIn (mountedBy old journal (mountSwept (old .unit) (mountedAs e online locked (record { memory = memory; blocks = length r / blockBytes })) x .unit) (mountSwept (old .unit) (mountedAs e online locked (record { memory = memory; blocks = length r / blockBytes })) x .answer) .answer))
+  unfolding mountSwept mountedBy numberOf faultIn
+  swept-seven swept.Whole z = absurd (omega (arith, z))
+  swept-seven (swept.Bad j) z = refl
 
   -- and the first that a mount meets from block 0 on
-  pub mount-names : mountOn old memory r journal e online locked .answer ≡ answer.BadBlock k → FirstFault r e false 0 k
-  unfolding mountOn mountCall isBad
+  pub mount-names : numberOf (mountOn old memory r journal e online locked .answer) ≡ 7 → FirstFault r e false 0 (faultIn (mountOn old memory r journal e online locked .answer))
+  unfolding mountOn mountCall numberOf
   mount-names z =
       by-test (eqb (mountRefusal memory (length r) e) 0)
       (λ t. by-test (ltb journalLimit journal)
-      (λ v. let y : answer.Refused 4 ≡ answer.BadBlock k = rw (t, v) at z in no-block (answer.Refused 4) refl y)
-      (λ v. swept-first r e k (swept-bad (sweptBelow r e) (rw (t, v) at z))))
-      (λ t. let y : answer.Refused (mountRefusal memory (length r) e) ≡ answer.BadBlock k = rw t at z in no-block (answer.Refused (mountRefusal memory (length r) e)) refl y)
+      (λ v. let y : 4 ≡ 7 = rw (t, v) at z in absurd (omega (arith, y)))
+      (λ v. rw (t, v) (swept-first r e _ (swept-seven (sweptBelow r e) (rw (t, v) at z)))))
+      (λ t. let y : mountRefusal memory (length r) e ≡ 7 = rw t at z in absurd (omega (arith, y, mount-few memory (length r) e)))

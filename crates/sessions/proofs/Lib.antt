@@ -9,4 +9,5 @@ pub mod Lengths
 pub mod Mounting
 pub mod Backs
 pub mod Unique
+pub mod Obeying
 pub mod Advances

@@ -2,3 +2,5 @@
 pub mod Session
 pub mod Calling
 pub mod Good
+pub mod Rules
+pub mod Advancing

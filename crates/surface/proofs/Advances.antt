@@ -1,45 +1,84 @@
--- Demand 2 for a host: what an exported advance leaves in its buffers, and which block it names.
+-- Demand 2 for a host: what an exported advance comes to, and which block it or a mount names.
+use mathlib.Core.Bool.{Bool, true, false, true≢false}
 use mathlib.Core.List.{List}
-use mathlib.Core.Path.{_≡_, sym, ap, _∙_}
-use Prim.Native.Nat.{ℕ}
+use mathlib.Core.Path.{_≡_, refl, sym, ap, subst, _∙_}
+use Prim.Native.Nat.{ℕ, _≤_}
 use lib.ListN.{length}
+use Rattle.lists.specs.Words.{Bytes}
+use Rattle.lists.proofs.Cases.{by-test}
+use Rattle.commands.specs.Answers.{faultIn, interruptIn, isStep, numberOf}
+use Rattle.commands.specs.declared.plans.Answer.{Answer}
 use Rattle.commands.specs.declared.plans.Answer.the-variants as answer
-use Rattle.commands.specs.declared.plans.Plan.{Plan}
-use Rattle.storing.specs.Stored.{memoryAfter, reelAfter}
-use Rattle.advance.specs.Rules.{reverseFirst}
-use Rattle.advance.specs.Steps.{advanced}
 use Rattle.demands.specs.Faults.{FirstFault}
-use Rattle.demands.specs.Ways.{header}
 use Rattle.unit.specs.Asks.{advance}
-use Rattle.unit.specs.Cores.{Core}
-use Rattle.worlds.specs.Worlds.{Answered, World}
-use Rattle.sessions.specs.Session.{stepped}
-use Rattle.sessions.specs.Calling.{Call, callKind, onCall, step}
-use Rattle.sessions.proofs.Advances.{advance-core, advance-names}
-use Rattle.ts11.specs.Block.{Block, sessionIn}
-use Rattle.ts11.specs.Given.{Host, worldIn}
-use Rattle.surface.specs.Hosting.{Returned, given}
+use Rattle.worlds.specs.Worlds.{Answered, World, sessionOf}
+use Rattle.worlds.specs.Calls.{mountOn, stepOn}
+use Rattle.sessions.specs.Advancing.{Comes, FaultAhead, a-step, at-fault, checkedWith, idle, no-room, refused}
+use Rattle.sessions.specs.Calling.{Call, onCall, step}
+use Rattle.sessions.specs.Rules.{Obeys}
+use Rattle.sessions.proofs.Advances.{advance-comes, checked-few, mount-names}
+use Rattle.ts11.specs.Block.{Block, isBlock, sessionIn, stateLength}
+use Rattle.ts11.specs.Given.{Host, Mounts, Tells, opened, worldIn}
+use Rattle.surface.specs.Hosting.{HostComes, Returned, given}
+use Rattle.surface.specs.Hosting.{a-step as host-step, at-fault as host-fault, idle as host-idle, no-room as host-full, no-state, refused-first}
+use Rattle.surface.proofs.Refused.{call-nothing}
 use Rattle.surface.proofs.Runs.{given-is, runs-as}
 
-module _ (h : Host) (b : Block (h .block)) where
-  abbrev plan : Plan
-  plan = advanced (sessionIn (h .block) .unit) (h .memory) (h .reel)
+abbrev call : Call
+call = step advance tt
 
-  abbrev call : Call
-  call = step advance tt
+-- any 128 bytes in the place of a state, and any memory, reel and journal
+module _ (h : Host) (long : length (h .block) ≡ stateLength) (bytes : Bytes (h .block)) {h′ : Host} {number fault : ℕ} {steps interrupts : Bool}
+    (g : Returned h (given call h) number h′) (t : Tells (given call h) steps interrupts fault) where
+  abbrev does : Answered
+  does = stepOn (worldIn h) (length (h .journal)) advance
 
-  -- one that was a step left the plan's state, memory and reel
-  pub host-advanced : {h′ : Host} {k : ℕ} → Returned h (given call h) k h′ → callKind call (given call h .answer) ≡ stepped
-      → (sessionIn (h′ .block) .unit ≡ plan .unit) × (h′ .memory ≡ memoryAfter plan (h .memory) (h .reel)) × (h′ .reel ≡ reelAfter plan (h .memory) (h .reel))
-  unfolding onCall callKind
-  host-advanced g t =
-      let z = runs-as call h b g in
-      let kind = ap (λ (x : Answered). callKind call (x .answer)) (given-is call h b) in
-      let core = ap (λ (w : World). w .core) (z .1) ∙ advance-core (length (h .journal)) (worldIn h) (sym kind ∙ t) in
-      (ap (λ (c : Core). c .unit) core, ap (λ (c : Core). c .memory) core, ap (λ (c : Core). c .reel) core)
+  -- an answer that is no step changes nothing
+  nothing : {a : Answer} → given call h .answer ≡ a → isStep a ≡ false → (steps ≡ false) × (h′ ≡ h)
+  nothing e n =
+      let z : isStep (given call h .answer) ≡ false = ap isStep e ∙ n in
+      (t .stepped ∙ z, call-nothing call (g .gives) z)
 
-  -- one that is refused with 7 names the first block at fault that the command meets
-  pub host-names : (k : ℕ) → given call h .answer ≡ answer.BadBlock k
-      → FirstFault (h .reel) (sessionIn (h .block) .unit .tape .end) (reverseFirst (header (sessionIn (h .block) .unit) (h .memory) (h .reel))) (sessionIn (h .block) .unit .tape .position) k
-  unfolding onCall
-  host-names k e = advance-names (length (h .journal)) (worldIn h) k (sym (ap (λ (x : Answered). x .answer) (given-is call h b)) ∙ e)
+  abbrev Here : Type 0
+  Here = HostComes h number steps interrupts fault h′
+
+  module _ (b : Block (h .block)) where
+    is : given call h ≡ does
+    unfolding onCall
+    is = given-is call h b
+
+    reads-as : {x : Answered} → does ≡ x → given call h .answer ≡ x .answer
+    reads-as e = ap (λ (x : Answered). x .answer) (is ∙ e)
+
+    numbered : {a : Answer} → given call h .answer ≡ a → number ≡ numberOf a
+    numbered e = g .gives .answer ∙ ap numberOf e
+
+    comes-as : Comes (length (h .journal)) (worldIn h) does → Here
+    unfolding isStep numberOf faultIn interruptIn onCall
+    comes-as (refused n e) =
+        let y = reads-as e in
+        let few = checked-few (sessionOf (worldIn h)) (length (h .memory)) (length (h .reel)) (length (h .journal)) in
+        refused-first (λ z. n (sym (numbered y) ∙ z)) (subst (λ (k : ℕ). k ≤ 4) (sym (numbered y)) few) (numbered y) (nothing y refl .0) (nothing y refl .1)
+    comes-as (idle c i e) = let y = reads-as e in host-idle i (numbered y) (nothing y refl .0) (nothing y refl .1)
+    comes-as (at-fault c busy f e) =
+        let y = reads-as e in
+        host-fault busy (subst (FaultAhead (worldIn h .core)) (sym (t .fault ∙ ap faultIn y)) f) (numbered y) (nothing y refl .0) (nothing y refl .1)
+    comes-as (no-room c busy f e) = let y = reads-as e in host-full busy f (numbered y) (nothing y refl .0) (nothing y refl .1)
+    comes-as (a-step {i} c busy room e o) =
+        let y : given call h .answer ≡ answer.Done i = ap (λ (x : Answered). x .answer) is ∙ e in
+        let after = subst (λ (w : World). Obeys (worldIn h .core) i (w .core)) (sym (runs-as call h b g .1)) o in
+        host-step busy room (numbered y) (t .stepped ∙ ap isStep y) (subst (λ (i : Bool). Obeys (worldIn h .core) i (worldIn h′ .core)) (sym (t .interrupt ∙ ap interruptIn y)) after)
+
+  -- demand 2 of every exported advance
+  pub host-comes : Here
+  unfolding given opened isStep numberOf
+  host-comes =
+      by-test (isBlock (h .block))
+      (λ r. comes-as (record { long = long; bytes = bytes; right = r }) (advance-comes (length (h .journal)) (worldIn h)))
+      (λ r. let y : given call h .answer ≡ answer.Refused 1 = rw r in no-state r (g .gives .answer ∙ ap numberOf y) (nothing y refl .0) (nothing y refl .1))
+
+-- a mount that returns 7 names the first block at fault from block 0 on
+pub host-mount-names : {b b′ : List ℕ} {number fault : ℕ} (memory : ℕ) (r : List ℕ) (journal e : ℕ) (online locked : Bool)
+    → Mounts b (mountOn (sessionIn b) memory r journal e online locked) number b′ fault → number ≡ 7 → FirstFault r e false 0 fault
+host-mount-names {b} memory r journal e online locked g z =
+    subst (FirstFault r e false 0) (sym (g .fault)) (mount-names (sessionIn b) memory r journal e online locked (sym (g .answer) ∙ z))

@@ -1,8 +1,8 @@
 -- A host of the exported calls: it holds the state's block and three buffers, and hands them to one call after another.
 use mathlib.Core.List.{List, [], _∷_, map}
-use mathlib.Core.Bool.{Bool}
+use mathlib.Core.Bool.{Bool, true, false}
 use mathlib.Core.Path.{_≡_}
-use Prim.Native.Nat.{ℕ, suc}
+use Prim.Native.Nat.{ℕ, suc, _≤_}
 use lib.ListN.{drop, length}
 use Rattle.lists.specs.Words.{Bytes}
 use Rattle.entries.specs.Entries.{usedIn}
@@ -12,8 +12,10 @@ use Rattle.worlds.specs.Passes.{Fit}
 use Rattle.sessions.specs.Session.{Kind, Standing, entryOf, looked, refused, stepped}
 use Rattle.sessions.specs.Calling.{Call, Here, Noted, callKind, calls, journalOf, lengthOf, onCall, worldFrom}
 use Rattle.kept.specs.Formed.{Formed}
+use Rattle.sessions.specs.Advancing.{FaultAhead, Full, Idle, checkedWith}
 use Rattle.sessions.specs.Good.{Fresh}
-use Rattle.ts11.specs.Block.{Block, sessionIn}
+use Rattle.sessions.specs.Rules.{Obeys}
+use Rattle.ts11.specs.Block.{Block, isBlock, sessionIn}
 use Rattle.ts11.specs.Given.{Gives, Host, Mounts, backGiven, opened, worldIn}
 
 -- the exported calls that take buffers, by the names of the session's calls
@@ -109,3 +111,13 @@ pub record Entries (h : Host) (n : ℕ) (steps : List (Standing (calls n))) : Ty
   pub each : noted ≡ map (entryOf (calls n)) steps
   pub used : sessionIn (h .block) .used ≡ lengthOf noted
   pub bytes : usedIn (sessionIn (h .block) .used) (h .journal) ≡ journalOf noted
+
+-- what an exported advance on h returned and told, and that it left h′: bytes that are no state's, refusals 1 to 4, idle, 7 with the block, 9, or a step
+pub data HostComes (h : Host) (number : ℕ) (steps interrupts : Bool) (fault : ℕ) (h′ : Host) : Type 0 where
+  no-state : isBlock (h .block) ≡ false → number ≡ 1 → steps ≡ false → h′ ≡ h → HostComes h number steps interrupts fault h′
+  refused-first : (number ≡ 0 → ⊥) → number ≤ 4 → number ≡ checkedWith (length (h .journal)) (worldIn h) → steps ≡ false → h′ ≡ h → HostComes h number steps interrupts fault h′
+  idle : Idle (worldIn h .core .unit) → number ≡ 0 → steps ≡ false → h′ ≡ h → HostComes h number steps interrupts fault h′
+  at-fault : (Idle (worldIn h .core .unit) → ⊥) → FaultAhead (worldIn h .core) fault → number ≡ 7 → steps ≡ false → h′ ≡ h → HostComes h number steps interrupts fault h′
+  no-room : (Idle (worldIn h .core .unit) → ⊥) → Full (worldIn h) → number ≡ 9 → steps ≡ false → h′ ≡ h → HostComes h number steps interrupts fault h′
+  a-step : (Idle (worldIn h .core .unit) → ⊥) → (Full (worldIn h) → ⊥) → number ≡ 0 → steps ≡ true → Obeys (worldIn h .core) interrupts (worldIn h′ .core)
+      → HostComes h number steps interrupts fault h′

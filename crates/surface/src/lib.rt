@@ -13,8 +13,9 @@
 //   and so did one that took no step                              call-nothing, back-nothing
 //   a contract permits one outcome                                gives-unique, tells-unique, reads-unique, mounts-unique
 //                                                                                           proofs/Unique.antt
-//   an exported advance leaves what its plan says, and names      host-advanced, host-names
-//   the first block at fault                                                                proofs/Advances.antt
+//   every exported advance is refused, idle or a step, each       host-comes                proofs/Advances.antt
+//   under its condition, and a step obeys the TS11's rules
+//   a mount refused with 7 names the first block at fault         host-mount-names
 //   a mount answered 0 begins a session                           mounted-host              proofs/Mounted.antt
 //   a host's calls are a session of the model                     host-ran                  proofs/Hosts.antt
 //   going back k gives the bytes before the earliest of the k     host-stood, host-stands   proofs/Stands.antt

@@ -1,0 +1,43 @@
+-- What a call of advance comes to, from every world and with every lent journal: refused with 1 to 4, idle, refused with 7 or with 9, or a step. A
+-- unit that refuses always or does nothing is none of these. (01, "Calls", and the table of refusals)
+use mathlib.Core.Bool.{Bool, true, false, _&&_}
+use mathlib.Core.List.{List}
+use mathlib.Core.Path.{_≡_}
+use Prim.Native.Nat.{ℕ, _<_, _-_}
+use lib.ListN.{length}
+use Rattle.state.specs.declared.Unit.{Unit}
+use Rattle.commands.specs.declared.plans.Answer.the-variants as answer
+use Rattle.advance.specs.Rules.{reverseFirst}
+use Rattle.demands.specs.Faults.{FirstFault}
+use Rattle.unit.specs.Asks.{advance}
+use Rattle.unit.specs.Cores.{Core}
+use Rattle.entries.specs.Entries.{entryLength}
+use Rattle.worlds.specs.Calls.{refusedAs}
+use Rattle.worlds.specs.Refusals.{checked}
+use Rattle.worlds.specs.Worlds.{Answered, World, answered, sessionOf}
+use Rattle.sessions.specs.Calling.{entryAt, step}
+use Rattle.sessions.specs.Rules.{Obeys, headerIn}
+
+-- "With no command waiting and no attention that may go out" an advance is idle
+abbrev pub Idle : Unit → Type 0
+Idle u = (u .registers .ssr ≡ true) × ((u .attention .pending && u .attention .«unit_owns») ≡ false)
+
+-- block k is the first at fault ahead of the tape, in the direction of the command's first stage
+abbrev pub FaultAhead : Core → ℕ → Type 0
+FaultAhead c k = FirstFault (c .reel) (c .unit .tape .end) (reverseFirst (headerIn c)) (c .unit .tape .position) k
+
+-- "9 free journal less than the entry"
+abbrev pub Full : World → Type 0
+Full w = w .ledger .length - w .ledger .used < entryLength (entryAt (step advance tt) (w .core))
+
+-- the first of refusals 1 to 4 that holds, 0 where none does
+abbrev pub checkedWith : ℕ → World → ℕ
+checkedWith n w = checked (sessionOf w) (length (w .core .memory)) (length (w .core .reel)) n
+
+-- the call comes to x
+pub data Comes (n : ℕ) (w : World) (x : Answered) : Type 0 where
+  refused : (checkedWith n w ≡ 0 → ⊥) → x ≡ refusedAs (checkedWith n w) w → Comes n w x
+  idle : checkedWith n w ≡ 0 → Idle (w .core .unit) → x ≡ answered answer.Idle w → Comes n w x
+  at-fault : {k : ℕ} → checkedWith n w ≡ 0 → (Idle (w .core .unit) → ⊥) → FaultAhead (w .core) k → x ≡ answered (answer.BadBlock k) w → Comes n w x
+  no-room : checkedWith n w ≡ 0 → (Idle (w .core .unit) → ⊥) → Full w → x ≡ refusedAs 9 w → Comes n w x
+  a-step : {i : Bool} → checkedWith n w ≡ 0 → (Idle (w .core .unit) → ⊥) → (Full w → ⊥) → x .answer ≡ answer.Done i → Obeys (w .core) i (x .world .core) → Comes n w x
