@@ -1,82 +1,33 @@
-// The listing's lines. What is printed is decided by `reel::examine` and `reel::pass`; here it only gets its letters.
+// The listing of a reel image. What it prints is made in a lent buffer, and proved there; a thin write goes on top.
+mod prints;
+
 use libc::STDOUT_FILENO;
+use prints::LISTING_LIMIT;
+pub use prints::lines;
 use tape::Geometry;
-use tape::Image;
-use tape::Met;
+ghost use mathlib.Core.Path.{_≡_};
+ghost use lib.ListN.{length};
+ghost use Rattle.lister.specs.Listed.{listingLimit};
 
 // One byte more than the longest image, so that a longer one is seen.
 fn space() -> [u8; Geometry::IMAGE_LIMIT + 1] {
     [0u8; Geometry::IMAGE_LIMIT + 1]
 }
 
-fn write_number(n: usize) {
-    io::print_decimal(STDOUT_FILENO, n as u64);
+fn lines_space() -> [u8; LISTING_LIMIT]
+    ensures { λ r. ⌜ listingLimit ≡ length r ⌝ }
+{
+    [0u8; LISTING_LIMIT]
 }
 
-// A letter and a number.
-fn write_line(letter: &[u8], k: usize) {
-    io::write_all(STDOUT_FILENO, letter);
-    write_number(k);
-    io::write_all(STDOUT_FILENO, b"\n");
-}
-
-// A record: its first block and its length.
-fn write_record(p: usize, n: usize) {
-    io::write_all(STDOUT_FILENO, b"R ");
-    write_number(p);
-    io::write_all(STDOUT_FILENO, b" ");
-    write_number(n);
-    io::write_all(STDOUT_FILENO, b"\n");
-}
-
-// The line of the object met at p, and the position beyond it; e where there is none.
-fn write_object(image: &[u8], p: usize, e: usize) -> usize {
-    match reel::pass(image, false, p, e) {
-        Met::Record(n, q) => {
-            write_record(p, n);
-            q
-        }
-        Met::Mark(q) => {
-            write_line(b"M ", p);
-            q
-        }
-        Met::Gap(q) => {
-            write_line(b"G ", p);
-            q
-        }
-        Met::Nothing => e,
-        Met::Bad(_) => e,
-    }
-}
-
-// A line for each object of a whole image. Each takes a block or more, so e turns are enough.
-fn write_objects(image: &[u8], e: usize) {
-    let mut p: usize = 0;
-    let mut turns = e;
-    while 0 < turns {
-        p = write_object(image, p, e);
-        turns -= 1;
-    }
-}
-
-// The listing of an image.
+// Prints the listing of an image. That the bytes go out is the C library's: its write promises nothing that a contract could use.
 pub fn list(image: &[u8]) {
-    match reel::examine(image) {
-        Image::TooLong => {
-            io::write_all(STDOUT_FILENO, b"L\n");
-        }
-        Image::NotWhole => {
-            io::write_all(STDOUT_FILENO, b"S\n");
-        }
-        Image::Bad(k) => write_line(b"X ", k),
-        Image::Whole(e) => {
-            write_objects(image, e);
-            write_line(b"E ", e);
-        }
-    }
+    let mut out = lines_space();
+    let n = lines(image, &mut out);
+    io::write_all(STDOUT_FILENO, &out[..n]);
 }
 
-// The listing of what a file or a pipe holds.
+// Prints the listing of what a file or a pipe holds; what a read brings is the C library's too.
 pub fn list_file(fd: i32) {
     let mut buffer = space();
     let got = io::read_full(fd, &mut buffer);

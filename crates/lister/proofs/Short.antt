@@ -1,0 +1,94 @@
+-- The listing of any image is short: at most 128 objects of 44 bytes each, and a last line.
+use mathlib.Core.Bool.{false}
+use mathlib.Core.List.{List, [], _∷_, _++_}
+use Prim.Native.Nat.{ℕ, zero, suc, _*_, _/_, _%_, _≤_}
+use native.Mathlib.Omega.{arith}
+use borrow.Author.Tests.{ltb-false}
+use lib.Dec.{eqb, ltb}
+use lib.ListN.{length, length-append}
+use Rattle.io.specs.Digits.{glyph}
+use Rattle.lists.specs.Pick.{Always, pick}
+use Rattle.lists.proofs.Cases.{pick-told}
+use Rattle.tape.specs.Listing.{examined, imageLimit, imageSwept}
+use Rattle.tape.specs.Numbers.{blockBytes}
+use Rattle.tape.specs.Pass.{passed}
+use Rattle.tape.specs.Sweep.{sweptBelow}
+use Rattle.tape.specs.declared.Image.{Image}
+use Rattle.tape.specs.declared.Image.the-variants as image
+use Rattle.tape.specs.declared.Met.{Met}
+use Rattle.tape.specs.declared.Met.the-variants as met
+use Rattle.tape.specs.declared.Swept.{Swept}
+use Rattle.tape.specs.declared.Swept.the-variants as swept
+use Rattle.lister.specs.Decimal.{decimal, decimalIn}
+use Rattle.lister.specs.Lines.{numberLine, recordLine}
+use Rattle.lister.specs.Listed.{linesFrom, listed, listedAs, listingLimit, metLine, metNext}
+
+in-short : (more n : ℕ) → length (decimalIn more n) ≤ suc more
+unfolding decimalIn
+in-short zero n = omega arith
+in-short (suc more) n =
+    pick-told (λ (l : List ℕ). length l ≤ suc (suc more)) (ltb n 10) (glyph n ∷ []) (decimalIn more (n / 10) ++ (glyph (n % 10) ∷ []))
+    (λ e. omega arith)
+    (λ e. omega (arith, in-short more (n / 10), length-append (decimalIn more (n / 10)) (glyph (n % 10) ∷ [])))
+
+decimal-short : (n : ℕ) → length (decimal n) ≤ 20
+unfolding decimal
+decimal-short n = in-short 19 n
+
+number-short : (letter k : ℕ) → length (numberLine letter k) ≤ 23
+unfolding numberLine
+number-short letter k = omega (arith, decimal-short k, length-append (decimal k) (10 ∷ []))
+
+record-short : (p n : ℕ) → length (recordLine p n) ≤ 44
+unfolding recordLine
+record-short p n =
+    omega (arith, decimal-short p, decimal-short n, length-append (decimal n) (10 ∷ []), length-append (decimal p) (32 ∷ (decimal n ++ (10 ∷ []))))
+
+met-short : (p : ℕ) (m : Met) → length (metLine p m) ≤ 44
+unfolding metLine
+met-short p (met.Record n q) = record-short p n
+met-short p (met.Mark q) = omega (arith, number-short 77 p)
+met-short p (met.Gap q) = omega (arith, number-short 71 p)
+met-short p met.Nothing = omega arith
+met-short p (met.Bad k) = omega arith
+
+lines-short : (turns : ℕ) (s : List ℕ) (p e : ℕ) → length (linesFrom turns s p e) ≤ 44 * turns
+unfolding linesFrom
+lines-short zero s p e = omega arith
+lines-short (suc turns) s p e =
+    let m : Met = passed s false p e in
+    omega (arith, met-short p m, lines-short turns s (metNext e m) e, length-append (metLine p m) (linesFrom turns s (metNext e m) e))
+
+-- a recorded end that the listing goes up to
+abbrev Bounded : Image → Type 0
+Bounded (image.Whole e) = blockBytes * e ≤ imageLimit
+Bounded (image.Bad k) = Always
+Bounded image.TooLong = Always
+Bounded image.NotWhole = Always
+
+swept-bounded : (e : ℕ) (w : Swept) → blockBytes * e ≤ imageLimit → Bounded (imageSwept e w)
+unfolding imageSwept
+swept-bounded e swept.Whole h = h
+swept-bounded e (swept.Bad k) h = tt
+
+bounded : (s : List ℕ) → Bounded (examined s)
+unfolding examined
+bounded s =
+    let e : ℕ = length s / blockBytes in
+    let whole : Image = imageSwept e (sweptBelow s e) in
+    pick-told Bounded (ltb imageLimit (length s)) image.TooLong (pick (eqb (length s % blockBytes) 0) whole image.NotWhole)
+    (λ l. tt)
+    (λ l. pick-told Bounded (eqb (length s % blockBytes) 0) whole image.NotWhole
+    (λ z. swept-bounded e (sweptBelow s e) (omega (arith, ltb-false imageLimit (length s) l)))
+    (λ z. tt))
+
+as-short : (s : List ℕ) (i : Image) → Bounded i → length (listedAs s i) ≤ listingLimit
+unfolding listedAs
+as-short s (image.Whole e) b = omega (arith, lines-short e s 0 e, number-short 69 e, length-append (linesFrom e s 0 e) (numberLine 69 e))
+as-short s (image.Bad k) b = omega (arith, number-short 88 k)
+as-short s image.TooLong b = omega arith
+as-short s image.NotWhole b = omega arith
+
+pub listed-short : (s : List ℕ) → length (listed s) ≤ listingLimit
+unfolding listed
+listed-short s = as-short s (examined s) (bounded s)
