@@ -2,37 +2,31 @@
 use mathlib.Core.Path.{_≡_, ap, _∙_}
 use mathlib.Core.Bool.{false}
 use mathlib.Core.List.{List, [], _∷_, _++_, append-assoc}
-use Prim.Native.Nat.{ℕ, suc, _-_, _^_, _<_, _≤_}
+use Prim.Native.Nat.{ℕ, suc, _-_, _≤_}
 use native.Mathlib.Omega.{arith}
 use lib.ListN.{length}
 use lib.Seq.{length-sets, sets, take-all, take-nil}
-use Rattle.script.specs.Prints.{Labelled, Put}
-use Rattle.script.proofs.Printed.{put-more, spelled-once}
+use Rattle.script.specs.Prints.{Put}
+use Rattle.script.proofs.Printed.{put-more}
 use Rattle.tape.specs.Listing.{examined}
 use Rattle.tape.specs.Pass.{passed}
 use Rattle.tape.specs.declared.Image.{Image}
 use Rattle.tape.specs.declared.Met.{Met}
-use Rattle.lister.specs.Decimal.{decimal}
-use Rattle.lister.specs.Lines.{recordLine}
+use Rattle.lister.specs.Lines.{decimal, recordLine}
 use Rattle.lister.specs.Listed.{linesFrom, listed, listedAs, listingLimit, metLine, metNext}
 use Rattle.lister.proofs.Short.{listed-short}
-use Rattle.lister.proofs.Spelling.{spelled-decimal}
 
 -- no text puts nothing
 pub put-nothing : (o : List ℕ) (at : ℕ) → Put o at [] o at
 put-nothing o at = record { stored = rw (take-nil (length o - at)); next = omega arith }
 
--- a label and a number of 64 bits, in a row
-pub put-decimal : {o o′ : List ℕ} {at n : ℕ} (label : List ℕ) (k : ℕ) → k < 10 ^ 20 → Labelled 10 1 k label o at o′ n → Put o at (label ++ decimal k) o′ n
-put-decimal label k h l = rw (spelled-once 10 1 k (l .text) (decimal k) (omega arith) (l .spelled) (spelled-decimal k h)) at (l .put)
-
 module _ {o o′ o″ : List ℕ} {at n r : ℕ} where
-  pub put-number : (label : List ℕ) (k : ℕ) → k < 10 ^ 20 → Labelled 10 1 k label o at o′ n → Put o′ n (10 ∷ []) o″ r → Put o at (label ++ (decimal k ++ (10 ∷ []))) o″ r
-  put-number label k h l p = rw append-assoc at (put-more _ _ _ _ _ _ _ _ (put-decimal label k h l) p)
+  pub put-number : (label : List ℕ) (k : ℕ) → Put o at (label ++ decimal k) o′ n → Put o′ n (10 ∷ []) o″ r → Put o at (label ++ (decimal k ++ (10 ∷ []))) o″ r
+  put-number label k l p = rw append-assoc at (put-more _ _ _ _ _ _ _ _ l p)
 
-  pub put-pair : (p k : ℕ) → p < 10 ^ 20 → Labelled 10 1 p (82 ∷ 32 ∷ []) o at o′ n → Put o′ n (32 ∷ (decimal k ++ (10 ∷ []))) o″ r → Put o at (recordLine p k) o″ r
+  pub put-pair : (p k : ℕ) → Put o at (82 ∷ 32 ∷ decimal p) o′ n → Put o′ n (32 ∷ (decimal k ++ (10 ∷ []))) o″ r → Put o at (recordLine p k) o″ r
   unfolding recordLine
-  put-pair p k h l q = put-more _ _ _ _ _ _ _ _ (put-decimal (82 ∷ 32 ∷ []) p h l) q
+  put-pair p k l q = put-more _ _ _ _ _ _ _ _ l q
 
 -- with so many turns to go, what they put makes the lines whole
 abbrev pub Left : List ℕ → List ℕ → ℕ → List ℕ → ℕ → ℕ → ℕ → Type 0

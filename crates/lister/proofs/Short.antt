@@ -1,12 +1,13 @@
--- The listing of any image is short: at most 128 objects of 44 bytes each, and a last line.
+-- The listing of any image is short: at most 128 objects of 134 bytes each, and a last line.
 use mathlib.Core.Bool.{false}
 use mathlib.Core.List.{List, [], _∷_, _++_}
-use Prim.Native.Nat.{ℕ, zero, suc, _*_, _/_, _%_, _≤_}
+use mathlib.Core.Path.{_≡_, refl}
+use Prim.Native.Nat.{ℕ, zero, suc, _+_, _*_, _/_, _%_, _^_, _≤_}
 use native.Mathlib.Omega.{arith}
 use borrow.Author.Tests.{ltb-false}
 use lib.Dec.{eqb, ltb}
 use lib.ListN.{length, length-append}
-use Rattle.io.specs.Digits.{glyph}
+use Rattle.io.specs.Digits.{digits, glyph}
 use Rattle.lists.specs.Pick.{Always, pick}
 use Rattle.lists.proofs.Cases.{pick-told}
 use Rattle.tape.specs.Listing.{examined, imageLimit, imageSwept}
@@ -19,32 +20,33 @@ use Rattle.tape.specs.declared.Met.{Met}
 use Rattle.tape.specs.declared.Met.the-variants as met
 use Rattle.tape.specs.declared.Swept.{Swept}
 use Rattle.tape.specs.declared.Swept.the-variants as swept
-use Rattle.lister.specs.Decimal.{decimal, decimalIn}
-use Rattle.lister.specs.Lines.{numberLine, recordLine}
+use Rattle.script.specs.Spelling.{placesFrom, spelling}
+use Rattle.lister.specs.Lines.{decimal, numberLine, recordLine}
 use Rattle.lister.specs.Listed.{linesFrom, listed, listedAs, listingLimit, metLine, metNext}
 
-in-short : (more n : ℕ) → length (decimalIn more n) ≤ suc more
-unfolding decimalIn
-in-short zero n = omega arith
-in-short (suc more) n =
-    pick-told (λ (l : List ℕ). length l ≤ suc (suc more)) (ltb n 10) (glyph n ∷ []) (decimalIn more (n / 10) ++ (glyph (n % 10) ∷ []))
-    (λ e. omega arith)
-    (λ e. omega (arith, in-short more (n / 10), length-append (decimalIn more (n / 10)) (glyph (n % 10) ∷ [])))
+length-digits : (b k n : ℕ) → length (digits b k n) ≡ k
+length-digits b zero n = refl
+length-digits b (suc k) n = omega (arith, length-append (digits b k (n / b)) (glyph (n % b) ∷ []), length-digits b k (n / b))
 
-decimal-short : (n : ℕ) → length (decimal n) ≤ 20
-unfolding decimal
-decimal-short n = in-short 19 n
+places-most : (b n k more : ℕ) → placesFrom b n k more ≤ k + more
+unfolding placesFrom
+places-most b n k zero = omega arith
+places-most b n k (suc more) = pick-told (λ (j : ℕ). j ≤ k + suc more) (ltb n (b ^ k)) k (placesFrom b n (suc k) more) (λ e. omega arith) (λ e. omega (arith, places-most b n (suc k) more))
 
-number-short : (letter k : ℕ) → length (numberLine letter k) ≤ 23
+decimal-short : (n : ℕ) → length (decimal n) ≤ 65
+unfolding spelling
+decimal-short n = omega (arith, length-digits 10 (placesFrom 10 n 1 64) n, places-most 10 n 1 64)
+
+number-short : (letter k : ℕ) → length (numberLine letter k) ≤ 68
 unfolding numberLine
 number-short letter k = omega (arith, decimal-short k, length-append (decimal k) (10 ∷ []))
 
-record-short : (p n : ℕ) → length (recordLine p n) ≤ 44
+record-short : (p n : ℕ) → length (recordLine p n) ≤ 134
 unfolding recordLine
 record-short p n =
     omega (arith, decimal-short p, decimal-short n, length-append (decimal n) (10 ∷ []), length-append (decimal p) (32 ∷ (decimal n ++ (10 ∷ []))))
 
-met-short : (p : ℕ) (m : Met) → length (metLine p m) ≤ 44
+met-short : (p : ℕ) (m : Met) → length (metLine p m) ≤ 134
 unfolding metLine
 met-short p (met.Record n q) = record-short p n
 met-short p (met.Mark q) = omega (arith, number-short 77 p)
@@ -52,7 +54,7 @@ met-short p (met.Gap q) = omega (arith, number-short 71 p)
 met-short p met.Nothing = omega arith
 met-short p (met.Bad k) = omega arith
 
-lines-short : (turns : ℕ) (s : List ℕ) (p e : ℕ) → length (linesFrom turns s p e) ≤ 44 * turns
+lines-short : (turns : ℕ) (s : List ℕ) (p e : ℕ) → length (linesFrom turns s p e) ≤ 134 * turns
 unfolding linesFrom
 lines-short zero s p e = omega arith
 lines-short (suc turns) s p e =

@@ -3,7 +3,11 @@ use mathlib.Core.List.{List, [], _∷_, _++_}
 use Prim.Native.Nat.{ℕ, _+_}
 use lib.ListN.{length}
 use Rattle.tape.specs.Objects.{Object, blocksIn, gap, mark, record-of}
-use Rattle.lister.specs.Decimal.{decimal}
+use Rattle.script.specs.Spelling.{spelling}
+
+-- in the fewest digits
+abbrev pub decimal : ℕ → List ℕ
+decimal n = spelling 10 1 n
 
 -- a letter's code, a blank, a number and a line end
 unfoldable pub numberLine : ℕ → ℕ → List ℕ

@@ -55,6 +55,6 @@ listedAs s image.NotWhole = 83 ∷ 10 ∷ []
 unfoldable pub listed : List ℕ → List ℕ
 listed s = listedAs s (examined s)
 
--- more than the longest listing: 129 lines of at most 44 bytes (law `listed-short`)
+-- more than the longest listing: 129 lines, and no number takes more than 65 digits (law `listed-short`)
 abbrev pub listingLimit : ℕ
-listingLimit = 6000
+listingLimit = 18000

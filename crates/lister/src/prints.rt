@@ -8,12 +8,11 @@ ghost use mathlib.Core.List.{[], _∷_, _++_};
 ghost use lib.ListN.{length};
 ghost use lib.Seq.{sets};
 ghost use Rattle.script.specs.Prints.{Put};
-ghost use Rattle.lister.specs.Decimal.{decimal};
-ghost use Rattle.lister.specs.Lines.{recordLine};
+ghost use Rattle.lister.specs.Lines.{decimal, recordLine};
 ghost use Rattle.lister.specs.Listed.{linesFrom, listed, metLine, metNext};
 
 // More than the longest listing.
-pub const LISTING_LIMIT: usize = 6000;
+pub const LISTING_LIMIT: usize = 18000;
 
 // A letter, a blank, a number and a line end; where the next byte goes.
 fn put_line(out: &mut [u8], at: usize, label: &[u8], k: usize) -> usize

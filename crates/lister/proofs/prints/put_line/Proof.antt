@@ -1,6 +1,5 @@
--- `put_line` meets its contract: what `script` spells of the number is its decimal, and the line end goes behind it.
+-- `put_line` meets its contract: the line end goes behind the label and the number.
 use borrow.Author.Needs.{needs}
-use native.Mathlib.Omega.{arith}
 use Rattle.lister.proofs.Putting.{put-number}
 use Rattle.lister.proofs.prints.put_line.Statement.{statement}
 use Rattle.lister.proofs.prints.put_line.Tie as tie
@@ -20,7 +19,7 @@ same-length c = search needs
 returns : tie.Need-returns
 returns c =
     let a = c .before .before .before .before .before .before .before .before .before .before .before .args in
-    put-number (a .label .now) (a .k) (omega arith) (c .before .before .before .before .before .before .before .put-labelled .ensures) (c .before .before .put-bytes .ensures)
+    put-number (a .label .now) (a .k) (c .before .before .before .before .before .before .before .put-labelled .ensures) (c .before .before .put-bytes .ensures)
 
 pub put-line-spec : {M : Type 1} → statement M
 put-line-spec =
