@@ -17,7 +17,7 @@ use Rattle.sessions.specs.Advancing.{Comes, FaultAhead, a-step, at-fault, check
 use Rattle.sessions.specs.Calling.{Call, onCall, step}
 use Rattle.sessions.specs.Rules.{Obeys}
 use Rattle.sessions.proofs.Advances.{advance-comes, checked-few, mount-names}
-use Rattle.ts11.specs.Block.{Block, isBlock, sessionIn, stateLength}
+use Rattle.stateblock.specs.Block.{Block, isBlock, sessionIn, stateLength}
 use Rattle.ts11.specs.Given.{Host, Mounts, Tells, opened, worldIn}
 use Rattle.surface.specs.Hosting.{HostComes, Returned, given}
 use Rattle.surface.specs.Hosting.{a-step as host-step, at-fault as host-fault, idle as host-idle, no-room as host-full, no-state, refused-first}

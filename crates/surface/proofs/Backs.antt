@@ -6,7 +6,7 @@ use Rattle.worlds.specs.Worlds.{Answered, World, sessionOf}
 use Rattle.worlds.specs.Calls.{backOn, undone}
 use Rattle.sessions.specs.Calling.{stepKind}
 use Rattle.sessions.proofs.Backs.{WentBack, back-passed, backTo, brought-back, stayed-back, went-back-as}
-use Rattle.ts11.specs.Block.{Block}
+use Rattle.stateblock.specs.Block.{Block}
 use Rattle.ts11.specs.Given.{Gives, Host, backGiven, worldIn}
 use Rattle.surface.specs.Hosting.{Returned}
 use Rattle.surface.proofs.Fits.{small-legal}

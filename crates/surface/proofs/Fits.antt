@@ -11,7 +11,7 @@ use Rattle.worlds.specs.Worlds.{World, sessionOf}
 use Rattle.worlds.specs.Passes.{Fit}
 use Rattle.worlds.specs.Refusals.{checked, journalLimit}
 use Rattle.worlds.proofs.Passing.{passed}
-use Rattle.ts11.specs.Block.{entryWith, sessionIn}
+use Rattle.stateblock.specs.Block.{entryWith, sessionIn}
 use Rattle.ts11.specs.Given.{Host, worldIn}
 
 -- a block's world that the checks let pass

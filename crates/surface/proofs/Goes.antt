@@ -12,9 +12,9 @@ use Rattle.worlds.specs.Worlds.{Answered, World, sessionOf}
 use Rattle.sessions.specs.Session.{stepped}
 use Rattle.sessions.specs.Calling.{stepKind}
 use Rattle.sessions.proofs.Taken.{looked-none, refused-none}
-use Rattle.ts11.specs.Block.{Block, stateBlock, entryWith, sessionIn}
-use Rattle.ts11.specs.Given.{Gives, Host, blockAfter, opened, worldIn}
-use Rattle.ts11.proofs.Blocks.{block-back, block-is, block-own, same-block}
+use Rattle.stateblock.specs.Block.{Block, blockAfter, entryWith, sessionIn, stateBlock}
+use Rattle.ts11.specs.Given.{Gives, Host, opened, worldIn}
+use Rattle.stateblock.proofs.Blocks.{block-back, block-is, block-own, same-block}
 use Rattle.surface.specs.Hosting.{Unchanged}
 
 -- a right block is no refusal

@@ -24,9 +24,9 @@ use Rattle.worlds.specs.Calls.{mountOn, mountedBy, session}
 use Rattle.sessions.specs.Calling.{Here, journalOf, ledgerOf, lengthOf, stepKind, worldFrom}
 use Rattle.sessions.specs.Good.{Fresh, mountMoment}
 use Rattle.sessions.proofs.Mounting.{mount-session, mounted, mounted-fit}
-use Rattle.ts11.specs.Block.{Block, stateBlock, sessionIn}
+use Rattle.stateblock.specs.Block.{Block, stateBlock, sessionIn}
 use Rattle.ts11.specs.Given.{Host, Mounts, holding, worldIn}
-use Rattle.ts11.proofs.Blocks.{block-back, block-is}
+use Rattle.stateblock.proofs.Blocks.{block-back, block-is}
 use Rattle.surface.specs.Hosting.{Begins, first}
 use Rattle.surface.proofs.Fits.{small-fit}
 use Rattle.surface.proofs.Goes.{block-stepped}

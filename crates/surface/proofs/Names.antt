@@ -7,7 +7,7 @@ use Rattle.unit.specs.Asks.{Ask, Asked}
 use Rattle.worlds.specs.Calls.{registerOn}
 use Rattle.worlds.specs.declared.RegisterRead.{RegisterRead}
 use Rattle.sessions.specs.Calling.{onCall, read-register, step, wordOf}
-use Rattle.ts11.specs.Block.{Block, sessionIn}
+use Rattle.stateblock.specs.Block.{Block, sessionIn}
 use Rattle.ts11.specs.Given.{Gives, Host, Reads, opened, registerGiven, registerOf, stepGiven, worldIn}
 use Rattle.surface.specs.Hosting.{given}
 use Rattle.surface.proofs.Goes.{block-same}

@@ -17,8 +17,8 @@ use Rattle.sessions.specs.Session.{stepped}
 use Rattle.sessions.specs.Calling.{Call, Left, onCall, stepKind}
 use Rattle.sessions.proofs.Taken.{looked-none, refused-none, stays, step-done}
 use Rattle.sessions.proofs.Backs.{back-left}
-use Rattle.ts11.specs.Block.{isBlock, sessionIn}
-use Rattle.ts11.specs.Given.{Gives, Host, backGiven, blockAfter, opened, worldIn}
+use Rattle.stateblock.specs.Block.{blockAfter, isBlock, sessionIn}
+use Rattle.ts11.specs.Given.{Gives, Host, backGiven, opened, worldIn}
 use Rattle.surface.specs.Hosting.{Exported, a-call, a-mount, a-step-back, given}
 
 opened-left : (h : Host) (x : Answered) → Left (worldIn h) x → Left (worldIn h) (opened h x)

@@ -6,7 +6,7 @@ use Rattle.worlds.specs.Worlds.{Answered}
 use Rattle.sessions.specs.Session.{stepped}
 use Rattle.sessions.specs.Calling.{Call, callKind}
 use Rattle.sessions.proofs.Taken.{stays}
-use Rattle.ts11.specs.Block.{Block}
+use Rattle.stateblock.specs.Block.{Block}
 use Rattle.ts11.specs.Given.{Host, backGiven, worldIn}
 use Rattle.surface.specs.Hosting.{Returned, Round, Unchanged, and-none, and-undone, given, still}
 use Rattle.surface.proofs.Goes.{world-bytes}

@@ -7,7 +7,7 @@ use Rattle.worlds.specs.Passes.{Fit}
 use Rattle.sessions.specs.Session.{Kind, looked, refused, stepped}
 use Rattle.sessions.specs.Calling.{Call, callKind, onCall}
 use Rattle.sessions.proofs.Taken.{looked-none, refused-none, sound-step, stays, step-done, step-fit}
-use Rattle.ts11.specs.Block.{Block}
+use Rattle.stateblock.specs.Block.{Block}
 use Rattle.ts11.specs.Given.{Gives, Host, worldIn}
 use Rattle.surface.specs.Hosting.{Returned, given}
 use Rattle.surface.proofs.Fits.{fit-in, small-fit}

@@ -10,9 +10,9 @@ use Rattle.worlds.specs.Calls.{backOn}
 use Rattle.sessions.specs.Session.{stepped}
 use Rattle.sessions.specs.Calling.{Call, callKind, onCall, stepKind}
 use Rattle.sessions.proofs.Taken.{step-undone}
-use Rattle.ts11.specs.Block.{Block}
+use Rattle.stateblock.specs.Block.{Block}
 use Rattle.ts11.specs.Given.{Gives, Host, backGiven, worldIn}
-use Rattle.ts11.proofs.Blocks.{small-in}
+use Rattle.stateblock.proofs.Blocks.{small-in}
 use Rattle.surface.specs.Hosting.{Returned, Unchanged, given}
 use Rattle.surface.proofs.Goes.{leaves, went, world-bytes}
 use Rattle.surface.proofs.Backs.{back-is}

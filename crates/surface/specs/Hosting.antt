@@ -15,7 +15,7 @@ use Rattle.kept.specs.Formed.{Formed}
 use Rattle.sessions.specs.Advancing.{FaultAhead, Full, Idle, checkedWith}
 use Rattle.sessions.specs.Good.{Fresh}
 use Rattle.sessions.specs.Rules.{Obeys}
-use Rattle.ts11.specs.Block.{Block, isBlock, sessionIn}
+use Rattle.stateblock.specs.Block.{Block, isBlock, sessionIn}
 use Rattle.ts11.specs.Given.{Gives, Host, Mounts, backGiven, opened, worldIn}
 
 -- the exported calls that take buffers, by the names of the session's calls

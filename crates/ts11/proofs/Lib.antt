@@ -1,4 +1,2 @@
 -- Laws of the state's block, and the ways out of an exported call.
-pub mod Written
-pub mod Blocks
 pub mod Ways

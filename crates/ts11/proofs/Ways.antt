@@ -14,8 +14,8 @@ use Rattle.worlds.specs.Calls.{backOn, registerOn, stepOn}
 use Rattle.worlds.specs.declared.Session.{Session}
 use Rattle.worlds.specs.declared.Outcome.{Outcome}
 use Rattle.worlds.specs.declared.RegisterRead.{RegisterRead}
-use Rattle.ts11.specs.Block.{isBlock, sessionIn}
-use Rattle.ts11.specs.Given.{Gives, Host, Mounts, Reads, Tells, backGiven, blockAfter, holding, opened, registerGiven, registerOf, stepGiven, worldIn}
+use Rattle.stateblock.specs.Block.{blockAfter, isBlock, sessionIn}
+use Rattle.ts11.specs.Given.{Gives, Host, Mounts, Reads, Tells, backGiven, holding, opened, registerGiven, registerOf, stepGiven, worldIn}
 
 -- the test `!right`, as it comes out
 no-block : (right : Bool) → not right ≡ true → right ≡ false

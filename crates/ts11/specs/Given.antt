@@ -19,14 +19,7 @@ use Rattle.worlds.specs.Calls.{backOn, refusedAs, registerOn, stepOn}
 use Rattle.worlds.specs.declared.Session.{Session}
 use Rattle.worlds.specs.declared.Outcome.{Outcome}
 use Rattle.worlds.specs.declared.RegisterRead.{RegisterRead}
-use Rattle.ts11.specs.Block.{stateBlock, isBlock, sessionIn}
-
--- the block after an answer: the new session's, or, idle or refused, the very bytes that it was
-unfoldable pub blockAfter : List ℕ → Answer → Session → List ℕ
-blockAfter b (answer.Done i) s = stateBlock s
-blockAfter b answer.Idle s = b
-blockAfter b (answer.Refused n) s = b
-blockAfter b (answer.BadBlock k) s = b
+use Rattle.stateblock.specs.Block.{blockAfter, isBlock, sessionIn, stateBlock}
 
 -- all that a host holds and hands to a call: the state's block and three buffers
 pub record Host : Type 0 where

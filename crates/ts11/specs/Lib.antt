@@ -1,3 +1,2 @@
 -- The exported calls: the journal's, over a state of 128 bytes.
-pub mod Block
 pub mod Given

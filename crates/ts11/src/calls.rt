@@ -1,15 +1,15 @@
 // The exported calls. A buffer is a pointer and a length; buffers do not overlap.
-use crate::block::block_right;
-use crate::block::close;
-use crate::block::session_in;
 use commands::Answer;
 use state::Act;
+use stateblock::block_right;
+use stateblock::close;
+use stateblock::session_in;
 use unit::Register;
 ghost use mathlib.Core.Path.{_≡_};
 ghost use Rattle.commands.specs.Answers.{faultIn, interruptIn, isStep, numberOf};
 ghost use Rattle.unit.specs.Asks.{Ask};
 ghost use Rattle.worlds.specs.Calls.{mountOn};
-ghost use Rattle.ts11.specs.Block.{sessionIn};
+ghost use Rattle.stateblock.specs.Block.{sessionIn};
 ghost use Rattle.ts11.specs.Given.{Gives, Mounts, Reads, Tells, actOf, backGiven, holding, registerGiven, registerOf, stepGiven};
 
 // The block at fault, with refusal 7, else 0.

@@ -1,5 +1,4 @@
 // The library that a debugger links: the journal's eight calls for C, C++ and Rust, with the state as a block of 128 bytes.
-mod block;
 mod calls;
 
-pub use block::STATE;
+pub use stateblock::STATE;

@@ -1,8 +1,8 @@
 -- `session_with` meets its contract.
-use Rattle.ts11.specs.Block.{sessionWith}
+use Rattle.stateblock.specs.Block.{sessionWith}
 use borrow.Author.Needs.{needs}
-use Rattle.ts11.proofs.block.session_with.Statement.{statement}
-use Rattle.ts11.proofs.block.session_with.Tie as tie
+use Rattle.stateblock.proofs.block.session_with.Statement.{statement}
+use Rattle.stateblock.proofs.block.session_with.Tie as tie
 
 returns : tie.Need-returns
 unfolding sessionWith

@@ -11,7 +11,7 @@ use Rattle.entries.specs.Bytes.{numbersBytes, headLength, numberBytes}
 use Rattle.entries.specs.declared.Entry.{Entry}
 use Rattle.entries.proofs.Joined.{head-long}
 use Rattle.worlds.specs.declared.Session.{Session}
-use Rattle.ts11.specs.Block.{stateBlock, entryWith, stateLength}
+use Rattle.stateblock.specs.Block.{stateBlock, entryWith, stateLength}
 
 pub length-block : (s : Session) → length (stateBlock s) ≡ stateLength
 unfolding stateBlock

@@ -19,8 +19,8 @@ use Rattle.entries.proofs.HeadBytes.{head-back}
 use Rattle.entries.proofs.Joined.{head-long}
 use Rattle.entries.proofs.Turns.{length-read}
 use Rattle.worlds.specs.declared.Session.{Session}
-use Rattle.ts11.specs.Block.{Block, stateBlock, entryWith, flagsRight, isBlock, restZero, sessionIn, sessionWith}
-use Rattle.ts11.proofs.Written.{length-block}
+use Rattle.stateblock.specs.Block.{Block, stateBlock, entryWith, flagsRight, isBlock, restZero, sessionIn, sessionWith}
+use Rattle.stateblock.proofs.Written.{length-block}
 
 -- the numbers in a session's block
 numbers-in : (s : Session) → headNumbers headCount (stateBlock s) ≡ numbersOf (entryWith s)

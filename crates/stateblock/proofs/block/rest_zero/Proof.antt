@@ -1,8 +1,8 @@
 -- `rest_zero` meets its contract.
-use Rattle.ts11.specs.Block.{restZero}
+use Rattle.stateblock.specs.Block.{restZero}
 use borrow.Author.Needs.{needs}
-use Rattle.ts11.proofs.block.rest_zero.Statement.{statement}
-use Rattle.ts11.proofs.block.rest_zero.Tie as tie
+use Rattle.stateblock.proofs.block.rest_zero.Statement.{statement}
+use Rattle.stateblock.proofs.block.rest_zero.Tie as tie
 
 array-read-free : tie.Need-array-read-free
 array-read-free c = search needs

@@ -14,8 +14,8 @@ use worlds::Outcome;
 use worlds::Session;
 ghost use mathlib.Core.Path.{_≡_};
 ghost use Rattle.commands.specs.Answers.{numberOf};
-ghost use Rattle.ts11.specs.Block.{entryWith, flagsRight, isBlock, restZero, sessionIn, sessionWith};
-ghost use Rattle.ts11.specs.Given.{blockAfter};
+ghost use Rattle.stateblock.specs.Block.{entryWith, flagsRight, isBlock, restZero, sessionIn, sessionWith};
+ghost use Rattle.stateblock.specs.Block.{blockAfter};
 
 // The block's length.
 pub const STATE: usize = 128;

@@ -1,8 +1,8 @@
 -- `block_right` meets its contract: the block's numbers, tested.
-use Rattle.ts11.specs.Block.{isBlock}
+use Rattle.stateblock.specs.Block.{isBlock}
 use borrow.Author.Needs.{needs}
-use Rattle.ts11.proofs.block.block_right.Statement.{statement}
-use Rattle.ts11.proofs.block.block_right.Tie as tie
+use Rattle.stateblock.proofs.block.block_right.Statement.{statement}
+use Rattle.stateblock.proofs.block.block_right.Tie as tie
 
 head-at-requires : tie.Need-head-at-requires
 head-at-requires c κs = search needs

@@ -1,8 +1,8 @@
 -- `flags_right` meets its contract.
-use Rattle.ts11.specs.Block.{flagsRight}
+use Rattle.stateblock.specs.Block.{flagsRight}
 use borrow.Author.Needs.{needs}
-use Rattle.ts11.proofs.block.flags_right.Statement.{statement}
-use Rattle.ts11.proofs.block.flags_right.Tie as tie
+use Rattle.stateblock.proofs.block.flags_right.Statement.{statement}
+use Rattle.stateblock.proofs.block.flags_right.Tie as tie
 
 array-read-registers : tie.Need-array-read-registers
 array-read-registers c = search needs

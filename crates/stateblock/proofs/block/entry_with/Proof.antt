@@ -1,8 +1,8 @@
 -- `entry_with` meets its contract.
-use Rattle.ts11.specs.Block.{entryWith}
+use Rattle.stateblock.specs.Block.{entryWith}
 use borrow.Author.Needs.{needs}
-use Rattle.ts11.proofs.block.entry_with.Statement.{statement}
-use Rattle.ts11.proofs.block.entry_with.Tie as tie
+use Rattle.stateblock.proofs.block.entry_with.Statement.{statement}
+use Rattle.stateblock.proofs.block.entry_with.Tie as tie
 
 returns : tie.Need-returns
 unfolding entryWith

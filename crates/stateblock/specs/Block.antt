@@ -10,6 +10,8 @@ use Rattle.lists.specs.Words.{Bytes}
 use Rattle.entries.specs.Numbers.{entryOf, nth, numbersOf}
 use Rattle.entries.specs.Bytes.{numbersBytes, headCount, headLength, headNumbers, numberAt, numberBytes}
 use Rattle.entries.specs.declared.Entry.{Entry}
+use Rattle.commands.specs.declared.plans.Answer.{Answer}
+use Rattle.commands.specs.declared.plans.Answer.the-variants as answer
 use Rattle.worlds.specs.declared.Session.{Session}
 
 -- a session as an entry that keeps no bytes, and back
@@ -70,3 +72,10 @@ pub record Block (b : List ℕ) : Type 0 where
   pub long : length b ≡ stateLength
   pub bytes : Bytes b
   pub right : isBlock b ≡ true
+
+-- the block after an answer: the new session's, or, idle or refused, the very bytes that it was
+unfoldable pub blockAfter : List ℕ → Answer → Session → List ℕ
+blockAfter b (answer.Done i) s = stateBlock s
+blockAfter b answer.Idle s = b
+blockAfter b (answer.Refused n) s = b
+blockAfter b (answer.BadBlock k) s = b

@@ -1,8 +1,8 @@
 -- `session_in` meets its contract: the block's numbers, read as a session.
-use Rattle.ts11.specs.Block.{sessionIn}
+use Rattle.stateblock.specs.Block.{sessionIn}
 use borrow.Author.Needs.{needs}
-use Rattle.ts11.proofs.block.session_in.Statement.{statement}
-use Rattle.ts11.proofs.block.session_in.Tie as tie
+use Rattle.stateblock.proofs.block.session_in.Statement.{statement}
+use Rattle.stateblock.proofs.block.session_in.Tie as tie
 
 head-at-requires : tie.Need-head-at-requires
 head-at-requires c κs = search needs

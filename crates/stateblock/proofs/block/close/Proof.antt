@@ -3,12 +3,12 @@ use mathlib.Core.Path.{_≡_, refl}
 use lib.ListN.{length}
 use denote.Ref.{now}
 use Rattle.commands.specs.Answers.{numberOf}
-use Rattle.ts11.specs.Block.{stateLength}
-use Rattle.ts11.specs.Given.{blockAfter}
-use Rattle.ts11.proofs.Written.{written}
+use Rattle.stateblock.specs.Block.{stateLength}
+use Rattle.stateblock.specs.Block.{blockAfter}
+use Rattle.stateblock.proofs.Written.{written}
 use borrow.Author.Needs.{needs}
-use Rattle.ts11.proofs.block.close.Statement.{statement}
-use Rattle.ts11.proofs.block.close.Tie as tie
+use Rattle.stateblock.proofs.block.close.Statement.{statement}
+use Rattle.stateblock.proofs.block.close.Tie as tie
 
 enum-told : tie.Need-enum-told
 enum-told c = search needs
