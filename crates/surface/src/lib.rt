@@ -1,7 +1,7 @@
 // The theorems of the exported calls, over the bytes that a host holds. No code: the calls' contracts (`Gives`, `Mounts` and `Reads` in
 // crates/ts11/src/calls.rt) say that each call gives what its definition says, and the theorems are about those definitions.
 //
-//   a session's block is read as that session                     block-back, block-is      crates/ts11/proofs/Blocks.antt
+//   a session's block is read as that session                     block-back, block-is      crates/stateblock/proofs/Blocks.antt
 //   a block's bytes are those of the session it is read as        block-own, same-block
 //   each exported call is the session's call of its name          given-step, given-register
 //                                                                                           proofs/Names.antt
