@@ -18,7 +18,7 @@ use Rattle.worlds.specs.Worlds.{Answered, World, answered, sessionOf}
 use Rattle.sessions.specs.Calling.{entryAt, step}
 use Rattle.sessions.specs.Rules.{Obeys, headerIn}
 
--- "With no command waiting and no attention that may go out" an advance is idle
+-- "Advance with no command waiting and no attention to send answers Idle after checks 1 to 4"; one is sent only while the unit owns the buffer
 abbrev pub Idle : Unit → Type 0
 Idle u = (u .registers .ssr ≡ true) × ((u .attention .pending && u .attention .«unit_owns») ≡ false)
 
