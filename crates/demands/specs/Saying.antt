@@ -7,6 +7,8 @@ use lib.Dec.{eqb, leb}
 use Rattle.signals.specs.Residuals.{residualWord}
 use Rattle.state.specs.declared.Unit.{Unit}
 use Rattle.motions.specs.declared.parts.Ending.{Ending}
+use Rattle.moves.specs.Counting.{countOf}
+use Rattle.moves.specs.declared.spacing.Count.{Count}
 use Rattle.moves.specs.declared.spacing.Rule.{Rule}
 use Rattle.advance.specs.Rules.{reverseFirst}
 use Rattle.demands.specs.Done.{plan, sentWord}
@@ -15,16 +17,19 @@ use Rattle.demands.specs.Ways.{header, packet}
 
 -- of an advance of the state u over memory m and reel s that carried out a Position mode 0 to 3
 module _ (u : Unit) (m s : List ℕ) where
-  -- which way, what is counted, and ESS; and whether the start counts as a mark (ENB, from block 0)
+  -- which way, and ESS; what is counted; and whether the start counts as a mark (ENB, from block 0)
   abbrev pub ruleAsked : Rule
-  ruleAsked = record { reverse = reverseFirst (header u m s); marks = leb 2 (header u m s .mode); ess = u .characteristics .ess }
+  ruleAsked = record { reverse = reverseFirst (header u m s); ess = u .characteristics .ess }
+
+  abbrev pub countAsked : Count
+  countAsked = countOf (leb 2 (header u m s .mode)) (packet u m s .count)
 
   abbrev pub markAtStart : Bool
   markAtStart = u .characteristics .enb && eqb (u .tape .position) 0
 
   pub record SpaceSays : Type 0 where
     pub ending : Ending
-    pub ended : SpaceEnded s (u .tape) ruleAsked (packet u m s .count) markAtStart ending
+    pub ended : SpaceEnded s (u .tape) ruleAsked countAsked markAtStart ending
     pub position : plan u m s .unit .tape .position ≡ ending .tape .position
     pub class : plan u m s .unit .registers .class ≡ ending .end .class
     -- residual, XST0 above its low byte, XST3
