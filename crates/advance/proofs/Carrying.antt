@@ -20,6 +20,8 @@ use Rattle.state.specs.declared.Characteristics.{Characteristics}
 use Rattle.state.specs.declared.Unit.{Unit}
 use Rattle.state.proofs.Legal.{buffer-right, legal-panel, legal-with}
 use Rattle.state.proofs.Tests.{either, neither}
+use Rattle.moves.specs.Counting.{marks, records}
+use Rattle.moves.specs.declared.spacing.Count.{Count}
 use Rattle.motions.specs.Parts.{end, resting, standing}
 use Rattle.motions.specs.declared.parts.Laid.{Laid}
 use Rattle.motions.specs.declared.parts.Motion.the-variants as motion
@@ -35,7 +37,7 @@ use Rattle.advance.proofs.Sound.{EndingFits, SoundPlan, motion-sound, n
 
 module _ (u : Unit) (l : Legal u) where
   -- a Read inside the recorded end is inside the reel
-  read-moves : (r : Buffer) → r .pointer + r .count ≤ u .lengths .memory → (x : Ending) → ReadFits (u .tape .end) r x → EndingFits (u .lengths) x
+  read-moves : (r : Buffer) → r .pointer + r .count .0 ≤ u .lengths .memory → (x : Ending) → ReadFits (u .tape .end) r x → EndingFits (u .lengths) x
   read-moves r h x f =
       record {
         place = f .place;
@@ -76,10 +78,10 @@ module _ (u : Unit) (l : Legal u) where
     reread-sound reverse k =
         motion-sound u l (h .ie) _ (λ x y. read-moves (asked h p) k x (reread-fits s (u .tape) (l .place) (asked h p) reverse (h .opp) y))
 
-    position-sound : (reverse marks : Bool) → SoundPlan u (positionedBy u s h p reverse marks)
-    unfolding positionedBy
-    position-sound reverse marks =
-        motion-sound u l (h .ie) _ (λ x y. space-moves x (space-fits s (u .tape) (l .place) _ (p .count) (u .characteristics .enb) y))
+  position-sound : (s : List ℕ) (h : Header) (count : Count) (reverse : Bool) → SoundPlan u (positionedBy u s h count reverse)
+  unfolding positionedBy
+  position-sound s h count reverse =
+      motion-sound u l (h .ie) _ (λ x y. space-moves x (space-fits s (u .tape) (l .place) _ count (u .characteristics .enb) y))
 
   -- a write, or a retry
   lay-moves : (s : List ℕ) (n : Laid) (mark again : Bool) → n .pointer + n .length ≤ u .lengths .memory → (x : Ending) → laying s (u .tape) (u .lengths .blocks) n mark again ≡ motion.Ended x → EndingFits (u .lengths) x
@@ -157,10 +159,10 @@ carried-sound u l m s h p e command.RereadNext k = reread-sound u l s h p false 
 carried-sound u l m s h p e command.WriteCharacteristics k = characterize-sound u l (h .ie) m p e
 carried-sound u l m s h p e command.Write k = write-sound u l s h p false (k refl)
 carried-sound u l m s h p e command.WriteRetry k = write-sound u l s h p true (k refl)
-carried-sound u l m s h p e command.RecordsForward k = position-sound u l s h p false false
-carried-sound u l m s h p e command.RecordsReverse k = position-sound u l s h p true false
-carried-sound u l m s h p e command.MarksForward k = position-sound u l s h p false true
-carried-sound u l m s h p e command.MarksReverse k = position-sound u l s h p true true
+carried-sound u l m s h p e command.RecordsForward k = position-sound u l s h (records (p .count)) false
+carried-sound u l m s h p e command.RecordsReverse k = position-sound u l s h (records (p .count)) true
+carried-sound u l m s h p e command.MarksForward k = position-sound u l s h (marks (p .count)) false
+carried-sound u l m s h p e command.MarksReverse k = position-sound u l s h (marks (p .count)) true
 carried-sound u l m s h p e command.Rewind k = rewind-sound u l (h .ie)
 carried-sound u l m s h p e command.WriteMark k = format-sound u l s h kind.Mark true false
 carried-sound u l m s h p e command.Erase k = format-sound u l s h kind.Gap false false

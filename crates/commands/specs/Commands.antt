@@ -19,6 +19,8 @@ use Rattle.state.specs.Checks.{bufferWrong}
 use Rattle.state.specs.declared.Unit.{Unit}
 use Rattle.state.specs.declared.Characteristics.{Characteristics}
 use Rattle.state.specs.declared.Tape.{Tape}
+use Rattle.moves.specs.Counting.{marks, records}
+use Rattle.moves.specs.declared.spacing.Count.{Count}
 use Rattle.motions.specs.Parts.{end, resting, standing, stops}
 use Rattle.motions.specs.Reads.{readOne, reread}
 use Rattle.motions.specs.Spaces.{positioned}
@@ -112,7 +114,7 @@ characterized u m p ie =
 
 -- what a Read asks for
 abbrev pub asked : Header → Packet → Buffer
-asked h p = record { pointer = p .pointer; count = p .count; swb = h .swb }
+asked h p = record { pointer = p .pointer; count = record { 0 = p .count }; swb = h .swb }
 
 unfoldable pub readBy : Unit → List ℕ → Header → Packet → Bool → Plan
 readBy u s h p reverse = motionPlan u (h .ie) (readOne s (u .tape) (asked h p) reverse)
@@ -121,12 +123,11 @@ unfoldable pub rereadBy : Unit → List ℕ → Header → Packet → Bool → P
 rereadBy u s h p reverse = motionPlan u (h .ie) (reread s (u .tape) (asked h p) reverse (h .opp))
 
 -- "In Marks with ESS .. or with ENB too"
-abbrev pub positioning : List ℕ → Tape → Characteristics → ℕ → Bool → Bool → Motion
-positioning s t c count reverse marks = positioned s t (record { reverse = reverse; marks = marks; ess = c .ess }) count (c .enb)
+abbrev pub positioning : List ℕ → Tape → Characteristics → Count → Bool → Motion
+positioning s t c count reverse = positioned s t (record { reverse = reverse; ess = c .ess }) count (c .enb)
 
-unfoldable pub positionedBy : Unit → List ℕ → Header → Packet → Bool → Bool → Plan
-positionedBy u s h p reverse marks =
-    motionPlan u (h .ie) (positioning s (u .tape) (u .characteristics) (p .count) reverse marks)
+unfoldable pub positionedBy : Unit → List ℕ → Header → Count → Bool → Plan
+positionedBy u s h count reverse = motionPlan u (h .ie) (positioning s (u .tape) (u .characteristics) count reverse)
 
 -- an object where the tape stands
 abbrev pub laidHere : Tape → ObjectKind → ℕ → ℕ → Bool → Laid
@@ -154,10 +155,10 @@ motionOf u s h p command.RereadPrevious = reread s (u .tape) (asked h p) true (h
 motionOf u s h p command.RereadNext = reread s (u .tape) (asked h p) false (h .opp)
 motionOf u s h p command.Write = laying s (u .tape) (u .lengths .blocks) (laidHere (u .tape) kind.Record (p .pointer) (p .count) (h .swb)) false false
 motionOf u s h p command.WriteRetry = laying s (u .tape) (u .lengths .blocks) (laidHere (u .tape) kind.Record (p .pointer) (p .count) (h .swb)) false true
-motionOf u s h p command.RecordsForward = positioning s (u .tape) (u .characteristics) (p .count) false false
-motionOf u s h p command.RecordsReverse = positioning s (u .tape) (u .characteristics) (p .count) true false
-motionOf u s h p command.MarksForward = positioning s (u .tape) (u .characteristics) (p .count) false true
-motionOf u s h p command.MarksReverse = positioning s (u .tape) (u .characteristics) (p .count) true true
+motionOf u s h p command.RecordsForward = positioning s (u .tape) (u .characteristics) (records (p .count)) false
+motionOf u s h p command.RecordsReverse = positioning s (u .tape) (u .characteristics) (records (p .count)) true
+motionOf u s h p command.MarksForward = positioning s (u .tape) (u .characteristics) (marks (p .count)) false
+motionOf u s h p command.MarksReverse = positioning s (u .tape) (u .characteristics) (marks (p .count)) true
 motionOf u s h p command.Rewind = stops plainEnd (standing 0 (u .tape .end))
 motionOf u s h p command.WriteMark = laying s (u .tape) (u .lengths .blocks) (laidHere (u .tape) kind.Mark 0 0 false) true false
 motionOf u s h p command.Erase = laying s (u .tape) (u .lengths .blocks) (laidHere (u .tape) kind.Gap 0 0 false) false false
@@ -182,10 +183,10 @@ carriedOut u m s h p command.RereadNext = rereadBy u s h p false
 carriedOut u m s h p command.WriteCharacteristics = characterized u m p (h .ie)
 carriedOut u m s h p command.Write = writtenBy u s h p false
 carriedOut u m s h p command.WriteRetry = writtenBy u s h p true
-carriedOut u m s h p command.RecordsForward = positionedBy u s h p false false
-carriedOut u m s h p command.RecordsReverse = positionedBy u s h p true false
-carriedOut u m s h p command.MarksForward = positionedBy u s h p false true
-carriedOut u m s h p command.MarksReverse = positionedBy u s h p true true
+carriedOut u m s h p command.RecordsForward = positionedBy u s h (records (p .count)) false
+carriedOut u m s h p command.RecordsReverse = positionedBy u s h (records (p .count)) true
+carriedOut u m s h p command.MarksForward = positionedBy u s h (marks (p .count)) false
+carriedOut u m s h p command.MarksReverse = positionedBy u s h (marks (p .count)) true
 carriedOut u m s h p command.Rewind = rewound u (h .ie)
 carriedOut u m s h p command.WriteMark = formatted u s h kind.Mark true false
 carriedOut u m s h p command.Erase = formatted u s h kind.Gap false false

@@ -13,11 +13,15 @@ use motions::reread_one;
 use motions::rest;
 use motions::retry;
 use motions::write_at;
+use moves::Count;
 use moves::Rule;
+use signals::ByteCount;
 use signals::Command;
 use signals::End;
 use signals::Header;
+use signals::MarkCount;
 use signals::Packet;
+use signals::RecordCount;
 use signals::Residual;
 use state::Characteristics;
 use state::Tape;
@@ -144,18 +148,17 @@ fn asked_buffer(h: Header, p: Packet) -> Buffer
 {
     Buffer {
         pointer: p.pointer,
-        count: p.count,
+        count: ByteCount(p.count),
         swb: h.swb,
     }
 }
 
-fn space(reel: &[u8], t: Tape, c: Characteristics, count: u16, reverse: bool, marks: bool) -> Motion
+fn space(reel: &[u8], t: Tape, c: Characteristics, count: Count, reverse: bool) -> Motion
     requires { ⌜ t .end ≤ capacityLimit ⌝ }
-    ensures { λ r. ⌜ r ≡ positioning (now (reel .entry)) t c count reverse marks ⌝ }
+    ensures { λ r. ⌜ r ≡ positioning (now (reel .entry)) t c count reverse ⌝ }
 {
     let rule = Rule {
         reverse,
-        marks,
         ess: c.ess,
     };
     position(reel, t, rule, count, c.enb)
@@ -194,6 +197,8 @@ fn move_tape(u: Unit, reel: &[u8], h: Header, p: Packet, c: Command) -> Motion
     let x = u.characteristics;
     let blocks = u.lengths.blocks;
     let buffer = asked_buffer(h, p);
+    let records = Count::Records(RecordCount(p.count));
+    let marks = Count::Marks(MarkCount(p.count));
     let record = lay_here(t, ObjectKind::Record, p.pointer, p.count, h.swb);
     let mark = lay_here(t, ObjectKind::Mark, 0, 0, false);
     let gap = lay_here(t, ObjectKind::Gap, 0, 0, false);
@@ -213,10 +218,10 @@ fn move_tape(u: Unit, reel: &[u8], h: Header, p: Packet, c: Command) -> Motion
         Command::WriteCharacteristics => Motion::Ended(here),
         Command::Write => lay(reel, t, blocks, record, false, false),
         Command::WriteRetry => lay(reel, t, blocks, record, false, true),
-        Command::RecordsForward => space(reel, t, x, p.count, false, false),
-        Command::RecordsReverse => space(reel, t, x, p.count, true, false),
-        Command::MarksForward => space(reel, t, x, p.count, false, true),
-        Command::MarksReverse => space(reel, t, x, p.count, true, true),
+        Command::RecordsForward => space(reel, t, x, records, false),
+        Command::RecordsReverse => space(reel, t, x, records, true),
+        Command::MarksForward => space(reel, t, x, marks, false),
+        Command::MarksReverse => space(reel, t, x, marks, true),
         Command::Rewind => Motion::Ended(start),
         Command::WriteMark => lay(reel, t, blocks, mark, true, false),
         Command::Erase => lay(reel, t, blocks, gap, false, false),

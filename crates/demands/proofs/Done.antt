@@ -42,16 +42,19 @@ use Rattle.signals.proofs.Messages.{length-words, xst0-sum}
 use Rattle.state.specs.declared.Tape.{Tape}
 use Rattle.state.specs.declared.Unit.{Unit}
 use Rattle.state.proofs.Tests.{either, neither}
+use Rattle.moves.specs.Counting.{countOf, numberOf, ofMarks}
 use Rattle.moves.specs.Seeking.{sought, soughtFrom, soughtOn}
-use Rattle.moves.specs.Spacing.{markTurn, recordTurn, span, spaced, stopped, turnOf}
+use Rattle.moves.specs.Spacing.{recordTurn, spaced, turnOf}
 use Rattle.moves.specs.declared.seeking.Sought.{Sought}
 use Rattle.moves.specs.declared.seeking.Sought.the-variants as sought-as
+use Rattle.moves.specs.declared.spacing.Count.{Count}
 use Rattle.moves.specs.declared.spacing.Rule.{Rule}
 use Rattle.moves.specs.declared.spacing.Span.{Span}
 use Rattle.moves.specs.declared.spacing.Stop.{Stop}
 use Rattle.moves.specs.declared.spacing.Stop.the-variants as stop-as
-use Rattle.moves.specs.declared.spacing.Turn.the-variants as turn-as
-use Rattle.moves.proofs.Rounds.{SpanHas, spaced-keeps}
+use Rattle.moves.proofs.Counting.{kind-asked, mark-number, mark-stops-number, number-asked, record-number}
+use Rattle.moves.proofs.Rounds.{spaced-keeps}
+use Rattle.moves.proofs.Turns.{Counts, SpanHas, mark-turns}
 use Rattle.motions.specs.Parts.{noLay, resting, standing}
 use Rattle.motions.specs.Reads.{firstBlock, markEnd, nothingEnd, onRecord, readEnd, readMotion, readOne, readThenSpace, reread, spaceBack, spaceThenRead, stageBy, stageOf, stopMotion}
 use Rattle.motions.specs.Spaces.{positioned, spaceMotion, spaceMotionBy, startSpan}
@@ -74,6 +77,7 @@ use Rattle.advance.specs.Steps.{advanced}
 use Rattle.advance.proofs.Planned.{advanced-seven}
 use Rattle.demands.specs.Done.{RunsOn, Gapped, ReadDone, ReadStops, Sent, SpaceDone, again, at-end, at-mark, at-once, at-record, behind-gap, not-run, passedIn, reads, way}
 use Rattle.demands.specs.Faults.{ReadOver, nothing-yet, then-gap, then-mark, then-record}
+use Rattle.demands.specs.Saying.{countAsked}
 use Rattle.demands.specs.Ways.{Fetched, Way, attention, bad-pointer, carried, ends, header, idle, locked, lost, no-buffer, no-extent, no-header, no-words, not-executable, not-mounted, not-owned, packet, started, unknown}
 use Rattle.demands.proofs.Faults.{sought-back}
 use Rattle.demands.proofs.ReadBack.{read-found}
@@ -274,11 +278,11 @@ module _ (u : Unit) (m s : List ℕ) where
 
   -- bytes from this place on that lie in the Read's buffer, and in memory
   abbrev pub Within : ℕ → List ℕ → Type 0
-  Within place l = (i : ℕ) → i < length l → (asks .pointer ≤ place + i) × (place + i < asks .pointer + asks .count) × (place + i < length m)
+  Within place l = (i : ℕ) → i < length l → (asks .pointer ≤ place + i) × (place + i < asks .pointer + asks .count .0) × (place + i < length m)
 
   -- and from the right place on: the first of the buffer, or for a read in reverse the one that lets them end with it
   abbrev Filled : ℕ → List ℕ → Type 0
-  Filled place l = place ≡ movedTo (reads u m s) (asks .pointer) (asks .count) (length l)
+  Filled place l = place ≡ movedTo (reads u m s) (asks .pointer) (asks .count .0) (length l)
 
   -- what an end of a Read stores of the reel, at which place; as many bytes as the count but for the residual
   record ReadAs (x : Ending) : Type 0 where
@@ -290,10 +294,10 @@ module _ (u : Unit) (m s : List ℕ) where
     within : Within place stored
     laid : x .laid ≡ noLay
     bytes : movedOn s (x .moved) m ≡ placed (asks .swb) m place stored
-    counted : length stored + residualWord (x .end .residual) ≡ asks .count
+    counted : length stored + residualWord (x .end .residual) ≡ asks .count .0
 
   -- an end that moves nothing and gives the whole count
-  rests-as : (x : End) (t : Tape) → ReadStops u m s [] (x .class) (x .found) (x .xst3) (t .position) → Upper (x .found) → residualWord (x .residual) ≡ asks .count → ReadAs (resting x t)
+  rests-as : (x : End) (t : Tape) → ReadStops u m s [] (x .class) (x .found) (x .xst3) (t .position) → Upper (x .found) → residualWord (x .residual) ≡ asks .count .0 → ReadAs (resting x t)
   unfolding movedOn readInto movedBytes placed
   rests-as x t y up z =
       record { stored = []; ends-so = y; upper = up; place = _; filled = refl; within = λ i l. absurd (omega arith); laid = refl; bytes = refl; counted = omega (arith, z) }
@@ -330,31 +334,31 @@ module _ (u : Unit) (m s : List ℕ) where
   stage-by (sought-as.Bad k) c a z = tt
 
   -- a record that is moved: read either way, from its first block p on
-  moves-as : (reverse : Bool) (n b p : ℕ) (t : Tape) (rev : Bool) → asks .pointer + asks .count ≤ length m → reads u m s ≡ reverse → firstBlock reverse n b ≡ p → Standing s n p
-      → ReadStops u m s (movedBytes reverse (asks .count) (recordBytes s p n)) (pick (eqb n (asks .count)) 0 2) (flagOf (ltb n (asks .count)) RLS + flagOf (ltb (asks .count) n) RLL) (flagOf rev REV) (t .position)
+  moves-as : (reverse : Bool) (n b p : ℕ) (t : Tape) (rev : Bool) → asks .pointer + asks .count .0 ≤ length m → reads u m s ≡ reverse → firstBlock reverse n b ≡ p → Standing s n p
+      → ReadStops u m s (movedBytes reverse (asks .count .0) (recordBytes s p n)) (pick (eqb n (asks .count .0)) 0 2) (flagOf (ltb n (asks .count .0)) RLS + flagOf (ltb (asks .count .0) n) RLL) (flagOf rev REV) (t .position)
       → Has ReadAs (readMotion asks reverse n b t rev)
   unfolding readMotion readEnd movedOn readInto
   moves-as reverse n b p t rev fits go first k y =
       let d : List ℕ = recordBytes s p n in
       record {
-        stored = movedBytes reverse (asks .count) d;
+        stored = movedBytes reverse (asks .count .0) d;
         ends-so = y;
-        upper = upper-length (ltb n (asks .count)) (ltb (asks .count) n);
-        place = movedTo reverse (asks .pointer) (asks .count) (length d);
-        filled = rw go (place-some reverse (asks .pointer) (asks .count) (length d) _ (length-some reverse (asks .count) d));
+        upper = upper-length (ltb n (asks .count .0)) (ltb (asks .count .0) n);
+        place = movedTo reverse (asks .pointer) (asks .count .0) (length d);
+        filled = rw go (place-some reverse (asks .pointer) (asks .count .0) (length d) _ (length-some reverse (asks .count .0) d));
         laid = refl;
         bytes = rw first;
-        within = λ i l. let at = chosen-place reverse (asks .pointer) (asks .count) (length d) i (omega (arith, length-some reverse (asks .count) d)) in (at .0, at .1, omega (arith, at .1));
-        counted = omega (arith, length-some reverse (asks .count) d, stands-long s n p k);
+        within = λ i l. let at = chosen-place reverse (asks .pointer) (asks .count .0) (length d) i (omega (arith, length-some reverse (asks .count .0) d)) in (at .0, at .1, omega (arith, at .1));
+        counted = omega (arith, length-some reverse (asks .count .0) d, stands-long s n p k);
       }
 
   -- what `at-record` says, by the order and the ways of the stages
   record-so : (reverse rev : Bool) (b : ℕ) {n t : ℕ} (x : Passed n t) → reads u m s ≡ reverse → pick (again u m s) (not (way u m s)) (way u m s) ≡ rev → pick (again u m s) (x .from) t ≡ b
-      → ReadStops u m s (movedBytes reverse (asks .count) (recordBytes s (lowest (way u m s) (x .from) (piecesOf n)) n)) (pick (eqb n (asks .count)) 0 2) (flagOf (ltb n (asks .count)) RLS + flagOf (ltb (asks .count) n) RLL) (flagOf rev REV) b
+      → ReadStops u m s (movedBytes reverse (asks .count .0) (recordBytes s (lowest (way u m s) (x .from) (piecesOf n)) n)) (pick (eqb n (asks .count .0)) 0 2) (flagOf (ltb n (asks .count .0)) RLS + flagOf (ltb (asks .count .0) n) RLL) (flagOf rev REV) b
   record-so reverse rev b x i j k = rw (← i, ← j, ← k) (at-record (x .ran) (x .gapped) (x .met-as))
 
   -- from inside the recorded part, with the data in memory (step 10 let it pass)
-  module _ (inside : u .tape .position ≤ u .tape .end) (ran : RunsOn u m s) (fits : asks .pointer + asks .count ≤ length m) where
+  module _ (inside : u .tape .position ≤ u .tape .end) (ran : RunsOn u m s) (fits : asks .pointer + asks .count .0 ≤ length m) where
     -- what goes on from the first stage
     goes-on : (f : ℕ → ℕ → Motion) → ((n t : ℕ) → Passed n t → Has ReadAs (f n t)) → Has ReadAs (onRecord (stageOf s (u .tape) (asks .count) (way u m s)) f)
     unfolding stageOf
@@ -477,7 +481,7 @@ read-way h mode y z = simp (y, z, or-false)
 
 module _ (u : Unit) (m s : List ℕ) (inside : u .tape .position ≤ u .tape .end) (code : header u m s .code ≡ 1) where
   -- a Read by its mode: every mode that is known reads
-  mode-told : RunsOn u m s → asks u m s .pointer + asks u m s .count ≤ length m → isIllegal (readMode (header u m s .mode)) ≡ false
+  mode-told : RunsOn u m s → asks u m s .pointer + asks u m s .count .0 ≤ length m → isIllegal (readMode (header u m s .mode)) ≡ false
       → Sends u m s (carriedOut (started u m s) m s (header u m s) (packet u m s) (readMode (header u m s .mode)))
       → ReadTold u m s (carriedOut (started u m s) m s (header u m s) (packet u m s) (readMode (header u m s .mode)))
   unfolding readMode isIllegal carriedOut readBy rereadBy
@@ -530,69 +534,66 @@ read-done u m s inside f code sent =
     }
 
 -- a space on the reel s recorded up to e, from p on: objects were read over up to q, and those that count and what is left make up the count
-module _ (s : List ℕ) (e : ℕ) (reverse : Bool) (p count : ℕ) where
-  abbrev Past : Bool → ℕ → ℕ → Type 0
-  Past marks q left = (o : ReadOver s e reverse p q) × (passedIn marks o + left ≡ count)
+module _ (s : List ℕ) (e : ℕ) (reverse : Bool) (p count : ℕ) (marks : Bool) where
+  abbrev Past : ℕ → ℕ → Type 0
+  Past q left = (o : ReadOver s e reverse p q) × (passedIn marks o + left ≡ count)
 
-  abbrev SpanPast : Bool → Span → Type 0
-  SpanPast marks y = Past marks (y .position) (y .left)
+  abbrev SpanPast : Span → Type 0
+  SpanPast y = Past (y .position) (numberOf (y .left))
 
   -- nothing is read over yet, and all of the count is left
-  past-none : (marks : Bool) (left : ℕ) → left ≡ count → Past marks p left
+  past-none : (left : ℕ) → left ≡ count → Past p left
   unfolding passedIn
-  past-none marks left y = (nothing-yet, omega arith)
+  past-none left y = (nothing-yet, omega arith)
 
   -- a gap does not count
-  past-gap : (marks : Bool) (left q t : ℕ) → Past marks q left → passed s reverse q e ≡ met.Gap t → Past marks t left
+  past-gap : (left q t : ℕ) → Past q left → passed s reverse q e ≡ met.Gap t → Past t left
   unfolding passedIn
-  past-gap marks left q t (o, c) g = (then-gap o g, c)
+  past-gap left q t (o, c) g = (then-gap o g, c)
 
   -- a record counts, unless marks do
-  past-record : (marks : Bool) (y : Span) (n q t : ℕ) (tmk : Bool) → (y .left ≡ 0 → ⊥) → Past marks q (y .left) → passed s reverse q e ≡ met.Record n t
-      → SpanHas (SpanPast marks) (pick marks (turn-as.On (span t (y .left) tmk false)) (turn-as.On (span t (y .left - 1) tmk false)))
+  past-record : (left less q t n : ℕ) → Past q left → passed s reverse q e ≡ met.Record n t → pick marks 0 1 + less ≡ left → Past t less
   unfolding passedIn
-  past-record true y n q t tmk some (o, c) g = (then-record o g, omega arith)
-  past-record false y n q t tmk some (o, c) g = (then-record o g, omega arith)
+  past-record left less q t n (o, c) g d = (then-record o g, omega arith)
 
-  -- a mark counts where marks do, and ends records
-  past-mark : (marks both : Bool) (y : Span) (q t : ℕ) → (y .left ≡ 0 → ⊥) → Past marks q (y .left) → passed s reverse q e ≡ met.Mark t
-      → SpanHas (SpanPast marks)
-      (pick marks
-      (pick both (turn-as.Over (stopped stop-as.LogicalEnd (span t (y .left - 1) true true))) (turn-as.On (span t (y .left - 1) true true)))
-      (turn-as.Over (stopped stop-as.Mark (span t (y .left) true true))))
+  -- a mark counts where marks do
+  past-mark : (left less q t : ℕ) → Past q left → passed s reverse q e ≡ met.Mark t → pick marks 1 0 + less ≡ left → Past t less
   unfolding passedIn
-  past-mark true both y q t some (o, c) g =
-      let past : Past true t (y .left - 1) = (then-mark o g, omega arith) in
-      either (SpanHas (SpanPast true)) both _ _ past past
-  past-mark false both y q t some (o, c) g = (then-mark o g, omega arith)
+  past-mark left less q t (o, c) g d = (then-mark o g, omega arith)
 
 -- a space or a skip by the rule r
-module _ (s : List ℕ) (e : ℕ) (r : Rule) (p count : ℕ) where
+module _ (s : List ℕ) (e : ℕ) (r : Rule) (p : ℕ) (count : Count) where
+  abbrev CountPast : ℕ → ℕ → Type 0
+  CountPast = Past s e (r .reverse) p (numberOf count) (ofMarks count)
+
   abbrev RulePast : Span → Type 0
-  RulePast = SpanPast s e (r .reverse) p count (r .marks)
+  RulePast = SpanPast s e (r .reverse) p (numberOf count) (ofMarks count)
+
+  abbrev FoundPast : ℕ → Sought → Type 0
+  FoundPast left = Found s e (r .reverse) (λ q. CountPast q left) (past-gap s e (r .reverse) p (numberOf count) (ofMarks count) left)
 
   -- each turn, by what its search found
-  turn-past : (y : Span) (f : Sought) → RulePast y → (y .left ≡ 0 → ⊥)
-      → Found s e (r .reverse) (λ q. Past s e (r .reverse) p count (r .marks) q (y .left)) (past-gap s e (r .reverse) p count (r .marks) (y .left)) f
-      → SpanHas RulePast (turnOf r y f)
-  unfolding turnOf recordTurn markTurn
-  turn-past y (sought-as.Record n t) before some (q, a, g) = past-record s e (r .reverse) p count (r .marks) y n q t (y .tmk) some a g
-  turn-past y (sought-as.Mark t) before some (q, a, g) = past-mark s e (r .reverse) p count (r .marks) (r .ess && y .«after_mark») y q t some a g
-  turn-past y (sought-as.Nothing t) before some a = a
-  turn-past y (sought-as.Bad k) before some a = before
+  turn-past : (y : Span) (f : Sought) → Counts (ofMarks count) y → RulePast y → (numberOf (y .left) ≡ 0 → ⊥) → FoundPast (numberOf (y .left)) f → SpanHas RulePast (turnOf r y f)
+  unfolding turnOf recordTurn
+  turn-past y (sought-as.Record n t) k before some (q, a, g) =
+      past-record s e (r .reverse) p (numberOf count) (ofMarks count) _ _ q t n a g (rw k at (record-number (y .left) some))
+  turn-past y (sought-as.Mark t) k before some (q, a, g) =
+      let past : (less : ℕ) → pick (ofMarks (y .left)) 1 0 + less ≡ numberOf (y .left) → CountPast t less = λ less d. past-mark s e (r .reverse) p (numberOf count) (ofMarks count) _ less q t a g (rw k at d) in
+      mark-turns (SpanHas RulePast) r y t (λ n w. past _ (mark-stops-number n w)) (λ n w b. past _ (mark-number n w some)) (λ n w b. past _ (mark-number n w some))
+  turn-past y (sought-as.Nothing t) k before some a = a
+  turn-past y (sought-as.Bad n) k before some a = before
 
   -- so where a space ends
-  spaced-past : (x : Span) → RulePast x → RulePast (spaced s r e x .span)
-  spaced-past x =
-      spaced-keeps s r e RulePast
-      (λ y a some.
-      turn-past y _ a some
-      (found s e (r .reverse) (λ q. Past s e (r .reverse) p count (r .marks) q (y .left)) (past-gap s e (r .reverse) p count (r .marks) (y .left)) (y .position) a))
-      x
+  spaced-past : (x : Span) → Counts (ofMarks count) x → RulePast x → RulePast (spaced s r e x .span)
+  spaced-past x same =
+      spaced-keeps s r e RulePast x
+      (λ y k a some.
+      turn-past y _ (k ∙ same) a some
+      (found s e (r .reverse) (λ q. CountPast q (numberOf (y .left))) (past-gap s e (r .reverse) p (numberOf count) (ofMarks count) (numberOf (y .left))) (y .position) a))
 
   -- an end of a Position: the objects that it read over, and the residual that it tells
   abbrev EndPast : Ending → Type 0
-  EndPast x = Past s e (r .reverse) p count (r .marks) (x .tape .position) (residualWord (x .end .residual))
+  EndPast x = CountPast (x .tape .position) (residualWord (x .end .residual))
 
   space-past : (x : Span) (stop : Stop) → RulePast x → Has EndPast (spaceMotionBy r x e stop)
   unfolding spaceMotionBy
@@ -603,20 +604,20 @@ module _ (s : List ℕ) (e : ℕ) (r : Rule) (p count : ℕ) where
   space-past x (stop-as.Bad k) a = tt
 
 -- "A Position count of 0 moves nothing"; any other reads over objects from where the tape stands
-position-past : (s : List ℕ) (t : Tape) (r : Rule) (count : ℕ) (enb : Bool) → Has (EndPast s (t .end) r (t .position) count) (positioned s t r count enb)
+position-past : (s : List ℕ) (t : Tape) (r : Rule) (count : Count) (enb : Bool) → Has (EndPast s (t .end) r (t .position) count) (positioned s t r count enb)
 unfolding positioned spaceMotion
 position-past s t r count enb =
-    let x : Span = startSpan t count enb in
-    pick-told (Has (EndPast s (t .end) r (t .position) count)) (eqb count 0) _ _
-    (λ z. past-none s (t .end) (r .reverse) (t .position) count (r .marks) _ (residual-word (r .marks) 0 ∙ sym (eqb-true count 0 z)))
-    (λ z. space-past s (t .end) r (t .position) count _ _ (spaced-past s (t .end) r (t .position) count x (past-none s (t .end) (r .reverse) (t .position) count (r .marks) count refl)))
+    let none : (left : ℕ) → left ≡ numberOf count → CountPast s (t .end) r (t .position) count (t .position) left = past-none s (t .end) (r .reverse) (t .position) (numberOf count) (ofMarks count) in
+    pick-told (Has (EndPast s (t .end) r (t .position) count)) (eqb (numberOf count) 0) _ _
+    (λ z. none _ (residual-word count))
+    (λ z. space-past s (t .end) r (t .position) count _ _ (spaced-past s (t .end) r (t .position) count (startSpan t count enb) refl (none (numberOf count) refl)))
 
 -- code 8 is a Position: modes 0 to 3 go one way or the other, over records or marks, and an end of steps 8 to 10 gives their whole count
 pub position-command : (code mode : ℕ) → code ≡ 8 → commandOf code mode ≡ positionMode mode
 unfolding commandOf
 position-command code mode y = rw y
 
-pub position-mode : (v : Unit) (m s : List ℕ) (h : Header) (x : Packet) (mode : ℕ) → mode < 4 → carriedOut v m s h x (positionMode mode) ≡ positionedBy v s h x (eqb mode 1 || eqb mode 3) (leb 2 mode)
+pub position-mode : (v : Unit) (m s : List ℕ) (h : Header) (x : Packet) (mode : ℕ) → mode < 4 → carriedOut v m s h x (positionMode mode) ≡ positionedBy v s h (countOf (leb 2 mode) (x .count)) (eqb mode 1 || eqb mode 3)
 unfolding positionMode carriedOut
 position-mode v m s h x zero l = refl
 position-mode v m s h x (suc zero) l = refl
@@ -633,36 +634,36 @@ position-whole h count y l = rw (y, lt-ltb (h .mode) 4 l) (either (λ (x : Resid
 
 module _ (u : Unit) (m s : List ℕ) where
   -- of a plan, what `SpaceDone` says of the advance
-  abbrev SpaceTold : Bool → Bool → Plan → Type 0
-  SpaceTold reverse marks x =
-      Past s (u .tape .end) reverse (u .tape .position) (packet u m s .count) marks (x .unit .tape .position) (wordAt (memoryAfter x m s) (x .unit .characteristics .address + 4))
+  abbrev SpaceTold : Bool → Count → Plan → Type 0
+  SpaceTold reverse count x =
+      Past s (u .tape .end) reverse (u .tape .position) (numberOf count) (ofMarks count) (x .unit .tape .position) (wordAt (memoryAfter x m s) (x .unit .characteristics .address + 4))
 
-  space-told : (reverse marks : Bool) (v : Unit) (ie : Bool) (x : Ending)
-      → Past s (u .tape .end) reverse (u .tape .position) (packet u m s .count) marks (x .tape .position) (residualWord (x .end .residual)) → Sends u m s (told v ie x)
-      → SpaceTold reverse marks (told v ie x)
+  space-told : (reverse : Bool) (count : Count) (v : Unit) (ie : Bool) (x : Ending)
+      → Past s (u .tape .end) reverse (u .tape .position) (numberOf count) (ofMarks count) (x .tape .position) (residualWord (x .end .residual)) → Sends u m s (told v ie x)
+      → SpaceTold reverse count (told v ie x)
   unfolding told toldUnit ended
-  space-told reverse marks v ie x (o, c) (t, room) = (o, rw (told-word v ie x m s t room) c)
+  space-told reverse count v ie x (o, c) (t, room) = (o, rw (told-word v ie x m s t room) c)
 
   -- a Position either way, over records or marks
-  position-told : (reverse marks : Bool) → Sends u m s (positionedBy (started u m s) s (header u m s) (packet u m s) reverse marks)
-      → SpaceTold reverse marks (positionedBy (started u m s) s (header u m s) (packet u m s) reverse marks)
+  position-told : (reverse : Bool) (count : Count) → Sends u m s (positionedBy (started u m s) s (header u m s) count reverse)
+      → SpaceTold reverse count (positionedBy (started u m s) s (header u m s) count reverse)
   unfolding positionedBy
-  position-told reverse marks =
-      motion-sends u m s (SpaceTold reverse marks) _ (started u m s) (header u m s .ie) (space-told reverse marks (started u m s) (header u m s .ie)) _
-      (position-past s (u .tape) (record { reverse = reverse; marks = marks; ess = u .characteristics .ess }) (packet u m s .count) (u .characteristics .enb))
+  position-told reverse count =
+      motion-sends u m s (SpaceTold reverse count) _ (started u m s) (header u m s .ie) (space-told reverse count (started u m s) (header u m s .ie)) _
+      (position-past s (u .tape) (record { reverse = reverse; ess = u .characteristics .ess }) count (u .characteristics .enb))
 
-  space-ran : header u m s .code ≡ 8 → header u m s .mode < 4 → {x : Plan} → Ran u m s x → Sends u m s x → SpaceTold (reverseFirst (header u m s)) (leb 2 (header u m s .mode)) x
-  space-ran code few (ended-before class shown up not) = space-told _ _ _ _ _ (past-none s _ _ _ _ _ _ (position-whole (header u m s) (packet u m s .count) code few))
+  space-ran : header u m s .code ≡ 8 → header u m s .mode < 4 → {x : Plan} → Ran u m s x → Sends u m s x → SpaceTold (reverseFirst (header u m s)) (countAsked u m s) x
+  space-ran code few (ended-before class shown up not) =
+      let whole = position-whole (header u m s) (packet u m s .count) code few ∙ sym (number-asked (leb 2 (header u m s .mode)) (packet u m s .count)) in
+      space-told _ (countAsked u m s) _ _ _ (past-none s _ _ _ _ _ _ whole)
   space-ran code few (run a) =
       let h : Header = header u m s in
-      let reverse : Bool = reverseFirst h in
-      let marks : Bool = leb 2 (h .mode) in
-      let by : Bool → Plan = λ b. positionedBy (started u m s) s h (packet u m s) b marks in
-      let is : carriedOut (started u m s) m s h (packet u m s) (commandOf (h .code) (h .mode)) ≡ by reverse = ap (carriedOut (started u m s) m s h (packet u m s)) (position-command (h .code) (h .mode) code) ∙ position-mode (started u m s) m s h (packet u m s) (h .mode) few ∙ ap by (sym (position-reverse h code)) in
-      subst (λ (x : Plan). Sends u m s x → SpaceTold reverse marks x) (sym is) (position-told reverse marks)
+      let by : Bool → Plan = λ b. positionedBy (started u m s) s h (countAsked u m s) b in
+      let is : carriedOut (started u m s) m s h (packet u m s) (commandOf (h .code) (h .mode)) ≡ by (reverseFirst h) = ap (carriedOut (started u m s) m s h (packet u m s)) (position-command (h .code) (h .mode) code) ∙ position-mode (started u m s) m s h (packet u m s) (h .mode) few ∙ ap by (sym (position-reverse h code)) in
+      subst (λ (x : Plan). Sends u m s x → SpaceTold (reverseFirst h) (countAsked u m s) x) (sym is) (position-told (reverseFirst h) (countAsked u m s))
 
   -- "records or marks for Position modes 0 to 3": of every such Position that was fetched and whose message went out
   pub space-done : Fetched u m s → header u m s .code ≡ 8 → header u m s .mode < 4 → Sent u m s → SpaceDone u m s (advanced u m s .unit) (memoryAfter (advanced u m s) m s)
   space-done f code few sent =
-      let past : SpaceTold (reverseFirst (header u m s)) (leb 2 (header u m s .mode)) (advanced u m s) = space-ran code few (fetched-ran u m s f (advanced-way u m s)) (sent .sends, sent .inside) in
-      record { over = past .0; counted = past .1 }
+      let past : SpaceTold (reverseFirst (header u m s)) (countAsked u m s) (advanced u m s) = space-ran code few (fetched-ran u m s f (advanced-way u m s)) (sent .sends, sent .inside) in
+      record { over = past .0; counted = rw (kind-asked (leb 2 (header u m s .mode)) (packet u m s .count), number-asked (leb 2 (header u m s .mode)) (packet u m s .count)) at (past .1) }

@@ -28,21 +28,26 @@ use Rattle.signals.specs.Codes.{commandOf, controlMode, formatMode, positionMod
 use Rattle.signals.specs.Numbers.{pointerLimit}
 use Rattle.signals.specs.declared.codes.Command.{Command}
 use Rattle.signals.specs.declared.codes.Command.the-variants as command
+use Rattle.signals.specs.declared.counts.ByteCount.{ByteCount}
 use Rattle.signals.specs.declared.packet.Header.{Header}
 use Rattle.signals.specs.declared.packet.Packet.{Packet}
 use Rattle.state.specs.Checks.{bufferWrong}
 use Rattle.state.specs.declared.Tape.{Tape}
 use Rattle.state.specs.declared.Unit.{Unit}
+use Rattle.state.proofs.Tests.{either}
+use Rattle.moves.specs.Counting.{numberOf, ofMarks}
 use Rattle.moves.specs.Seeking.{sought, soughtFrom, soughtOn}
-use Rattle.moves.specs.Spacing.{markTurn, recordTurn, spaced, turnOf}
+use Rattle.moves.specs.Spacing.{recordTurn, spaced, turnOf}
 use Rattle.moves.specs.declared.seeking.Sought.{Sought}
 use Rattle.moves.specs.declared.seeking.Sought.the-variants as sought-as
+use Rattle.moves.specs.declared.spacing.Count.{Count}
 use Rattle.moves.specs.declared.spacing.Rule.{Rule}
 use Rattle.moves.specs.declared.spacing.Span.{Span}
 use Rattle.moves.specs.declared.spacing.Stop.{Stop}
 use Rattle.moves.specs.declared.spacing.Stop.the-variants as stop-as
 use Rattle.moves.specs.declared.spacing.Turn.{Turn}
-use Rattle.moves.proofs.Rounds.{TurnHas, either, rounds}
+use Rattle.moves.proofs.Rounds.{rounds}
+use Rattle.moves.proofs.Turns.{TurnHas, mark-turns}
 use Rattle.motions.specs.Parts.{laidBlocks, standing}
 use Rattle.motions.specs.Reads.{onRecord, readMotion, readOne, readThenSpace, reread, spaceBack, spaceThenRead, stageBy, stageOf, stopMotion}
 use Rattle.motions.specs.Spaces.{positioned, spaceMotion, spaceMotionBy, startSpan}
@@ -392,9 +397,9 @@ module _ (s : List ℕ) (e : ℕ) (reverse : Bool) where
 
   -- each turn of a space leads over what its search read
   turn-over : (p : ℕ) (r : Rule) (y : Span) (f : Sought) → SoughtOver p f → TurnOver p (turnOf r y f)
-  unfolding turnOf recordTurn markTurn
-  turn-over p r y (sought-as.Record n q) (b, a, z) = either (TurnOver p) (r .marks) _ _ (then-record a z) (then-record a z)
-  turn-over p r y (sought-as.Mark q) o = either (TurnOver p) (r .marks) _ _ (either (TurnOver p) (r .ess && y .«after_mark») _ _ tt o) tt
+  unfolding turnOf recordTurn
+  turn-over p r y (sought-as.Record n q) (b, a, z) = then-record a z
+  turn-over p r y (sought-as.Mark q) o = mark-turns (TurnOver p) r y q (λ n c. tt) (λ n c w. tt) (λ n c w. o)
   turn-over p r y (sought-as.Nothing q) o = tt
   turn-over p r y (sought-as.Bad k) o = o
 
@@ -408,11 +413,11 @@ module _ (s : List ℕ) (e : ℕ) where
   unfolding spaced
   space-over r x h =
       let reverse : Bool = r .reverse in
-      rounds s r e (λ turns y. ReadOver s e reverse (x .position) (y .position)) (λ z. StopOver s e reverse (x .position) (z .stop))
-      (λ turns y o n.
+      rounds s r e (ofMarks (x .left)) (λ turns y. ReadOver s e reverse (x .position) (y .position)) (λ z. StopOver s e reverse (x .position) (z .stop))
+      (λ turns y k o n.
       let found : Sought = sought s reverse (y .position) e in
       turn-over s e reverse (x .position) r y found (sought-behind s e reverse o found (sought-over s e reverse (over-below s e reverse h o))))
-      (λ turns y o w. tt) (e + 1) x nothing-yet
+      (λ turns y o w. tt) (e + 1) x refl nothing-yet
 
   -- a space names the first block at fault ahead of it
   pub spaced-first : (r : Rule) (x : Span) (k : ℕ) → spaced s r e x .stop ≡ stop-as.Bad k → x .position ≤ e → FirstFault s e (r .reverse) (x .position) k
@@ -454,7 +459,7 @@ module _ (s : List ℕ) (e : ℕ) (reverse : Bool) where
   StageOver p = StageHas (MotionOver p) (RecordOver s e reverse p)
 
   -- by what the stage's search found
-  stage-by : (p count : ℕ) (f : Sought) → SoughtOver s e reverse p f → StageOver p (stageBy (standing p e) count reverse f)
+  stage-by : (p : ℕ) (count : ByteCount) (f : Sought) → SoughtOver s e reverse p f → StageOver p (stageBy (standing p e) count reverse f)
   unfolding stageBy stopMotion
   stage-by p count (sought-as.Record n q) o = o
   stage-by p count (sought-as.Mark q) o = tt
@@ -522,11 +527,11 @@ module _ (s : List ℕ) (t : Tape) where
     again-over : (r : Buffer) (reverse opp : Bool) → TapeOver reverse (reread s t r reverse opp)
     again-over r reverse opp = reread-over s (t .end) reverse r (t .position) opp h
 
-    position-over : (r : Rule) (count : ℕ) (enb : Bool) → TapeOver (r .reverse) (positioned s t r count enb)
+    position-over : (r : Rule) (count : Count) (enb : Bool) → TapeOver (r .reverse) (positioned s t r count enb)
     unfolding positioned spaceMotion
     position-over r count enb =
         let x : Span = startSpan t count enb in
-        either (TapeOver (r .reverse)) (eqb count 0) _ _ tt
+        either (TapeOver (r .reverse)) (eqb (numberOf count) 0) _ _ tt
         (space-by s (t .end) (r .reverse) (t .position) r (spaced s r (t .end) x .span) (spaced s r (t .end) x .stop) (space-over s (t .end) r x h))
 
     retry-over : (blocks : ℕ) (l : Laid) (mark : Bool) → TapeOver true (retried s t blocks l mark)
@@ -541,7 +546,7 @@ module _ (s : List ℕ) (t : Tape) where
   pub reread-first : (r : Buffer) (reverse opp : Bool) (k : ℕ) → reread s t r reverse opp ≡ motion.Fault k → t .position ≤ t .end → FirstFault s (t .end) reverse (t .position) k
   reread-first r reverse opp k y h = rw y at (again-over h r reverse opp)
 
-  pub positioned-first : (r : Rule) (count : ℕ) (enb : Bool) (k : ℕ) → positioned s t r count enb ≡ motion.Fault k → t .position ≤ t .end → FirstFault s (t .end) (r .reverse) (t .position) k
+  pub positioned-first : (r : Rule) (count : Count) (enb : Bool) (k : ℕ) → positioned s t r count enb ≡ motion.Fault k → t .position ≤ t .end → FirstFault s (t .end) (r .reverse) (t .position) k
   positioned-first r count enb k y h = rw y at (position-over h r count enb)
 
   pub retried-first : (blocks : ℕ) (l : Laid) (mark : Bool) (k : ℕ) → retried s t blocks l mark ≡ motion.Fault k → t .position ≤ t .end → FirstFault s (t .end) true (t .position) k

@@ -14,6 +14,7 @@ use Rattle.state.proofs.Tests.{either}
 use Rattle.moves.specs.Seeking.{sought}
 use Rattle.moves.specs.declared.seeking.Sought.{Sought}
 use Rattle.moves.specs.declared.seeking.Sought.the-variants as sought-as
+use Rattle.moves.specs.declared.spacing.Count.{Count}
 use Rattle.moves.specs.declared.spacing.Rule.{Rule}
 use Rattle.motions.specs.Parts.{laidBlocks, noLay}
 use Rattle.motions.specs.Reads.{readOne, reread}
@@ -53,7 +54,7 @@ module _ (s m : List ℕ) where
     pub read-keeps-reel : (r : Buffer) (reverse opp : Bool) → (readOne s t r reverse ≡ motion.Ended x) ⊎ (reread s t r reverse opp ≡ motion.Ended x) → laidOn s m (x .laid) ≡ s
     read-keeps-reel r reverse opp y = rw (read-fits s t h r reverse opp y .unlaid) none-laid
 
-    pub space-keeps-reel : (r : Rule) (count : ℕ) (enb : Bool) → positioned s t r count enb ≡ motion.Ended x → laidOn s m (x .laid) ≡ s
+    pub space-keeps-reel : (r : Rule) (count : Count) (enb : Bool) → positioned s t r count enb ≡ motion.Ended x → laidOn s m (x .laid) ≡ s
     space-keeps-reel r count enb y = rw (space-fits s t h r count enb y .unlaid) none-laid
 
   module _ (t : Tape) (blocks : ℕ) where

@@ -15,6 +15,8 @@ use Rattle.signals.specs.Message.{flagOf}
 use Rattle.signals.specs.Residuals.{residualWord}
 use Rattle.state.specs.declared.Tape.{Tape}
 use Rattle.motions.specs.declared.parts.Ending.{Ending}
+use Rattle.moves.specs.Counting.{numberOf, ofMarks}
+use Rattle.moves.specs.declared.spacing.Count.{Count}
 use Rattle.moves.specs.declared.spacing.Rule.{Rule}
 use Rattle.demands.specs.Done.{passedIn}
 use Rattle.demands.specs.Stops.{Goes, Over, SpaceEnded, SpaceRefused, Stopped, at-bot, at-logical-end, at-recorded-end, by-mark, from-start, markPassed, past-gap, past-mark, past-record, satisfied, sinceMark}
@@ -58,18 +60,18 @@ halts-is (halts y) = true
 halts-is faults = false
 
 -- a Position from the tape t on the reel s
-module _ (s : List ℕ) (t : Tape) (rule : Rule) (count : ℕ) where
+module _ (s : List ℕ) (t : Tape) (rule : Rule) (count : Count) where
   abbrev left-at : Place → ℕ
-  left-at x = count - x .done
+  left-at x = numberOf count - x .done
 
   -- by what is met
   abbrev onMet : Place → Met → Next
-  onMet x (met.Record n b) = goes-on (place b (x .done + pick (rule .marks) 0 1) (x .tmk) false)
+  onMet x (met.Record n b) = goes-on (place b (x .done + pick (ofMarks count) 0 1) (x .tmk) false)
   onMet x (met.Gap b) = goes-on (place b (x .done) (x .tmk) (x .after))
   onMet x (met.Mark b) =
       let l : ℕ = left-at x - 1 in
-      pick (rule .marks)
-      (pick (rule .ess && x .after) (halts (tells b l 2 (TMK + LET + flagOf (not (eqb l 0)) RLS) (flagOf (rule .reverse) REV))) (goes-on (place b (x .done + pick (rule .marks) 1 0) true true)))
+      pick (ofMarks count)
+      (pick (rule .ess && x .after) (halts (tells b l 2 (TMK + LET + flagOf (not (eqb l 0)) RLS) (flagOf (rule .reverse) REV))) (goes-on (place b (x .done + pick (ofMarks count) 1 0) true true)))
       (halts (tells b (left-at x) 2 (TMK + RLS) (flagOf (rule .reverse) REV)))
   onMet x met.Nothing =
       pick (rule .reverse)
@@ -82,7 +84,7 @@ module _ (s : List ℕ) (t : Tape) (rule : Rule) (count : ℕ) where
 
   -- one object further, while some of the count is left
   abbrev next : Place → Next
-  next x = pick (ltb (x .done) count) (onMet x (metAhead x)) (halts (tells (x .at) 0 0 (flagOf (x .tmk) TMK) (flagOf (rule .reverse) REV)))
+  next x = pick (ltb (x .done) (numberOf count)) (onMet x (metAhead x)) (halts (tells (x .at) 0 0 (flagOf (x .tmk) TMK) (flagOf (rule .reverse) REV)))
 
   abbrev onward-is : Next → Bool
   onward-is (goes-on y) = true
@@ -107,11 +109,11 @@ module _ (s : List ℕ) (t : Tape) (rule : Rule) (count : ℕ) where
   one-last {z₂ = z₂} (later {y = y} a l) (later b k) = one-last l (subst (Leads z₂) (ap (λ n. place-of n y) (sym b ∙ a)) k)
 
   -- the next object decides, while some of the count is left
-  next-met : (x : Place) (m : Met) → x .done < count → metAhead x ≡ m → next x ≡ onMet x m
-  next-met x m h y = rw (lt-ltb (x .done) count h, y)
+  next-met : (x : Place) (m : Met) → x .done < numberOf count → metAhead x ≡ m → next x ≡ onMet x m
+  next-met x m h y = rw (lt-ltb (x .done) (numberOf count) h, y)
 
   -- a mark that is counted
-  mark-on : (x : Place) (b : ℕ) → rule .marks ≡ true → (rule .ess && x .after) ≡ false → onMet x (met.Mark b) ≡ goes-on (place b (x .done + pick (rule .marks) 1 0) true true)
+  mark-on : (x : Place) (b : ℕ) → ofMarks count ≡ true → (rule .ess && x .after) ≡ false → onMet x (met.Mark b) ≡ goes-on (place b (x .done + pick (ofMarks count) 1 0) true true)
   mark-on x b z w = rw (z, w)
 
   -- where nothing lies ahead nothing is met
@@ -120,35 +122,35 @@ module _ (s : List ℕ) (t : Tape) (rule : Rule) (count : ℕ) where
   none-ahead reverse q h = rw (eq-eqb (ahead reverse q (t .end)) 0 h)
 
   -- the five ends, with so much left
-  done-halts : (x : Place) (left : ℕ) → left ≡ 0 → x .done + left ≡ count → next x ≡ halts (tells (x .at) left 0 (flagOf (x .tmk) TMK) (flagOf (rule .reverse) REV))
-  done-halts x left z c = rw (le-ltb (x .done) count (omega arith), z)
+  done-halts : (x : Place) (left : ℕ) → left ≡ 0 → x .done + left ≡ numberOf count → next x ≡ halts (tells (x .at) left 0 (flagOf (x .tmk) TMK) (flagOf (rule .reverse) REV))
+  done-halts x left z c = rw (le-ltb (x .done) (numberOf count) (omega arith), z)
 
-  mark-halts : (x : Place) (b left : ℕ) → rule .marks ≡ false → x .done + left ≡ count → onMet x (met.Mark b) ≡ halts (tells b left 2 (TMK + RLS) (flagOf (rule .reverse) REV))
+  mark-halts : (x : Place) (b left : ℕ) → ofMarks count ≡ false → x .done + left ≡ numberOf count → onMet x (met.Mark b) ≡ halts (tells b left 2 (TMK + RLS) (flagOf (rule .reverse) REV))
   mark-halts x b left z c =
-      let l : count - x .done ≡ left = omega arith in
+      let l : numberOf count - x .done ≡ left = omega arith in
       rw (z, l)
 
-  logical-halts : (x : Place) (b left : ℕ) → rule .marks ≡ true → (rule .ess && x .after) ≡ true → x .done + 1 + left ≡ count
+  logical-halts : (x : Place) (b left : ℕ) → ofMarks count ≡ true → (rule .ess && x .after) ≡ true → x .done + 1 + left ≡ numberOf count
       → onMet x (met.Mark b) ≡ halts (tells b left 2 (TMK + LET + flagOf (not (eqb left 0)) RLS) (flagOf (rule .reverse) REV))
   logical-halts x b left z w c =
-      let l : count - x .done - 1 ≡ left = omega arith in
+      let l : numberOf count - x .done - 1 ≡ left = omega arith in
       rw (z, w, l)
 
-  bot-halts : (x : Place) (left : ℕ) → rule .reverse ≡ true → x .done + left ≡ count
+  bot-halts : (x : Place) (left : ℕ) → rule .reverse ≡ true → x .done + left ≡ numberOf count
       → onMet x met.Nothing ≡ halts (tells (x .at) left 2 (flagOf (x .tmk) TMK + flagOf (not (eqb left 0)) RLS) (REV + RIB))
   bot-halts x left z c =
-      let l : count - x .done ≡ left = omega arith in
+      let l : numberOf count - x .done ≡ left = omega arith in
       rw (z, l)
 
-  recorded-halts : (x : Place) (left : ℕ) → rule .reverse ≡ false → x .done + left ≡ count → onMet x met.Nothing ≡ halts (tells (x .at) left 6 (flagOf (x .tmk) TMK) OPI)
+  recorded-halts : (x : Place) (left : ℕ) → rule .reverse ≡ false → x .done + left ≡ numberOf count → onMet x met.Nothing ≡ halts (tells (x .at) left 6 (flagOf (x .tmk) TMK) OPI)
   recorded-halts x left z c =
-      let l : count - x .done ≡ left = omega arith in
+      let l : numberOf count - x .done ≡ left = omega arith in
       rw (z, l)
 
   module _ (first : Bool) where
     -- behind the objects read over
     abbrev behind : (q : ℕ) → Over s t rule count first q → Place
-    behind q r = place q (passedIn (rule .marks) r) (markPassed r) (sinceMark first r)
+    behind q r = place q (passedIn (ofMarks count) r) (markPassed r) (sinceMark first r)
 
     -- what they lead to, the start leads to
     goes-leads : {z : Next} {q : ℕ} {r : Over s t rule count first q} → Goes rule count first q r → Leads z (behind q r) → Leads z (place (t .position) 0 false first)
@@ -159,15 +161,15 @@ module _ (s : List ℕ) (t : Tape) (rule : Rule) (count : ℕ) where
     goes-leads (past-mark {q = q} {r = r} {x = x} h z w g) l = goes-leads g (later (next-met (behind q r) _ h x ∙ mark-on (behind q r) _ z w) l)
 
     -- and each reason is where it ends
-    why-leads : {left q class found xst3 : ℕ} {r : Over s t rule count first q} → passedIn (rule .marks) r + left ≡ count → Stopped s t rule count first left q r class found xst3
+    why-leads : {left q class found xst3 : ℕ} {r : Over s t rule count first q} → passedIn (ofMarks count) r + left ≡ numberOf count → Stopped s t rule count first left q r class found xst3
         → Leads (halts (tells q left class found xst3)) (place (t .position) 0 false first)
     unfolding passedIn
     why-leads c (satisfied {q = q} {r = r} g z) = goes-leads g (now (done-halts (behind q r) _ z c) refl)
     why-leads {left = left} c (by-mark {q = q} {r = r} {x = x} g h z) =
-        let none : pick {A = ℕ} (rule .marks) 1 0 ≡ 0 = rw z in
+        let none : pick {A = ℕ} (ofMarks count) 1 0 ≡ 0 = rw z in
         goes-leads g (now (next-met (behind q r) _ h x ∙ mark-halts (behind q r) _ left z (omega (arith, none, c))) refl)
     why-leads {left = left} c (at-logical-end {q = q} {r = r} {x = x} g h z w) =
-        let one : pick {A = ℕ} (rule .marks) 1 0 ≡ 1 = rw z in
+        let one : pick {A = ℕ} (ofMarks count) 1 0 ≡ 1 = rw z in
         goes-leads g (now (next-met (behind q r) _ h x ∙ logical-halts (behind q r) _ left z w (omega (arith, one, c))) refl)
     why-leads c (at-bot {q = q} {r = r} g h z a) = goes-leads g (now (next-met (behind q r) met.Nothing h (rw z (none-ahead true q a)) ∙ bot-halts (behind q r) _ z c) refl)
     why-leads c (at-recorded-end {q = q} {r = r} g h z a) =

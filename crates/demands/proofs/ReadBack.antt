@@ -51,7 +51,7 @@ whole-moved true swb m d pointer =
 whole-moved false swb m d pointer = rw (take-all (length d) d (omega arith))
 
 -- a record that stands at block p
-module _ (s d : List ℕ) (p e : ℕ) (r : Buffer) (a : Allowed (record-of d)) (h : StandsAt s p (record-of d)) (room : p + piecesOf (length d) ≤ e) (asks : r .count ≡ length d) where
+module _ (s d : List ℕ) (p e : ℕ) (r : Buffer) (a : Allowed (record-of d)) (h : StandsAt s p (record-of d)) (room : p + piecesOf (length d) ≤ e) (asks : r .count .0 ≡ length d) where
   gave : (reverse : Bool) (q : ℕ) → firstBlock reverse (length d) q ≡ p → GivesAll s r d q (readMotion r reverse (length d) q (standing q e) reverse)
   unfolding readMotion readEnd movedOn
   gave reverse q first = (
@@ -113,7 +113,7 @@ module _ (s m : List ℕ) (l : Laid) (o : l .object ≡ kind.Record) (some : 1 �
       (omega (arith, its-blocks, blocks-after-gap l g)))
       (λ g. stands-over s (l .at) refl (laid-alone l s _ m g refl) (omega (arith, its-blocks, blocks-alone l g)))
 
-  module _ (r : Buffer) (asks : r .count ≡ l .length) where
+  module _ (r : Buffer) (asks : r .count .0 ≡ l .length) where
     -- "Read 1 / 0 next": forward from its first block, with either SWB and to any address
     pub written-forward : GivesAll (laidOn s m l) r (written m l) (writtenEnd l) (readOne (laidOn s m l) (standing (writtenAtBlock l) (writtenEnd l)) r false)
     written-forward =

@@ -15,9 +15,12 @@ use Rattle.signals.specs.declared.message.End.{End}
 use Rattle.state.specs.declared.Tape.{Tape}
 use Rattle.state.proofs.Tests.{either}
 use Rattle.moves.specs.Between.{Between, Bound, countIn}
+use Rattle.moves.specs.Counting.{numberOf, ofMarks}
 use Rattle.moves.specs.Spacing.{spaced}
 use Rattle.moves.specs.declared.seeking.Sought.{Sought}
 use Rattle.moves.specs.declared.seeking.Sought.the-variants as sought-as
+use Rattle.moves.specs.declared.spacing.Count.{Count}
+use Rattle.moves.specs.declared.spacing.Count.the-variants as count-as
 use Rattle.moves.specs.declared.spacing.Rule.{Rule}
 use Rattle.moves.specs.declared.spacing.Span.{Span}
 use Rattle.moves.specs.declared.spacing.Spaced.{Spaced}
@@ -40,7 +43,7 @@ use Rattle.demands.specs.Spacing.{SpacedPast}
 -- the bytes that a Read moved and its residual
 module _ (r : Buffer) where
   abbrev Adds : Ending → Type 0
-  Adds x = movedLength (x .moved) + residualWord (x .end .residual) ≡ r .count
+  Adds x = movedLength (x .moved) + residualWord (x .end .residual) ≡ r .count .0
 
   record-adds : (reverse : Bool) (n q : ℕ) (t : Tape) (rev : Bool) → Has Adds (readMotion r reverse n q t rev)
   unfolding readMotion readEnd movedLength
@@ -97,29 +100,29 @@ module _ (r : Buffer) where
 
 module _ (s : List ℕ) (t : Tape) (r : Buffer) (reverse : Bool) {x : Ending} where
   -- "The residual counts bytes for Read"
-  pub read-residual : readOne s t r reverse ≡ motion.Ended x → movedLength (x .moved) + residualWord (x .end .residual) ≡ r .count
+  pub read-residual : readOne s t r reverse ≡ motion.Ended x → movedLength (x .moved) + residualWord (x .end .residual) ≡ r .count .0
   read-residual y = rw y at (one-adds r s t reverse)
 
   -- "A mark, BOT or end in the first stage ends it, residual as if nothing moved."
-  pub reread-residual : (opp : Bool) → reread s t r reverse opp ≡ motion.Ended x → movedLength (x .moved) + residualWord (x .end .residual) ≡ r .count
+  pub reread-residual : (opp : Bool) → reread s t r reverse opp ≡ motion.Ended x → movedLength (x .moved) + residualWord (x .end .residual) ≡ r .count .0
   reread-residual opp y = rw y at (reread-adds r s t reverse opp)
 
 -- the number in a Position's residual
-pub residual-word : (marks : Bool) (n : ℕ) → residualWord (residualOf marks n) ≡ n
+pub residual-word : (c : Count) → residualWord (residualOf c) ≡ numberOf c
 unfolding residualOf
-residual-word true n = refl
-residual-word false n = refl
+residual-word (count-as.Records n) = refl
+residual-word (count-as.Marks n) = refl
 
 -- every end of a space tells what is left, and class 0 only where the count is exhausted
 module _ (r : Rule) (x : Span) where
-  pub left-told : (stop : Stop) → residualWord (spaceEnd r x stop .residual) ≡ x .left
+  pub left-told : (stop : Stop) → residualWord (spaceEnd r x stop .residual) ≡ numberOf (x .left)
   unfolding spaceEnd
-  left-told stop-as.Count = residual-word (r .marks) (x .left)
-  left-told stop-as.Mark = residual-word (r .marks) (x .left)
-  left-told stop-as.LogicalEnd = residual-word (r .marks) (x .left)
+  left-told stop-as.Count = residual-word (x .left)
+  left-told stop-as.Mark = residual-word (x .left)
+  left-told stop-as.LogicalEnd = residual-word (x .left)
   left-told stop-as.Nothing =
-      either (λ (y : End). residualWord (y .residual) ≡ x .left) (r .reverse) _ _ (residual-word (r .marks) (x .left)) (residual-word (r .marks) (x .left))
-  left-told (stop-as.Bad k) = residual-word (r .marks) (x .left)
+      either (λ (y : End). residualWord (y .residual) ≡ numberOf (x .left)) (r .reverse) _ _ (residual-word (x .left)) (residual-word (x .left))
+  left-told (stop-as.Bad k) = residual-word (x .left)
 
   class-told : (stop : Stop) → ((k : ℕ) → stop ≡ stop-as.Bad k → ⊥) → spaceEnd r x stop .class ≡ 0 → stop ≡ stop-as.Count
   unfolding spaceEnd
@@ -129,16 +132,16 @@ module _ (r : Rule) (x : Span) where
   class-told stop-as.Nothing n c = absurd (either (λ (y : End). y .class ≡ 0 → ⊥) (r .reverse) _ _ (λ z. omega arith) (λ z. omega arith) c)
   class-told (stop-as.Bad k) n c = absurd (n k refl)
 
-module _ {s : List ℕ} {os : List Object} (t : Tape) (h : Holds s (t .end) os) (b : Bound os (t .position)) (r : Rule) (count : ℕ) where
+module _ {s : List ℕ} {os : List Object} (t : Tape) (h : Holds s (t .end) os) (b : Bound os (t .position)) (r : Rule) (count : Count) where
   -- "A Position count of 0 moves nothing, class 0"
-  none-asked : eqb count 0 ≡ true → Has (SpacedPast os r (t .position) count) (stops (end 0 0 0 (residualOf (r .marks) 0)) t)
+  none-asked : eqb (numberOf count) 0 ≡ true → Has (SpacedPast os r (t .position) count) (stops (end 0 0 0 (residualOf count)) t)
   unfolding countIn
   none-asked e =
       record {
         mid = [];
         between = stays (r .reverse) b;
-        counted = omega (arith, residual-word (r .marks) 0, eqb-true count 0 e);
-        whole = λ c. residual-word (r .marks) 0;
+        counted = omega (arith, residual-word count);
+        whole = λ c. residual-word count ∙ eqb-true (numberOf count) 0 e;
       }
 
   module _ (enb : Bool) where
@@ -170,16 +173,16 @@ module _ {s : List ℕ} {os : List Object} (t : Tape) (h : Holds s (t .end) os) 
 
     passes : Has (SpacedPast os r (t .position) count) (positioned s t r count enb)
     unfolding positioned spaceMotion
-    passes = pick-told (Has (SpacedPast os r (t .position) count)) (eqb count 0) _ _ none-asked (λ e. motion-by (spaces .stop) refl)
+    passes = pick-told (Has (SpacedPast os r (t .position) count)) (eqb (numberOf count) 0) _ _ none-asked (λ e. motion-by (spaces .stop) refl)
 
     module _ {x : Ending} (y : positioned s t r count enb ≡ motion.Ended x) where
       passed-as : SpacedPast os r (t .position) count x
       passed-as = rw y at passes
 
       -- "records or marks for Position modes 0 to 3": those between the two positions and the residual make up the count asked
-      pub space-residual : (mid : List Object) × Between os (r .reverse) (t .position) (x .tape .position) mid × (countIn (r .marks) mid + residualWord (x .end .residual) ≡ count)
+      pub space-residual : (mid : List Object) × Between os (r .reverse) (t .position) (x .tape .position) mid × (countIn (ofMarks count) mid + residualWord (x .end .residual) ≡ numberOf count)
       space-residual = (passed-as .mid, passed-as .between, passed-as .counted)
 
       -- a space that ends with class 0 passed all that was asked
-      pub space-whole : x .end .class ≡ 0 → (mid : List Object) × Between os (r .reverse) (t .position) (x .tape .position) mid × (countIn (r .marks) mid ≡ count)
+      pub space-whole : x .end .class ≡ 0 → (mid : List Object) × Between os (r .reverse) (t .position) (x .tape .position) mid × (countIn (ofMarks count) mid ≡ numberOf count)
       space-whole c = (passed-as .mid, passed-as .between, omega (arith, passed-as .counted, passed-as .whole c))

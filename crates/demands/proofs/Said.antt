@@ -13,7 +13,9 @@ use Rattle.signals.specs.Residuals.{residualWord}
 use Rattle.signals.specs.declared.packet.Header.{Header}
 use Rattle.state.specs.declared.Tape.{Tape}
 use Rattle.state.specs.declared.Unit.{Unit}
+use Rattle.moves.specs.declared.spacing.Count.{Count}
 use Rattle.moves.specs.declared.spacing.Rule.{Rule}
+use Rattle.moves.proofs.Counting.{number-asked}
 use Rattle.motions.proofs.Ends.{Has}
 use Rattle.motions.specs.Spaces.{positioned}
 use Rattle.motions.specs.declared.parts.Ending.{Ending}
@@ -26,7 +28,7 @@ use Rattle.storing.specs.Stored.{memoryAfter}
 use Rattle.advance.specs.Rules.{reverseFirst}
 use Rattle.advance.specs.Steps.{advanced}
 use Rattle.demands.specs.Done.{RunsOn, Sent}
-use Rattle.demands.specs.Saying.{SpaceSays, markAtStart}
+use Rattle.demands.specs.Saying.{SpaceSays, countAsked, markAtStart}
 use Rattle.demands.specs.Stops.{Over, SpaceEnded, Stopped, at-bot, at-logical-end, at-recorded-end, by-mark, markPassed, satisfied}
 use Rattle.demands.specs.Ways.{carried, header, packet, started}
 use Rattle.demands.proofs.Done.{Sends, Upper, motion-sends, position-command, position-mode, position-reverse, told-found, told-word, told-xst3}
@@ -49,7 +51,7 @@ upper-alone true = (refl, omega arith)
 upper-alone false = (refl, omega arith)
 
 -- and an end of a Position shows no more than these
-upper-stopped : {s : List ℕ} {t : Tape} {rule : Rule} {count : ℕ} {first : Bool} {left q : ℕ} {r : Over s t rule count first q} {class found xst3 : ℕ} → Stopped s t rule count first left q r class found xst3 → Upper found
+upper-stopped : {s : List ℕ} {t : Tape} {rule : Rule} {count : Count} {first : Bool} {left q : ℕ} {r : Over s t rule count first q} {class found xst3 : ℕ} → Stopped s t rule count first left q r class found xst3 → Upper found
 upper-stopped (satisfied {r = r} g z) = upper-alone (markPassed r)
 upper-stopped (by-mark g more x) = (refl, omega arith)
 upper-stopped {left = left} (at-logical-end g more x y) = upper-end (not (eqb left 0))
@@ -64,7 +66,7 @@ has-by Q (motion.Fault k) f = tt
 module _ (u : Unit) (m s : List ℕ) where
   -- the ending of a Position by a rule, and of a plan, what `SpaceSays` says of the advance
   abbrev EndedBy : Rule → Ending → Type 0
-  EndedBy rule x = SpaceEnded s (u .tape) rule (packet u m s .count) (markAtStart u m s) x
+  EndedBy rule x = SpaceEnded s (u .tape) rule (countAsked u m s) (markAtStart u m s) x
 
   record SaysBy (rule : Rule) (q : Plan) : Type 0 where
     ending : Ending
@@ -89,21 +91,22 @@ module _ (u : Unit) (m s : List ℕ) where
       }
 
   abbrev byRule : Bool → Rule
-  byRule reverse = record { reverse = reverse; marks = leb 2 (header u m s .mode); ess = u .characteristics .ess }
+  byRule reverse = record { reverse = reverse; ess = u .characteristics .ess }
 
   -- a Position either way
-  position-says : (reverse : Bool) → u .tape .position ≤ u .tape .end → eqb (packet u m s .count) 0 ≡ false → Sends u m s (positionedBy (started u m s) s (header u m s) (packet u m s) reverse (leb 2 (header u m s .mode)))
-      → SaysBy (byRule reverse) (positionedBy (started u m s) s (header u m s) (packet u m s) reverse (leb 2 (header u m s .mode)))
+  position-says : (reverse : Bool) → u .tape .position ≤ u .tape .end → eqb (packet u m s .count) 0 ≡ false → Sends u m s (positionedBy (started u m s) s (header u m s) (countAsked u m s) reverse)
+      → SaysBy (byRule reverse) (positionedBy (started u m s) s (header u m s) (countAsked u m s) reverse)
   unfolding positionedBy
   position-says reverse inside some =
+      let asked = rw (← number-asked (leb 2 (header u m s .mode)) (packet u m s .count)) at some in
       motion-sends u m s (SaysBy (byRule reverse)) (EndedBy (byRule reverse)) (started u m s) (header u m s .ie) (says (byRule reverse) (started u m s) (header u m s .ie)) _
-      (has-by (EndedBy (byRule reverse)) _ (λ x e. space-ended s (u .tape) (byRule reverse) (packet u m s .count) (u .characteristics .enb) x inside some e))
+      (has-by (EndedBy (byRule reverse)) _ (λ x e. space-ended s (u .tape) (byRule reverse) (countAsked u m s) (u .characteristics .enb) x inside asked e))
 
   -- of every Position mode 0 to 3 with a count that was carried out and whose message went out
   pub space-says : u .tape .position ≤ u .tape .end → RunsOn u m s → header u m s .code ≡ 8 → header u m s .mode < 4 → eqb (packet u m s .count) 0 ≡ false → Sent u m s → SpaceSays u m s (advanced u m s .unit) (memoryAfter (advanced u m s) m s)
   space-says inside (runs, room) code few some sent =
       let h : Header = header u m s in
-      let by : Bool → Plan = λ b. positionedBy (started u m s) s h (packet u m s) b (leb 2 (h .mode)) in
+      let by : Bool → Plan = λ b. positionedBy (started u m s) s h (countAsked u m s) b in
       let is : advanced u m s ≡ by (reverseFirst h) = advanced-is u m s (carried runs room) ∙ ap (carriedOut (started u m s) m s h (packet u m s)) (position-command (h .code) (h .mode) code) ∙ position-mode (started u m s) m s h (packet u m s) (h .mode) few ∙ ap by (sym (position-reverse h code)) in
       let k : SaysBy (byRule (reverseFirst h)) (advanced u m s) = subst (λ (x : Plan). Sends u m s x → SaysBy (byRule (reverseFirst h)) x) (sym is) (position-says (reverseFirst h) inside some) (sent .sends, sent .inside) in
       record { ending = k .ending; ended = k .is-ended; position = k .position; class = k .class; residual = k .residual; found = k .found; xst3 = k .xst3 }

@@ -1,9 +1,10 @@
 -- Why a Position mode 0 to 3 stopped: each turn of its space keeps what was read over, and the last one says why.
 use mathlib.Core.Bool.{Bool, true, false, _&&_}
 use mathlib.Core.List.{List}
-use mathlib.Core.Path.{_≡_, refl}
+use mathlib.Core.Path.{_≡_, refl, sym, ap, _∙_}
 use Prim.Native.Nat.{ℕ, zero, suc, _+_, _-_, _<_, _≤_}
 use native.Mathlib.Omega.{arith}
+use borrow.Author.Tests.{eq-eqb}
 use lib.Dec.{eqb}
 use Rattle.lists.specs.Pick.{pick}
 use Rattle.lists.proofs.Cases.{pick-told}
@@ -13,18 +14,23 @@ use Rattle.tape.specs.declared.Met.the-variants as met
 use Rattle.tape.proofs.Within.{Onward, PassIn, fewer-ahead, pass-in}
 use Rattle.signals.specs.declared.message.End.{End}
 use Rattle.state.specs.declared.Tape.{Tape}
+use Rattle.moves.specs.Counting.{marks, numberOf, ofMarks}
 use Rattle.moves.specs.Seeking.{sought, soughtFrom, soughtOn}
-use Rattle.moves.specs.Spacing.{markTurn, recordTurn, span, spaced, turnOf}
+use Rattle.moves.specs.Spacing.{recordTurn, span, spaced, turnOf}
 use Rattle.moves.specs.declared.seeking.Sought.{Sought}
 use Rattle.moves.specs.declared.seeking.Sought.the-variants as sought-as
+use Rattle.moves.specs.declared.spacing.Count.{Count}
+use Rattle.moves.specs.declared.spacing.Count.the-variants as count-as
 use Rattle.moves.specs.declared.spacing.Rule.{Rule}
 use Rattle.moves.specs.declared.spacing.Span.{Span}
 use Rattle.moves.specs.declared.spacing.Stop.{Stop}
 use Rattle.moves.specs.declared.spacing.Stop.the-variants as stop-as
 use Rattle.moves.specs.declared.spacing.Turn.{Turn}
+use Rattle.moves.proofs.Counting.{mark-number, mark-stops-number, record-number}
 use Rattle.moves.proofs.Counts.{spaced-why}
 use Rattle.moves.proofs.Finds.{ahead-most}
-use Rattle.moves.proofs.Rounds.{TurnHas, rounds}
+use Rattle.moves.proofs.Rounds.{rounds}
+use Rattle.moves.proofs.Turns.{Counts, TurnHas, mark-turns}
 use Rattle.motions.specs.Parts.{end, resting, standing, stops}
 use Rattle.motions.specs.Spaces.{positioned, residualOf, spaceEnd, spaceMotion, spaceMotionBy, startSpan}
 use Rattle.motions.specs.declared.parts.Ending.{Ending}
@@ -70,20 +76,20 @@ more : {done left count : ℕ} → (left ≡ 0 → ⊥) → done + left ≡ coun
 more some y = omega arith
 
 -- a Position from the tape t on the reel s
-module _ (s : List ℕ) (t : Tape) (rule : Rule) (count : ℕ) (first : Bool) where
+module _ (s : List ℕ) (t : Tape) (rule : Rule) (count : Count) (first : Bool) where
   -- what a turn knows, at position q with so much left: the objects read over, and what the span keeps of them
   record Kept (q left : ℕ) (tmk after : Bool) : Type 0 where
     over : Over s t rule count first q
     goes : Goes rule count first q over
     marked : markPassed over ≡ tmk
     since : sinceMark first over ≡ after
-    adds : passedIn (rule .marks) over + left ≡ count
+    adds : passedIn (ofMarks count) over + left ≡ numberOf count
 
   abbrev KeptAt : Span → Type 0
-  KeptAt y = Kept (y .position) (y .left) (y .tmk) (y .«after_mark»)
+  KeptAt y = Kept (y .position) (numberOf (y .left)) (y .tmk) (y .«after_mark»)
 
   -- before the first turn
-  kept-none : Kept (t .position) count false first
+  kept-none : Kept (t .position) (numberOf count) false first
   unfolding passedIn markPassed sinceMark
   kept-none = record { over = nothing-yet; goes = from-start; marked = refl; since = refl; adds = omega arith }
 
@@ -94,100 +100,95 @@ module _ (s : List ℕ) (t : Tape) (rule : Rule) (count : ℕ) (first : Bool) wh
 
   -- a record, counted or not
   kept-record : (left less : ℕ) (tmk after : Bool) (q b n : ℕ) → Kept q left tmk after → passed s (rule .reverse) q (t .end) ≡ met.Record n b → (left ≡ 0 → ⊥)
-      → pick (rule .marks) 0 1 + less ≡ left → Kept b less tmk false
+      → pick (ofMarks count) 0 1 + less ≡ left → Kept b less tmk false
   unfolding passedIn markPassed sinceMark
   kept-record left less tmk after q b n k g some l =
       record { over = then-record (k .over) g; goes = past-record (more some (k .adds)) (k .goes); marked = k .marked; since = refl; adds = omega (arith, k .adds, l) }
 
   -- a mark that is counted and does not end it
-  kept-mark : (left : ℕ) (tmk after : Bool) (q b : ℕ) → Kept q left tmk after → passed s (rule .reverse) q (t .end) ≡ met.Mark b → (left ≡ 0 → ⊥)
-      → rule .marks ≡ true → (rule .ess && after) ≡ false → Kept b (left - 1) true true
+  kept-mark : (left less : ℕ) (tmk after : Bool) (q b : ℕ) → Kept q left tmk after → passed s (rule .reverse) q (t .end) ≡ met.Mark b → (left ≡ 0 → ⊥)
+      → ofMarks count ≡ true → (rule .ess && after) ≡ false → pick (ofMarks count) 1 0 + less ≡ left → Kept b less true true
   unfolding passedIn markPassed sinceMark
-  kept-mark left tmk after q b k g some z w =
-      let one : pick {A = ℕ} (rule .marks) 1 0 ≡ 1 = rw z in
-      record { over = then-mark (k .over) g; goes = past-mark {r = k .over} (more some (k .adds)) z (rw (k .since) w) (k .goes); marked = refl; since = refl; adds = omega (arith, k .adds, one) }
+  kept-mark left less tmk after q b k g some z w l =
+      record { over = then-mark (k .over) g; goes = past-mark {r = k .over} (more some (k .adds)) z (rw (k .since) w) (k .goes); marked = refl; since = refl; adds = omega (arith, k .adds, l) }
 
   -- an end from position q with so much left
   record Ends (q left : ℕ) (x : End) : Type 0 where
     over : Over s t rule count first q
-    counted : passedIn (rule .marks) over + left ≡ count
+    counted : passedIn (ofMarks count) over + left ≡ numberOf count
     why : Stopped s t rule count first left q over (x .class) (x .found) (x .xst3)
 
   -- the count is satisfied
-  ends-count : (y : Span) → KeptAt y → y .left ≡ 0 → Ends (y .position) (y .left) (spaceEnd rule y stop-as.Count)
+  ends-count : (y : Span) → KeptAt y → numberOf (y .left) ≡ 0 → Ends (y .position) (numberOf (y .left)) (spaceEnd rule y stop-as.Count)
   unfolding spaceEnd
   ends-count y k z = record { over = k .over; counted = k .adds; why = rw (← k .marked) (satisfied (k .goes) z) }
 
   -- a mark ends records
-  ends-mark : (left : ℕ) (tmk after : Bool) (q b : ℕ) → Kept q left tmk after → passed s (rule .reverse) q (t .end) ≡ met.Mark b → (left ≡ 0 → ⊥) → rule .marks ≡ false
-      → Ends b left (spaceEnd rule (span b left true true) stop-as.Mark)
+  ends-mark : (left : ℕ) (less : Count) (tmk after : Bool) (q b : ℕ) → Kept q left tmk after → passed s (rule .reverse) q (t .end) ≡ met.Mark b → (left ≡ 0 → ⊥)
+      → ofMarks count ≡ false → pick (ofMarks count) 1 0 + numberOf less ≡ left → Ends b (numberOf less) (spaceEnd rule (span b less true true) stop-as.Mark)
   unfolding spaceEnd passedIn
-  ends-mark left tmk after q b k g some z =
-      let none : pick {A = ℕ} (rule .marks) 1 0 ≡ 0 = rw z in
-      record { over = then-mark (k .over) g; counted = omega (arith, k .adds, none); why = by-mark (k .goes) (more some (k .adds)) z }
+  ends-mark left less tmk after q b k g some z l =
+      record { over = then-mark (k .over) g; counted = omega (arith, k .adds, l); why = by-mark (k .goes) (more some (k .adds)) z }
 
   -- the second mark in a row
-  ends-logical : (left : ℕ) (tmk after : Bool) (q b : ℕ) → Kept q left tmk after → passed s (rule .reverse) q (t .end) ≡ met.Mark b → (left ≡ 0 → ⊥)
-      → rule .marks ≡ true → (rule .ess && after) ≡ true → Ends b (left - 1) (spaceEnd rule (span b (left - 1) true true) stop-as.LogicalEnd)
+  ends-logical : (left : ℕ) (less : Count) (tmk after : Bool) (q b : ℕ) → Kept q left tmk after → passed s (rule .reverse) q (t .end) ≡ met.Mark b → (left ≡ 0 → ⊥)
+      → ofMarks count ≡ true → (rule .ess && after) ≡ true → pick (ofMarks count) 1 0 + numberOf less ≡ left → Ends b (numberOf less) (spaceEnd rule (span b less true true) stop-as.LogicalEnd)
   unfolding spaceEnd passedIn
-  ends-logical left tmk after q b k g some z w =
-      let one : pick {A = ℕ} (rule .marks) 1 0 ≡ 1 = rw z in
-      record { over = then-mark (k .over) g; counted = omega (arith, k .adds, one); why = at-logical-end {r = k .over} (k .goes) (more some (k .adds)) z (rw (k .since) w) }
+  ends-logical left less tmk after q b k g some z w l =
+      record { over = then-mark (k .over) g; counted = omega (arith, k .adds, l); why = at-logical-end {r = k .over} (k .goes) (more some (k .adds)) z (rw (k .since) w) }
 
   -- nothing lies ahead
-  ends-nothing : (left : ℕ) (tmk after : Bool) (q : ℕ) → Kept q left tmk after → (left ≡ 0 → ⊥) → ahead (rule .reverse) q (t .end) ≡ 0
-      → Ends q left (spaceEnd rule (span q left tmk after) stop-as.Nothing)
+  ends-nothing : (left : Count) (tmk after : Bool) (q : ℕ) → Kept q (numberOf left) tmk after → (numberOf left ≡ 0 → ⊥) → ahead (rule .reverse) q (t .end) ≡ 0
+      → Ends q (numberOf left) (spaceEnd rule (span q left tmk after) stop-as.Nothing)
   unfolding spaceEnd
   ends-nothing left tmk after q k some h =
-      pick-told (Ends q left) (rule .reverse) _ _
+      pick-told (Ends q (numberOf left)) (rule .reverse) _ _
       (λ z. record { over = k .over; counted = k .adds; why = rw (← k .marked) (at-bot (k .goes) (more some (k .adds)) z (rw z at h)) })
       (λ z. record { over = k .over; counted = k .adds; why = rw (← k .marked) (at-recorded-end (k .goes) (more some (k .adds)) z (rw z at h)) })
 
   -- where the space stopped, by why it did
   abbrev Why : Span → Stop → Type 0
   Why y stop-as.Count = KeptAt y
-  Why y stop-as.Mark = Ends (y .position) (y .left) (spaceEnd rule y stop-as.Mark)
-  Why y stop-as.LogicalEnd = Ends (y .position) (y .left) (spaceEnd rule y stop-as.LogicalEnd)
-  Why y stop-as.Nothing = Ends (y .position) (y .left) (spaceEnd rule y stop-as.Nothing)
+  Why y stop-as.Mark = Ends (y .position) (numberOf (y .left)) (spaceEnd rule y stop-as.Mark)
+  Why y stop-as.LogicalEnd = Ends (y .position) (numberOf (y .left)) (spaceEnd rule y stop-as.LogicalEnd)
+  Why y stop-as.Nothing = Ends (y .position) (numberOf (y .left)) (spaceEnd rule y stop-as.Nothing)
   Why y (stop-as.Bad k) = SpaceRefused s t rule count first k
 
   abbrev Turned : Turn → Type 0
   Turned x = TurnHas KeptAt (λ z. Why (z .span) (z .stop)) x
 
-  abbrev Met-from : (y : Span) → (y .left ≡ 0 → ⊥) → Sought → Type 0
+  abbrev Met-from : (y : Span) → (numberOf (y .left) ≡ 0 → ⊥) → Sought → Type 0
   Met-from y some f =
-      Meets s (t .end) (rule .reverse) (λ q. Kept q (y .left) (y .tmk) (y .«after_mark»)) (kept-gap (y .left) (y .tmk) (y .«after_mark») some) f
+      Meets s (t .end) (rule .reverse) (λ q. Kept q (numberOf (y .left)) (y .tmk) (y .«after_mark»)) (kept-gap (numberOf (y .left)) (y .tmk) (y .«after_mark») some) f
 
   -- each turn, by what its search found
-  turn-kept : (y : Span) (f : Sought) (some : y .left ≡ 0 → ⊥) → Met-from y some f → Turned (turnOf rule y f)
-  unfolding turnOf recordTurn markTurn
-  turn-kept y (sought-as.Record n b) some (q, k, g) =
-      pick-told Turned (rule .marks) _ _
-      (λ z. kept-record _ _ _ _ q b n k g some (rw z (omega arith)))
-      (λ z. kept-record _ _ _ _ q b n k g some (rw z (omega arith)))
-  turn-kept y (sought-as.Mark b) some (q, k, g) =
-      pick-told Turned (rule .marks) _ _
-      (λ z. pick-told Turned (rule .ess && y .«after_mark») _ _ (λ w. ends-logical _ _ _ q b k g some z w) (λ w. kept-mark _ _ _ q b k g some z w))
-      (λ z. ends-mark _ _ _ q b k g some z)
-  turn-kept y (sought-as.Nothing q) some (k, h) = ends-nothing _ _ _ q k some h
-  turn-kept y (sought-as.Bad b) some (q, k, g) = record { from = q; over = k .over; goes = k .goes; more = more some (k .adds); bad = g }
+  turn-kept : (y : Span) (f : Sought) → Counts (ofMarks count) y → (some : numberOf (y .left) ≡ 0 → ⊥) → Met-from y some f → Turned (turnOf rule y f)
+  unfolding turnOf recordTurn
+  turn-kept y (sought-as.Record n b) same some (q, k, g) = kept-record _ _ _ _ q b n k g some (rw same at (record-number (y .left) some))
+  turn-kept y (sought-as.Mark b) same some (q, k, g) =
+      mark-turns Turned rule y b
+      (λ n e. ends-mark _ (count-as.Records n) _ _ q b k g some (sym same ∙ ap ofMarks e) (rw same at (mark-stops-number n e)))
+      (λ n e w. ends-logical _ (marks (n .0 - 1)) _ _ q b k g some (sym same ∙ ap ofMarks e) w (rw same at (mark-number n e some)))
+      (λ n e w. kept-mark _ _ _ _ q b k g some (sym same ∙ ap ofMarks e) w (rw same at (mark-number n e some)))
+  turn-kept y (sought-as.Nothing q) same some (k, h) = ends-nothing _ _ _ q k some h
+  turn-kept y (sought-as.Bad b) same some (q, k, g) = record { from = q; over = k .over; goes = k .goes; more = more some (k .adds); bad = g }
 
   module _ (below-end : t .position ≤ t .end) where
     -- the search of a turn, from what is kept
-    kept-met : (y : Span) (some : y .left ≡ 0 → ⊥) → KeptAt y → Met-from y some (sought s (rule .reverse) (y .position) (t .end))
+    kept-met : (y : Span) (some : numberOf (y .left) ≡ 0 → ⊥) → KeptAt y → Met-from y some (sought s (rule .reverse) (y .position) (t .end))
     kept-met y some k =
-        meets s (t .end) (rule .reverse) (λ q. Kept q (y .left) (y .tmk) (y .«after_mark»)) (kept-gap (y .left) (y .tmk) (y .«after_mark») some) (y .position)
+        meets s (t .end) (rule .reverse) (λ q. Kept q (numberOf (y .left)) (y .tmk) (y .«after_mark»)) (kept-gap (numberOf (y .left)) (y .tmk) (y .«after_mark») some) (y .position)
         (over-below s (t .end) (rule .reverse) below-end (k .over)) k
 
     -- so where the space stops
-    spaced-kept : (x : Span) → KeptAt x → Why (spaced s rule (t .end) x .span) (spaced s rule (t .end) x .stop)
+    spaced-kept : (x : Span) → Counts (ofMarks count) x → KeptAt x → Why (spaced s rule (t .end) x .span) (spaced s rule (t .end) x .stop)
     unfolding spaced
-    spaced-kept x i =
-        rounds s rule (t .end) (λ turns y. KeptAt y) (λ z. Why (z .span) (z .stop))
-        (λ turns y k some. turn-kept y _ some (kept-met y some k)) (λ turns y k w. k) (t .end + 1) x i
+    spaced-kept x same i =
+        rounds s rule (t .end) (ofMarks count) (λ turns y. KeptAt y) (λ z. Why (z .span) (z .stop))
+        (λ turns y c k some. turn-kept y _ c some (kept-met y some k)) (λ turns y k w. k) (t .end + 1) x same i
 
   -- an end as the motion tells it
-  ends-told : (y : Span) (why : Stop) → Ends (y .position) (y .left) (spaceEnd rule y why)
+  ends-told : (y : Span) (why : Stop) → Ends (y .position) (numberOf (y .left)) (spaceEnd rule y why)
       → SpaceEnded s t rule count first (resting (spaceEnd rule y why) (standing (y .position) (t .end)))
   ends-told y why k = record { over = k .over; counted = rw (left-told rule y why) (k .counted); why = rw (left-told rule y why) (k .why) }
 
@@ -197,7 +198,7 @@ module _ (s : List ℕ) (t : Tape) (rule : Rule) (count : ℕ) (first : Bool) wh
   Comes (motion.Fault k) = SpaceRefused s t rule count first k
 
   -- and so by why the space stopped
-  motion-comes : (y : Span) (why : Stop) → Why y why → (why ≡ stop-as.Count → y .left ≡ 0) → Comes (spaceMotionBy rule y (t .end) why)
+  motion-comes : (y : Span) (why : Stop) → Why y why → (why ≡ stop-as.Count → numberOf (y .left) ≡ 0) → Comes (spaceMotionBy rule y (t .end) why)
   unfolding spaceMotionBy
   motion-comes y stop-as.Count k z = ends-told y stop-as.Count (ends-count y k (z refl))
   motion-comes y stop-as.Mark k z = ends-told y stop-as.Mark k
@@ -206,25 +207,25 @@ module _ (s : List ℕ) (t : Tape) (rule : Rule) (count : ℕ) (first : Bool) wh
   motion-comes y (stop-as.Bad b) k z = k
 
 -- a Position with a count, from where the tape stands
-module _ (s : List ℕ) (t : Tape) (rule : Rule) (count : ℕ) (enb : Bool) where
-  position-comes : t .position ≤ t .end → eqb count 0 ≡ false → Comes s t rule count (enb && eqb (t .position) 0) (positioned s t rule count enb)
+module _ (s : List ℕ) (t : Tape) (rule : Rule) (count : Count) (enb : Bool) where
+  position-comes : t .position ≤ t .end → eqb (numberOf count) 0 ≡ false → Comes s t rule count (enb && eqb (t .position) 0) (positioned s t rule count enb)
   unfolding positioned spaceMotion
   position-comes below-end some =
       let first : Bool = enb && eqb (t .position) 0 in
       let x : Span = startSpan t count enb in
       rw some
-      (motion-comes s t rule count first _ _ (spaced-kept s t rule count first below-end x (kept-none s t rule count first))
+      (motion-comes s t rule count first _ _ (spaced-kept s t rule count first below-end x refl (kept-none s t rule count first))
       (spaced-why s rule (t .end) x below-end))
 
   -- how a Position mode 0 to 3 ended that had a count
-  pub space-ended : (x : Ending) → t .position ≤ t .end → eqb count 0 ≡ false → positioned s t rule count enb ≡ motion.Ended x → SpaceEnded s t rule count (enb && eqb (t .position) 0) x
+  pub space-ended : (x : Ending) → t .position ≤ t .end → eqb (numberOf count) 0 ≡ false → positioned s t rule count enb ≡ motion.Ended x → SpaceEnded s t rule count (enb && eqb (t .position) 0) x
   space-ended x below-end some y = rw y at (position-comes below-end some)
 
   -- and a block refuses it only where it has to be read
-  pub space-refused : (k : ℕ) → t .position ≤ t .end → eqb count 0 ≡ false → positioned s t rule count enb ≡ motion.Fault k → SpaceRefused s t rule count (enb && eqb (t .position) 0) k
+  pub space-refused : (k : ℕ) → t .position ≤ t .end → eqb (numberOf count) 0 ≡ false → positioned s t rule count enb ≡ motion.Fault k → SpaceRefused s t rule count (enb && eqb (t .position) 0) k
   space-refused k below-end some y = rw y at (position-comes below-end some)
 
 -- "A Position count of 0 moves nothing, class 0"
-pub space-of-none : (s : List ℕ) (t : Tape) (rule : Rule) (enb : Bool) → positioned s t rule 0 enb ≡ stops (end 0 0 0 (residualOf (rule .marks) 0)) t
+pub space-of-none : (s : List ℕ) (t : Tape) (rule : Rule) (count : Count) (enb : Bool) → numberOf count ≡ 0 → positioned s t rule count enb ≡ stops (end 0 0 0 (residualOf count)) t
 unfolding positioned
-space-of-none s t rule enb = refl
+space-of-none s t rule count enb z = rw (eq-eqb (numberOf count) 0 z)

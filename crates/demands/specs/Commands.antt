@@ -12,6 +12,7 @@ use Rattle.motions.specs.Reads.{readOne, reread}
 use Rattle.motions.specs.Writes.{retried, writtenAt}
 use Rattle.motions.specs.declared.parts.ObjectKind.the-variants as kind
 use Rattle.commands.specs.Ends.{motionPlan, told}
+use Rattle.moves.specs.Counting.{marks, records}
 use Rattle.commands.specs.Commands.{asked, carriedOut, characterized, laidHere, plainEnd, positioning, released, unloaded}
 use Rattle.commands.specs.declared.plans.Plan.{Plan}
 
@@ -34,10 +35,10 @@ module _ (u : Unit) (m s : List ℕ) (h : Header) (p : Packet) where
     pub write-retry : coded 5 2
         ≡ motionPlan u (h .ie) (retried s (u .tape) (u .lengths .blocks) (laidHere (u .tape) kind.Record (p .pointer) (p .count) (h .swb)) false)
     -- "Position 8 / 0 records forward, 1 reverse, 2 marks forward, 3 reverse, 4 rewind"
-    pub records-forward : coded 8 0 ≡ motionPlan u (h .ie) (positioning s (u .tape) (u .characteristics) (p .count) false false)
-    pub records-reverse : coded 8 1 ≡ motionPlan u (h .ie) (positioning s (u .tape) (u .characteristics) (p .count) true false)
-    pub marks-forward : coded 8 2 ≡ motionPlan u (h .ie) (positioning s (u .tape) (u .characteristics) (p .count) false true)
-    pub marks-reverse : coded 8 3 ≡ motionPlan u (h .ie) (positioning s (u .tape) (u .characteristics) (p .count) true true)
+    pub records-forward : coded 8 0 ≡ motionPlan u (h .ie) (positioning s (u .tape) (u .characteristics) (records (p .count)) false)
+    pub records-reverse : coded 8 1 ≡ motionPlan u (h .ie) (positioning s (u .tape) (u .characteristics) (records (p .count)) true)
+    pub marks-forward : coded 8 2 ≡ motionPlan u (h .ie) (positioning s (u .tape) (u .characteristics) (marks (p .count)) false)
+    pub marks-reverse : coded 8 3 ≡ motionPlan u (h .ie) (positioning s (u .tape) (u .characteristics) (marks (p .count)) true)
     pub rewind : coded 8 4 ≡ told u (h .ie) (resting plainEnd (standing 0 (u .tape .end)))
     -- "Format 9 / 0 mark, 1 erase, 2 mark retry"
     pub write-mark : coded 9 0 ≡ motionPlan u (h .ie) (writtenAt (u .tape) (u .lengths .blocks) (laidHere (u .tape) kind.Mark 0 0 false) true)

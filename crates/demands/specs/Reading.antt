@@ -23,7 +23,7 @@ use Rattle.storing.specs.Stored.{movedOn}
 pub record MovedRecord (s : List ℕ) (e : ℕ) (r : Buffer) (d : List ℕ) (way last : Bool) (place : ℕ) (x : Ending) : Type 0 where
   pub tape : x .tape ≡ standing place e
   pub told : x .end ≡ readEnd (length d) (r .count) last
-  pub bytes : (m : List ℕ) → movedOn s (x .moved) m ≡ readInto way (r .swb) m (r .pointer) (r .count) d
+  pub bytes : (m : List ℕ) → movedOn s (x .moved) m ≡ readInto way (r .swb) m (r .pointer) (r .count .0) d
 
 abbrev pub Moves : List ℕ → ℕ → Buffer → List ℕ → Bool → Bool → ℕ → Motion → Type 0
 Moves s e r d way last place a = (x : Ending) × (a ≡ motion.Ended x) × MovedRecord s e r d way last place x

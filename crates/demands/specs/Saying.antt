@@ -7,6 +7,8 @@ use lib.Dec.{eqb, leb}
 use Rattle.signals.specs.Residuals.{residualWord}
 use Rattle.state.specs.declared.Unit.{Unit}
 use Rattle.motions.specs.declared.parts.Ending.{Ending}
+use Rattle.moves.specs.Counting.{countOf}
+use Rattle.moves.specs.declared.spacing.Count.{Count}
 use Rattle.moves.specs.declared.spacing.Rule.{Rule}
 use Rattle.advance.specs.Rules.{reverseFirst}
 use Rattle.demands.specs.Done.{sentWord}
@@ -15,9 +17,12 @@ use Rattle.demands.specs.Ways.{header, packet}
 
 -- of an advance of the state u over memory m and reel s that carried out a Position mode 0 to 3
 module _ (u : Unit) (m s : List ℕ) where
-  -- which way, what is counted, and ESS; and whether the start counts as a mark (ENB, from block 0)
+  -- which way, and ESS; what is counted; and whether the start counts as a mark (ENB, from block 0)
   abbrev pub ruleAsked : Rule
-  ruleAsked = record { reverse = reverseFirst (header u m s); marks = leb 2 (header u m s .mode); ess = u .characteristics .ess }
+  ruleAsked = record { reverse = reverseFirst (header u m s); ess = u .characteristics .ess }
+
+  abbrev pub countAsked : Count
+  countAsked = countOf (leb 2 (header u m s .mode)) (packet u m s .count)
 
   abbrev pub markAtStart : Bool
   markAtStart = u .characteristics .enb && eqb (u .tape .position) 0
@@ -25,7 +30,7 @@ module _ (u : Unit) (m s : List ℕ) where
   -- the advance left the state u′ and the memory m′
   pub record SpaceSays (u′ : Unit) (m′ : List ℕ) : Type 0 where
     pub ending : Ending
-    pub ended : SpaceEnded s (u .tape) ruleAsked (packet u m s .count) markAtStart ending
+    pub ended : SpaceEnded s (u .tape) ruleAsked countAsked markAtStart ending
     pub position : u′ .tape .position ≡ ending .tape .position
     pub class : u′ .registers .class ≡ ending .end .class
     -- residual, XST0 above its low byte, XST3

@@ -19,6 +19,8 @@ use Rattle.state.specs.Checks.{bufferWrong}
 use Rattle.state.specs.declared.Tape.{Tape}
 use Rattle.state.specs.declared.Unit.{Unit}
 use Rattle.state.proofs.Tests.{either}
+use Rattle.moves.specs.Counting.{marks, records}
+use Rattle.moves.specs.declared.spacing.Count.{Count}
 use Rattle.motions.specs.Parts.{resting, standing}
 use Rattle.motions.specs.declared.parts.ObjectKind.{ObjectKind}
 use Rattle.motions.specs.declared.parts.ObjectKind.the-variants as kind
@@ -96,9 +98,9 @@ module _ (s m : List ℕ) where
     unfolding rereadBy
     reread-by-kept h p reverse = motion-kept s m u (h .ie) _ (reread-kept s m (k .1) (asked h p) (u .tape .position) reverse (h .opp) (k .2))
 
-    position-kept : (h : Header) (p : Packet) (reverse marks : Bool) → KeptPlan s m (positionedBy u s h p reverse marks)
+    position-kept : (h : Header) (count : Count) (reverse : Bool) → KeptPlan s m (positionedBy u s h count reverse)
     unfolding positionedBy
-    position-kept h p reverse marks = motion-kept s m u (h .ie) _ (positioned-kept s m (u .tape) (k .1) (k .2) _ (p .count) (u .characteristics .enb))
+    position-kept h count reverse = motion-kept s m u (h .ie) _ (positioned-kept s m (u .tape) (k .1) (k .2) _ count (u .characteristics .enb))
 
     -- an object laid where the tape stands, or behind a retry's gap
     lays : (o : ObjectKind) (pointer n : ℕ) (swb mark again : Bool) → RightLength o n → KeptMotion s m (laying s (u .tape) (u .lengths .blocks) (laidHere (u .tape) o pointer n swb) mark again)
@@ -124,10 +126,10 @@ module _ (s m : List ℕ) where
     carried-kept h p command.WriteCharacteristics r = characterized-kept p (h .ie)
     carried-kept h p command.Write r = write-kept h p false r
     carried-kept h p command.WriteRetry r = write-kept h p true r
-    carried-kept h p command.RecordsForward r = position-kept h p false false
-    carried-kept h p command.RecordsReverse r = position-kept h p true false
-    carried-kept h p command.MarksForward r = position-kept h p false true
-    carried-kept h p command.MarksReverse r = position-kept h p true true
+    carried-kept h p command.RecordsForward r = position-kept h (records (p .count)) false
+    carried-kept h p command.RecordsReverse r = position-kept h (records (p .count)) true
+    carried-kept h p command.MarksForward r = position-kept h (marks (p .count)) false
+    carried-kept h p command.MarksReverse r = position-kept h (marks (p .count)) true
     carried-kept h p command.Rewind r = rewound-kept (h .ie)
     carried-kept h p command.WriteMark r = format-kept h kind.Mark true false (λ e. clash (cc))
     carried-kept h p command.Erase r = format-kept h kind.Gap false false (λ e. clash (cc))

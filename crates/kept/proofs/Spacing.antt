@@ -8,7 +8,9 @@ use Rattle.tape.specs.Objects.{Holds, Object}
 use Rattle.state.specs.declared.Tape.{Tape}
 use Rattle.state.proofs.Tests.{either}
 use Rattle.moves.specs.Between.{Bound}
+use Rattle.moves.specs.Counting.{numberOf}
 use Rattle.moves.specs.Spacing.{spaced}
+use Rattle.moves.specs.declared.spacing.Count.{Count}
 use Rattle.moves.specs.declared.spacing.Rule.{Rule}
 use Rattle.moves.specs.declared.spacing.Span.{Span}
 use Rattle.moves.specs.declared.spacing.Stop.{Stop}
@@ -26,9 +28,9 @@ module _ (s m : List ℕ) where
   space-by h r y stop-as.Nothing n b = halts s m h b
   space-by h r y (stop-as.Bad k) n b = n k refl
 
-  pub positioned-kept : (t : Tape) {os : List Object} → Holds s (t .end) os → Bound os (t .position) → (r : Rule) (count : ℕ) (enb : Bool) → KeptMotion s m (positioned s t r count enb)
+  pub positioned-kept : (t : Tape) {os : List Object} → Holds s (t .end) os → Bound os (t .position) → (r : Rule) (count : Count) (enb : Bool) → KeptMotion s m (positioned s t r count enb)
   unfolding positioned spaceMotion
   positioned-kept t h b r count enb =
       let from = startSpan t count enb in
-      either (KeptMotion s m) (eqb count 0) _ _ (halts s m h b)
+      either (KeptMotion s m) (eqb (numberOf count) 0) _ _ (halts s m h b)
       (space-by h r (spaced s r (t .end) from .span) (spaced s r (t .end) from .stop) (spaced-sound h r from b) (spaced-bound h r from b))

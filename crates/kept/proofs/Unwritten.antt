@@ -16,6 +16,8 @@ use Rattle.signals.specs.declared.packet.Packet.{Packet}
 use Rattle.state.specs.Checks.{bufferWrong}
 use Rattle.state.specs.declared.Unit.{Unit}
 use Rattle.state.proofs.Tests.{either, neither}
+use Rattle.moves.specs.Counting.{marks, records}
+use Rattle.moves.specs.declared.spacing.Count.{Count}
 use Rattle.motions.specs.Parts.{noLay}
 use Rattle.motions.specs.declared.parts.Ending.{Ending}
 use Rattle.motions.specs.declared.parts.Motion.{Motion}
@@ -51,9 +53,9 @@ module _ (v : Unit) (m s : List ℕ) (h : Header) (p : Packet) (below : v .tape 
   unfolding rereadBy
   reread-stays reverse = motion-stays _ (λ x y. let f = reread-fits s (v .tape) below (asked h p) reverse (h .opp) y in (f .unlaid, f .kept))
 
-  position-stays : (reverse marks : Bool) → Stays (positionedBy v s h p reverse marks)
+  position-stays : (count : Count) (reverse : Bool) → Stays (positionedBy v s h count reverse)
   unfolding positionedBy
-  position-stays reverse marks = motion-stays _ (λ x y. let f = space-fits s (v .tape) below _ (p .count) (v .characteristics .enb) y in (f .unlaid, f .kept))
+  position-stays count reverse = motion-stays _ (λ x y. let f = space-fits s (v .tape) below _ count (v .characteristics .enb) y in (f .unlaid, f .kept))
 
   characterize-stays : Stays (characterized v m p (h .ie))
   unfolding characterized refusedCharacteristics takenCharacteristics told toldUnit ended
@@ -97,10 +99,10 @@ module _ (v : Unit) (m s : List ℕ) (h : Header) (p : Packet) (below : v .tape 
   positions-do : (mode : ℕ) → Does (positionMode mode)
   unfolding positionMode carriedOut
   positions-do mode =
-      either Does (eqb mode 0) _ _ (position-stays false false)
-      (either Does (eqb mode 1) _ _ (position-stays true false)
-      (either Does (eqb mode 2) _ _ (position-stays false true)
-      (either Does (eqb mode 3) _ _ (position-stays true true)
+      either Does (eqb mode 0) _ _ (position-stays (records (p .count)) false)
+      (either Does (eqb mode 1) _ _ (position-stays (records (p .count)) true)
+      (either Does (eqb mode 2) _ _ (position-stays (marks (p .count)) false)
+      (either Does (eqb mode 3) _ _ (position-stays (marks (p .count)) true)
       (either Does (eqb mode 4) _ _ rewind-stays illegal-does))))
 
   controls-do : (mode : ℕ) → Does (controlMode mode)

@@ -6,8 +6,10 @@ use lib.Dec.{eqb, ltb}
 use Rattle.lists.specs.Pick.{Always}
 use Rattle.signals.specs.Bits.{REV, RLL, RLS, TMK}
 use Rattle.signals.specs.Message.{flagOf}
+use Rattle.signals.specs.declared.counts.ByteCount.{ByteCount}
 use Rattle.signals.specs.declared.message.End.{End}
 use Rattle.state.proofs.Tests.{either}
+use Rattle.moves.specs.Counting.{numberOf}
 use Rattle.moves.specs.declared.spacing.Rule.{Rule}
 use Rattle.moves.specs.declared.spacing.Span.{Span}
 use Rattle.moves.specs.declared.spacing.Stop.{Stop}
@@ -31,20 +33,20 @@ pub record EndFits (x : End) : Type 0 where
 pub flag-most : (b : Bool) (w : ℕ) → flagOf b w ≤ w
 flag-most b w = either (λ n. n ≤ w) b w 0 (omega arith) (omega arith)
 
-pub read-end-fits : (n count : ℕ) (rev : Bool) → EndFits (readEnd n count rev)
+pub read-end-fits : (n : ℕ) (count : ByteCount) (rev : Bool) → EndFits (readEnd n count rev)
 unfolding readEnd
 read-end-fits n count rev =
     record {
-      class = either (λ c. c ≤ 6) (eqb n count) 0 2 (omega arith) (omega arith);
-      found = omega (arith, flag-most (ltb n count) RLS, flag-most (ltb count n) RLL);
+      class = either (λ c. c ≤ 6) (eqb n (count .0)) 0 2 (omega arith) (omega arith);
+      found = omega (arith, flag-most (ltb n (count .0)) RLS, flag-most (ltb (count .0) n) RLL);
       xst3 = omega (arith, flag-most rev REV);
     }
 
-pub mark-end-fits : (count : ℕ) (rev : Bool) → EndFits (markEnd count rev)
+pub mark-end-fits : (count : ByteCount) (rev : Bool) → EndFits (markEnd count rev)
 unfolding markEnd
 mark-end-fits count rev = record { class = omega arith; found = omega arith; xst3 = omega (arith, flag-most rev REV) }
 
-pub nothing-end-fits : (count : ℕ) (reverse : Bool) → EndFits (nothingEnd count reverse)
+pub nothing-end-fits : (count : ByteCount) (reverse : Bool) → EndFits (nothingEnd count reverse)
 unfolding nothingEnd
 nothing-end-fits count reverse =
     either EndFits reverse _ _
@@ -56,7 +58,7 @@ module _ (r : Rule) (x : Span) where
   passed-most = flag-most (x .tmk) TMK
 
   left-most : leftOver x ≤ RLS
-  left-most = flag-most (not (eqb (x .left) 0)) RLS
+  left-most = flag-most (not (eqb (numberOf (x .left)) 0)) RLS
 
   reverse-most : flagOf (r .reverse) REV ≤ REV
   reverse-most = flag-most (r .reverse) REV

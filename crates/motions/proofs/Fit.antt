@@ -6,6 +6,7 @@ use mathlib.Core.Path.{_≡_}
 use Prim.Native.Nat.{ℕ, _≤_}
 use native.Mathlib.Omega.{arith}
 use Rattle.state.specs.declared.Tape.{Tape}
+use Rattle.moves.specs.declared.spacing.Count.{Count}
 use Rattle.moves.specs.declared.spacing.Rule.{Rule}
 use Rattle.motions.specs.Reads.{readOne, reread}
 use Rattle.motions.specs.Spaces.{positioned}
@@ -33,7 +34,7 @@ module _ (s : List ℕ) (t : Tape) (h : t .position ≤ t .end) {x : Ending} whe
     pub read-fits : (opp : Bool) → (readOne s t r reverse ≡ motion.Ended x) ⊎ (reread s t r reverse opp ≡ motion.Ended x) → ReadFits (t .end) r x
     read-fits opp y = ⊎-elim (λ a. read-one-fits a) (λ b. reread-fits opp b) y
 
-  pub space-fits : (r : Rule) (count : ℕ) (enb : Bool) → positioned s t r count enb ≡ motion.Ended x → SpaceFits (t .end) x
+  pub space-fits : (r : Rule) (count : Count) (enb : Bool) → positioned s t r count enb ≡ motion.Ended x → SpaceFits (t .end) x
   space-fits r count enb y = rw y at (space-has s t r count enb h)
 
 module _ (t : Tape) (blocks : ℕ) (h : t .position ≤ t .end) (k : t .end ≤ blocks) (l : Laid) (mark : Bool) {x : Ending} where

@@ -7,7 +7,9 @@ use native.Mathlib.Omega.{arith}
 use lib.Dec.{eqb}
 use Rattle.state.specs.declared.Tape.{Tape}
 use Rattle.state.proofs.Tests.{either}
+use Rattle.moves.specs.Counting.{numberOf}
 use Rattle.moves.specs.Spacing.{spaced}
+use Rattle.moves.specs.declared.spacing.Count.{Count}
 use Rattle.moves.specs.declared.spacing.Rule.{Rule}
 use Rattle.moves.specs.declared.spacing.Span.{Span}
 use Rattle.moves.specs.declared.spacing.Stop.{Stop}
@@ -39,10 +41,10 @@ module _ (e : ℕ) where
   space-by r y stop-as.Nothing h = halts _ _ (space-end-fits r y stop-as.Nothing) h
   space-by r y (stop-as.Bad k) h = tt
 
-pub space-has : (s : List ℕ) (t : Tape) (r : Rule) (count : ℕ) (enb : Bool) → t .position ≤ t .end → Has (SpaceFits (t .end)) (positioned s t r count enb)
+pub space-has : (s : List ℕ) (t : Tape) (r : Rule) (count : Count) (enb : Bool) → t .position ≤ t .end → Has (SpaceFits (t .end)) (positioned s t r count enb)
 unfolding positioned spaceMotion
 space-has s t r count enb h =
     let from = startSpan t count enb in
-    either (Has (SpaceFits (t .end))) (eqb count 0) _ _
+    either (Has (SpaceFits (t .end))) (eqb (numberOf count) 0) _ _
     (halts (t .end) _ (t .position) (record { class = omega arith; found = omega arith; xst3 = omega arith }) h)
     (space-by (t .end) r (spaced s r (t .end) from .span) (spaced s r (t .end) from .stop) (spaced-within s r (t .end) from h))

@@ -24,7 +24,7 @@ pub record ReadFits (e : ℕ) (r : Buffer) (x : Ending) : Type 0 where
   pub place : x .tape .position ≤ x .tape .end
   pub kept : x .tape .end ≡ e
   pub source : blockBytes * (x .moved .first + piecesOf (x .moved .length)) ≤ blockBytes * e
-  pub buffer : x .moved .pointer + x .moved .count ≤ r .pointer + r .count
+  pub buffer : x .moved .pointer + x .moved .count ≤ r .pointer + r .count .0
   pub unlaid : x .laid ≡ noLay
   pub told : EndFits (x .end)
 

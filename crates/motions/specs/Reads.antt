@@ -8,6 +8,7 @@ use Rattle.tape.specs.Numbers.{piecesOf}
 use Rattle.signals.specs.Bits.{TMK, RLS, RLL, OPI, REV, RIB}
 use Rattle.signals.specs.Message.{flagOf}
 use Rattle.signals.specs.declared.message.End.{End}
+use Rattle.signals.specs.declared.counts.ByteCount.{ByteCount}
 use Rattle.signals.specs.declared.counts.Residual.{Residual}
 use Rattle.signals.specs.declared.counts.Residual.the-variants as residual
 use Rattle.state.specs.declared.Tape.{Tape}
@@ -25,29 +26,29 @@ abbrev pub bytes : ℕ → Residual
 bytes n = residual.Bytes (record { 0 = n })
 
 -- "Record longer than the count: RLL; shorter: RLS; class 2."
-unfoldable pub readEnd : ℕ → ℕ → Bool → End
+unfoldable pub readEnd : ℕ → ByteCount → Bool → End
 readEnd n count rev =
-    end (pick (eqb n count) 0 2) (flagOf (ltb n count) RLS + flagOf (ltb count n) RLL) (flagOf rev REV) (bytes (count - min n count))
+    end (pick (eqb n (count .0)) 0 2) (flagOf (ltb n (count .0)) RLS + flagOf (ltb (count .0) n) RLL) (flagOf rev REV) (bytes (count .0 - min n (count .0)))
 
 -- "A mark: TMK, RLS, class 2, position past it, nothing moved."
-unfoldable pub markEnd : ℕ → Bool → End
-markEnd count rev = end 2 (TMK + RLS) (flagOf rev REV) (bytes count)
+unfoldable pub markEnd : ByteCount → Bool → End
+markEnd count rev = end 2 (TMK + RLS) (flagOf rev REV) (residual.Bytes count)
 
 -- "Forward at the recorded end: OPI, class 6. Reverse to block 0 with no further record or mark: RIB, class 2"
-unfoldable pub nothingEnd : ℕ → Bool → End
-nothingEnd count reverse = pick reverse (end 2 0 (REV + RIB) (bytes count)) (end 6 0 OPI (bytes count))
+unfoldable pub nothingEnd : ByteCount → Bool → End
+nothingEnd count reverse = pick reverse (end 2 0 (REV + RIB) (residual.Bytes count)) (end 6 0 OPI (residual.Bytes count))
 
 unfoldable pub stopMotion : End → ℕ → ℕ → Motion
 stopMotion x p e = stops x (standing p e)
 
-unfoldable pub stageBy : Tape → ℕ → Bool → Sought → Stage
+unfoldable pub stageBy : Tape → ByteCount → Bool → Sought → Stage
 stageBy t count reverse (sought-as.Record n q) = stage.Record n q
 stageBy t count reverse (sought-as.Mark q) = stage.Over (stopMotion (markEnd count reverse) q (t .end))
 stageBy t count reverse (sought-as.Nothing q) = stage.Over (stopMotion (nothingEnd count reverse) q (t .end))
 stageBy t count reverse (sought-as.Bad k) = stage.Over (motion.Fault k)
 
 -- one stage: gaps are passed over; "A mark, BOT or end in the first stage ends it, residual as if nothing moved."
-unfoldable pub stageOf : List ℕ → Tape → ℕ → Bool → Stage
+unfoldable pub stageOf : List ℕ → Tape → ByteCount → Bool → Stage
 stageOf s t count reverse = stageBy t count reverse (sought s reverse (t .position) (t .end))
 
 -- the first block of a record of n bytes beyond which the position is q
@@ -67,7 +68,7 @@ readMotion r reverse n q t rev =
             length = n;
             reverse = reverse;
             pointer = r .pointer;
-            count = r .count;
+            count = r .count .0;
             swb = r .swb;
           };
       laid = noLay;

@@ -10,7 +10,10 @@ use Rattle.signals.specs.declared.message.End.{End}
 use Rattle.signals.specs.declared.counts.Residual.{Residual}
 use Rattle.signals.specs.declared.counts.Residual.the-variants as residual
 use Rattle.state.specs.declared.Tape.{Tape}
+use Rattle.moves.specs.Counting.{numberOf}
 use Rattle.moves.specs.Spacing.{spaced, span}
+use Rattle.moves.specs.declared.spacing.Count.{Count}
+use Rattle.moves.specs.declared.spacing.Count.the-variants as count-as
 use Rattle.moves.specs.declared.spacing.Rule.{Rule}
 use Rattle.moves.specs.declared.spacing.Span.{Span}
 use Rattle.moves.specs.declared.spacing.Spaced.{Spaced}
@@ -21,12 +24,13 @@ use Rattle.motions.specs.declared.parts.Motion.{Motion}
 use Rattle.motions.specs.declared.parts.Motion.the-variants as motion
 
 -- "records or marks for Position modes 0 to 3"
-unfoldable pub residualOf : Bool → ℕ → Residual
-residualOf marks left = pick marks (residual.Marks (record { 0 = left })) (residual.Records (record { 0 = left }))
+unfoldable pub residualOf : Count → Residual
+residualOf (count-as.Records n) = residual.Records n
+residualOf (count-as.Marks n) = residual.Marks n
 
 -- "RLS if BOT or LET left any count"
 abbrev pub leftOver : Span → ℕ
-leftOver x = flagOf (not (eqb (x .left) 0)) RLS
+leftOver x = flagOf (not (eqb (numberOf (x .left)) 0)) RLS
 
 -- "Marks: TMK if one was passed."
 abbrev pub passedMark : Span → ℕ
@@ -34,18 +38,18 @@ passedMark x = flagOf (x .tmk) TMK
 
 unfoldable pub spaceEnd : Rule → Span → Stop → End
 -- the count is exhausted
-spaceEnd r x stop-as.Count = end 0 (passedMark x) (flagOf (r .reverse) REV) (residualOf (r .marks) (x .left))
+spaceEnd r x stop-as.Count = end 0 (passedMark x) (flagOf (r .reverse) REV) (residualOf (x .left))
 -- "Records: a mark stops them, isn't counted, is passed: TMK, RLS, class 2."
-spaceEnd r x stop-as.Mark = end 2 (TMK + RLS) (flagOf (r .reverse) REV) (residualOf (r .marks) (x .left))
+spaceEnd r x stop-as.Mark = end 2 (TMK + RLS) (flagOf (r .reverse) REV) (residualOf (x .left))
 -- "LET, class 2"
-spaceEnd r x stop-as.LogicalEnd = end 2 (passedMark x + LET + leftOver x) (flagOf (r .reverse) REV) (residualOf (r .marks) (x .left))
+spaceEnd r x stop-as.LogicalEnd = end 2 (passedMark x + LET + leftOver x) (flagOf (r .reverse) REV) (residualOf (x .left))
 -- "Forward at the recorded end: OPI, class 6. Reverse to block 0 ..: RIB, class 2"
 spaceEnd r x stop-as.Nothing =
     pick (r .reverse)
-    (end 2 (passedMark x + leftOver x) (REV + RIB) (residualOf (r .marks) (x .left)))
-    (end 6 (passedMark x) OPI (residualOf (r .marks) (x .left)))
+    (end 2 (passedMark x + leftOver x) (REV + RIB) (residualOf (x .left)))
+    (end 6 (passedMark x) OPI (residualOf (x .left)))
 -- a fault refuses: no end is told
-spaceEnd r x (stop-as.Bad k) = end 0 0 0 (residualOf (r .marks) (x .left))
+spaceEnd r x (stop-as.Bad k) = end 0 0 0 (residualOf (x .left))
 
 unfoldable pub spaceMotionBy : Rule → Span → ℕ → Stop → Motion
 spaceMotionBy r x e (stop-as.Bad k) = motion.Fault k
@@ -58,11 +62,11 @@ unfoldable pub spaceMotion : Rule → Spaced → ℕ → Motion
 spaceMotion r y e = spaceMotionBy r (y .span) e (y .stop)
 
 -- "with ENB too a mark met first from block 0": it counts as the second in a row
-abbrev pub startSpan : Tape → ℕ → Bool → Span
+abbrev pub startSpan : Tape → Count → Bool → Span
 startSpan t count enb = span (t .position) count false (enb && eqb (t .position) 0)
 
 -- "A Position count of 0 moves nothing, class 0"
-unfoldable pub positioned : List ℕ → Tape → Rule → ℕ → Bool → Motion
+unfoldable pub positioned : List ℕ → Tape → Rule → Count → Bool → Motion
 positioned s t r count enb =
-    pick (eqb count 0) (stops (end 0 0 0 (residualOf (r .marks) 0)) t)
+    pick (eqb (numberOf count) 0) (stops (end 0 0 0 (residualOf count)) t)
     (spaceMotion r (spaced s r (t .end) (startSpan t count enb)) (t .end))

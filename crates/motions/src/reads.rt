@@ -17,7 +17,7 @@ ghost use Rattle.motions.specs.Reads.{firstBlock, markEnd, nothingEnd, r
 // What a Read asks for.
 pub struct Buffer {
     pub pointer: usize,
-    pub count: u16,
+    pub count: ByteCount,
     pub swb: bool,
 }
 
@@ -28,10 +28,10 @@ pub enum Stage {
 }
 
 // A record of n bytes against the count: RLS if shorter, RLL if longer, class 2 for both.
-fn read_end(n: usize, count: u16, rev: bool) -> End
+fn read_end(n: usize, count: ByteCount, rev: bool) -> End
     ensures { λ r. ⌜ r ≡ readEnd n count rev ⌝ }
 {
-    let c = count as usize;
+    let c = count.0 as usize;
     let class = if n == c { 0 } else { 2 };
     let found = flag(n < c, signals::RLS) + flag(c < n, signals::RLL);
     let xst3 = flag(rev, signals::REV);
@@ -46,11 +46,11 @@ fn read_end(n: usize, count: u16, rev: bool) -> End
 }
 
 // A mark: TMK, RLS, class 2.
-fn mark_end(count: u16, rev: bool) -> End
+fn mark_end(count: ByteCount, rev: bool) -> End
     ensures { λ r. ⌜ r ≡ markEnd count rev ⌝ }
 {
     let xst3 = flag(rev, signals::REV);
-    let residual = Residual::Bytes(ByteCount(count));
+    let residual = Residual::Bytes(count);
     End {
         class: 2,
         found: signals::TMK + signals::RLS,
@@ -60,10 +60,10 @@ fn mark_end(count: u16, rev: bool) -> End
 }
 
 // Nothing left: OPI and class 6 forward, RIB and class 2 in reverse.
-fn nothing_end(count: u16, reverse: bool) -> End
+fn nothing_end(count: ByteCount, reverse: bool) -> End
     ensures { λ r. ⌜ r ≡ nothingEnd count reverse ⌝ }
 {
-    let residual = Residual::Bytes(ByteCount(count));
+    let residual = Residual::Bytes(count);
     if reverse {
         return End {
             class: 2,
@@ -96,7 +96,7 @@ fn stop_motion(end: End, position: usize, e: usize) -> Motion
 }
 
 // Seek, and say how the command ends where no record is found.
-fn run_stage(reel: &[u8], t: Tape, count: u16, reverse: bool) -> Stage
+fn run_stage(reel: &[u8], t: Tape, count: ByteCount, reverse: bool) -> Stage
     ensures { λ r. ⌜ r ≡ stageOf (now (reel .entry)) t count reverse ⌝ }
 {
     match seek(reel, reverse, t.position, t.end) {
@@ -122,14 +122,15 @@ fn first_block(reverse: bool, n: usize, q: usize) -> usize
 fn read_motion(r: Buffer, reverse: bool, n: usize, q: usize, t: Tape, rev: bool) -> Motion
     ensures { λ x. ⌜ x ≡ readMotion r reverse n q t rev ⌝ }
 {
-    let end = read_end(n, r.count, rev);
+    let count = r.count;
+    let end = read_end(n, count, rev);
     let first = first_block(reverse, n, q);
     let moved = Moved {
         first,
         length: n,
         reverse,
         pointer: r.pointer,
-        count: r.count,
+        count: count.0,
         swb: r.swb,
     };
     let laid = no_lay();

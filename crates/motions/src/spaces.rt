@@ -3,14 +3,14 @@ use crate::parts::Ending;
 use crate::parts::Motion;
 use crate::parts::no_lay;
 use crate::parts::no_move;
+use moves::Count;
 use moves::Rule;
 use moves::Spaced;
 use moves::Span;
 use moves::Stop;
+use moves::none_left;
 use moves::space;
 use signals::End;
-use signals::MarkCount;
-use signals::RecordCount;
 use signals::Residual;
 use signals::flag;
 use state::Tape;
@@ -19,23 +19,24 @@ ghost use Prim.Native.Nat.{_≤_};
 ghost use Rattle.tape.specs.Numbers.{capacityLimit};
 ghost use Rattle.motions.specs.Spaces.{positioned, residualOf, spaceEnd, spaceMotion};
 
-fn residual_of(marks: bool, left: u16) -> Residual
-    ensures { λ r. ⌜ r ≡ residualOf marks left ⌝ }
+fn residual_of(left: Count) -> Residual
+    ensures { λ r. ⌜ r ≡ residualOf left ⌝ }
 {
-    if marks {
-        return Residual::Marks(MarkCount(left));
+    match left {
+        Count::Records(n) => Residual::Records(n),
+        Count::Marks(n) => Residual::Marks(n),
     }
-    Residual::Records(RecordCount(left))
 }
 
 // How a stop ends the command; RLS if BOT or LET left any count.
 fn space_end(r: Rule, s: Span, stop: Stop) -> End
     ensures { λ x. ⌜ x ≡ spaceEnd r s stop ⌝ }
 {
-    let residual = residual_of(r.marks, s.left);
+    let count = s.left;
+    let residual = residual_of(count);
     let rev = flag(r.reverse, signals::REV);
     let tmk = flag(s.tmk, signals::TMK);
-    let left = flag(s.left != 0, signals::RLS);
+    let left = flag(!none_left(count), signals::RLS);
     match stop {
         Stop::Count => End {
             class: 0,
@@ -103,12 +104,12 @@ fn space_motion(r: Rule, x: Spaced, e: usize) -> Motion
 }
 
 // A count of 0 moves nothing and no stage runs. With ENB a mark met first from block 0 counts as the second in a row.
-pub fn position(reel: &[u8], t: Tape, r: Rule, count: u16, enb: bool) -> Motion
+pub fn position(reel: &[u8], t: Tape, r: Rule, count: Count, enb: bool) -> Motion
     requires { ⌜ t .end ≤ capacityLimit ⌝ }
     ensures { λ x. ⌜ x ≡ positioned (now (reel .entry)) t r count enb ⌝ }
 {
-    if count == 0 {
-        let residual = residual_of(r.marks, 0);
+    if none_left(count) {
+        let residual = residual_of(count);
         let end = End {
             class: 0,
             found: 0,

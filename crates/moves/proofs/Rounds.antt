@@ -1,4 +1,4 @@
--- The induction over the turns of a space: what each turn keeps holds where the space ends.
+-- The induction over the turns of a space: what each turn keeps holds where the space ends. What is counted is the same in all of them.
 use mathlib.Core.Bool.{Bool, true, false}
 use mathlib.Core.List.{List}
 use mathlib.Core.Logic.{_⊎_, inl, inr}
@@ -7,57 +7,39 @@ use Prim.Native.Nat.{ℕ, zero, suc, _+_}
 use borrow.Author.Tests.{eqb-true, eqb-false}
 use lib.Dec.{eqb}
 use Rattle.lists.specs.Pick.{pick}
-use Rattle.moves.specs.Seeking.{sought}
-use Rattle.moves.specs.Spacing.{spaced, spacedFrom, spacedOn, stopped, turnOf}
+use Rattle.moves.specs.Counting.{numberOf, ofMarks}
+use Rattle.moves.specs.Spacing.{spaced, spacedFrom, spacedOn, stopped}
 use Rattle.moves.specs.declared.spacing.Rule.{Rule}
 use Rattle.moves.specs.declared.spacing.Spaced.{Spaced}
 use Rattle.moves.specs.declared.spacing.Span.{Span}
 use Rattle.moves.specs.declared.spacing.Stop.the-variants as stop-as
 use Rattle.moves.specs.declared.spacing.Turn.{Turn}
 use Rattle.moves.specs.declared.spacing.Turn.the-variants as turn-as
+use Rattle.moves.proofs.Turns.{Counts, SpanHas, TurnHas, turn-kind, turnAt}
 
--- the turn that a space makes from y
-abbrev pub turnAt : List ℕ → Rule → ℕ → Span → Turn
-turnAt s r e y = turnOf r y (sought s (r .reverse) (y .position) e)
-
--- one thing of a turn that goes on, and one of the last
-abbrev pub TurnHas : (Span → Type 0) → (Spaced → Type 0) → Turn → Type 0
-TurnHas P Q (turn-as.On y) = P y
-TurnHas P Q (turn-as.Over z) = Q z
-
--- one thing of the span either way
-abbrev pub SpanHas : (Span → Type 0) → Turn → Type 0
-SpanHas P t = TurnHas P (λ z. P (z .span)) t
-
-pub turn-more : (P P′ : Span → Type 0) (Q Q′ : Spaced → Type 0) → ((z : Span) → P z → P′ z) → ((z : Spaced) → Q z → Q′ z) → (t : Turn) → TurnHas P Q t → TurnHas P′ Q′ t
-turn-more P P′ Q Q′ f g (turn-as.On y) h = f y h
-turn-more P P′ Q Q′ f g (turn-as.Over z) h = g z h
-
--- what holds of both sides of a choice holds of the choice
-pub either : {A : Type 0} (P : A → Type 0) (b : Bool) (t u : A) → P t → P u → P (pick b t u)
-either P true t u h k = h
-either P false t u h k = k
-
--- `Inv turns y` is known of the span y with so many turns left, and `Last` is to be shown
-module _ (s : List ℕ) (r : Rule) (e : ℕ) (Inv : ℕ → Span → Type 0) (Last : Spaced → Type 0)
-    (step : (turns : ℕ) (y : Span) → Inv (suc turns) y → (y .left ≡ 0 → ⊥) → TurnHas (Inv turns) Last (turnAt s r e y))
-    (done : (turns : ℕ) (y : Span) → Inv turns y → (turns ≡ 0) ⊎ (y .left ≡ 0) → Last (stopped stop-as.Count y)) where
-  after-turn : (turns : ℕ) (t : Turn) → TurnHas (Inv turns) Last t → ((z : Span) → Inv turns z → Last (spacedFrom turns s r e z)) → Last (spacedOn t (λ z. spacedFrom turns s r e z))
+-- a space counts marks, or not; `Inv turns y` is known of the span y with so many turns left, and `Last` is to be shown
+module _ (s : List ℕ) (r : Rule) (e : ℕ) (marks : Bool) (Inv : ℕ → Span → Type 0) (Last : Spaced → Type 0)
+    (step : (turns : ℕ) (y : Span) → Counts marks y → Inv (suc turns) y → (numberOf (y .left) ≡ 0 → ⊥) → TurnHas (Inv turns) Last (turnAt s r e y))
+    (done : (turns : ℕ) (y : Span) → Inv turns y → (turns ≡ 0) ⊎ (numberOf (y .left) ≡ 0) → Last (stopped stop-as.Count y)) where
+  after-turn : (turns : ℕ) (t : Turn) → SpanHas (Counts marks) t → TurnHas (Inv turns) Last t → ((z : Span) → Counts marks z → Inv turns z → Last (spacedFrom turns s r e z))
+      → Last (spacedOn t (λ z. spacedFrom turns s r e z))
   unfolding spacedOn
-  after-turn turns (turn-as.On z) h on = on z h
-  after-turn turns (turn-as.Over z) h on = h
+  after-turn turns (turn-as.On z) k h on = on z k h
+  after-turn turns (turn-as.Over z) k h on = h
 
-  after-test : (turns : ℕ) (y : Span) (t : Bool) → eqb (y .left) 0 ≡ t → Inv (suc turns) y → ((z : Span) → Inv turns z → Last (spacedFrom turns s r e z))
+  after-test : (turns : ℕ) (y : Span) (t : Bool) → eqb (numberOf (y .left)) 0 ≡ t → Counts marks y → Inv (suc turns) y → ((z : Span) → Counts marks z → Inv turns z → Last (spacedFrom turns s r e z))
       → Last (pick t (stopped stop-as.Count y) (spacedOn (turnAt s r e y) (λ z. spacedFrom turns s r e z)))
-  after-test turns y true k i on = done (suc turns) y i (inr (eqb-true (y .left) 0 k))
-  after-test turns y false k i on = after-turn turns (turnAt s r e y) (step turns y i (eqb-false (y .left) 0 k)) on
+  after-test turns y true w k i on = done (suc turns) y i (inr (eqb-true (numberOf (y .left)) 0 w))
+  after-test turns y false w k i on =
+      after-turn turns (turnAt s r e y) (turn-kind marks r y _ k) (step turns y k i (eqb-false (numberOf (y .left)) 0 w)) on
 
-  pub rounds : (turns : ℕ) (y : Span) → Inv turns y → Last (spacedFrom turns s r e y)
+  pub rounds : (turns : ℕ) (y : Span) → Counts marks y → Inv turns y → Last (spacedFrom turns s r e y)
   unfolding spacedFrom
-  rounds zero y i = done 0 y i (inl refl)
-  rounds (suc turns) y i = after-test turns y (eqb (y .left) 0) refl i (λ z j. rounds turns z j)
+  rounds zero y k i = done 0 y i (inl refl)
+  rounds (suc turns) y k i = after-test turns y (eqb (numberOf (y .left)) 0) refl k i (λ z l j. rounds turns z l j)
 
 -- what every turn keeps of the span
-pub spaced-keeps : (s : List ℕ) (r : Rule) (e : ℕ) (P : Span → Type 0) → ((y : Span) → P y → (y .left ≡ 0 → ⊥) → SpanHas P (turnAt s r e y)) → (x : Span) → P x → P (spaced s r e x .span)
+pub spaced-keeps : (s : List ℕ) (r : Rule) (e : ℕ) (P : Span → Type 0) (x : Span)
+    → ((y : Span) → Counts (ofMarks (x .left)) y → P y → (numberOf (y .left) ≡ 0 → ⊥) → SpanHas P (turnAt s r e y)) → P x → P (spaced s r e x .span)
 unfolding spaced
-spaced-keeps s r e P step x i = rounds s r e (λ _ y. P y) (λ z. P (z .span)) (λ turns y j n. step y j n) (λ turns y j w. j) (e + 1) x i
+spaced-keeps s r e P x step i = rounds s r e (ofMarks (x .left)) (λ _ y. P y) (λ z. P (z .span)) (λ turns y k j n. step y k j n) (λ turns y j w. j) (e + 1) x refl i

@@ -1,7 +1,7 @@
 -- Where a search and a space lead, by their numbers alone: never past the end, and the count never grows.
-use mathlib.Core.Bool.{Bool, true, false, _&&_}
+use mathlib.Core.Bool.{Bool, true, false}
 use mathlib.Core.List.{List}
-use mathlib.Core.Path.{_≡_}
+use mathlib.Core.Path.{_≡_, refl, ap}
 use Prim.Native.Nat.{ℕ, zero, suc, _+_, _≤_}
 use native.Mathlib.Omega.{arith}
 use Rattle.lists.specs.Pick.{Always}
@@ -9,13 +9,16 @@ use Rattle.tape.specs.Pass.{passed}
 use Rattle.tape.specs.declared.Met.{Met}
 use Rattle.tape.specs.declared.Met.the-variants as met
 use Rattle.tape.proofs.Within.{Onward, PassIn, RecordIn, onward-more, pass-in}
+use Rattle.moves.specs.Counting.{numberOf, ofMarks}
 use Rattle.moves.specs.Seeking.{sought, soughtFrom, soughtOn}
-use Rattle.moves.specs.Spacing.{markTurn, recordTurn, spaced, turnOf}
+use Rattle.moves.specs.Spacing.{recordTurn, spaced, turnOf}
 use Rattle.moves.specs.declared.seeking.Sought.{Sought}
 use Rattle.moves.specs.declared.seeking.Sought.the-variants as sought-as
 use Rattle.moves.specs.declared.spacing.Rule.{Rule}
 use Rattle.moves.specs.declared.spacing.Span.{Span}
-use Rattle.moves.proofs.Rounds.{SpanHas, either, spaced-keeps}
+use Rattle.moves.proofs.Counting.{record-number}
+use Rattle.moves.proofs.Rounds.{spaced-keeps}
+use Rattle.moves.proofs.Turns.{Counts, SpanHas, mark-turns, turn-kind}
 
 -- what is known of each answer of a search
 abbrev pub SoughtIn : Bool → ℕ → ℕ → Sought → Type 0
@@ -66,26 +69,29 @@ Below e y = y .position ≤ e
 
 -- a turn leads to what the search found, or stays
 turn-below : (r : Rule) (e : ℕ) (y : Span) (f : Sought) → Below e y → SoughtIn (r .reverse) (y .position) e f → SpanHas (Below e) (turnOf r y f)
-unfolding turnOf recordTurn markTurn
-turn-below r e y (sought-as.Record n q) h i = either (SpanHas (Below e)) (r .marks) _ _ (i .0 .below) (i .0 .below)
-turn-below r e y (sought-as.Mark q) h i =
-    either (SpanHas (Below e)) (r .marks) _ _ (either (SpanHas (Below e)) (r .ess && y .«after_mark») _ _ (i .below) (i .below)) (i .below)
+unfolding turnOf recordTurn
+turn-below r e y (sought-as.Record n q) h i = i .0 .below
+turn-below r e y (sought-as.Mark q) h i = mark-turns (SpanHas (Below e)) r y q (λ n c. i .below) (λ n c w. i .below) (λ n c w. i .below)
 turn-below r e y (sought-as.Nothing q) h i = i
 turn-below r e y (sought-as.Bad k) h i = h
 
 pub spaced-within : (s : List ℕ) (r : Rule) (e : ℕ) (x : Span) → x .position ≤ e → spaced s r e x .span .position ≤ e
-spaced-within s r e x h = spaced-keeps s r e (Below e) (λ y i n. turn-below r e y _ i (sought-in s (r .reverse) (y .position) e i)) x h
+spaced-within s r e x h = spaced-keeps s r e (Below e) x (λ y k i n. turn-below r e y _ i (sought-in s (r .reverse) (y .position) e i)) h
 
 abbrev Fewer : ℕ → Span → Type 0
-Fewer n y = y .left ≤ n
+Fewer n y = numberOf (y .left) ≤ n
 
-turn-fewer : (r : Rule) (n : ℕ) (y : Span) (f : Sought) → Fewer n y → SpanHas (Fewer n) (turnOf r y f)
-unfolding turnOf recordTurn markTurn
-turn-fewer r n y (sought-as.Record m q) h = either (SpanHas (Fewer n)) (r .marks) _ _ h (omega arith)
-turn-fewer r n y (sought-as.Mark q) h =
-    either (SpanHas (Fewer n)) (r .marks) _ _ (either (SpanHas (Fewer n)) (r .ess && y .«after_mark») _ _ (omega arith) (omega arith)) h
-turn-fewer r n y (sought-as.Nothing q) h = h
-turn-fewer r n y (sought-as.Bad k) h = h
+turn-fewer : (r : Rule) (n : ℕ) (y : Span) (f : Sought) → (numberOf (y .left) ≡ 0 → ⊥) → Fewer n y → SpanHas (Fewer n) (turnOf r y f)
+unfolding turnOf recordTurn
+turn-fewer r n y (sought-as.Record m q) some h = omega (arith, record-number (y .left) some)
+turn-fewer r n y (sought-as.Mark q) some h =
+    mark-turns (SpanHas (Fewer n)) r y q (λ k c. omega (arith, ap numberOf c)) (λ k c w. omega (arith, ap numberOf c)) (λ k c w. omega (arith, ap numberOf c))
+turn-fewer r n y (sought-as.Nothing q) some h = h
+turn-fewer r n y (sought-as.Bad k) some h = h
 
-pub spaced-left : (s : List ℕ) (r : Rule) (e : ℕ) (x : Span) → spaced s r e x .span .left ≤ x .left
-spaced-left s r e x = spaced-keeps s r e (Fewer (x .left)) (λ y i n. turn-fewer r (x .left) y _ i) x (omega arith)
+pub spaced-left : (s : List ℕ) (r : Rule) (e : ℕ) (x : Span) → numberOf (spaced s r e x .span .left) ≤ numberOf (x .left)
+spaced-left s r e x = spaced-keeps s r e (Fewer (numberOf (x .left))) x (λ y k i some. turn-fewer r (numberOf (x .left)) y _ some i) (omega arith)
+
+-- what is left is of what was asked
+pub spaced-kind : (s : List ℕ) (r : Rule) (e : ℕ) (x : Span) → ofMarks (spaced s r e x .span .left) ≡ ofMarks (x .left)
+spaced-kind s r e x = spaced-keeps s r e (Counts (ofMarks (x .left))) x (λ y k i some. turn-kind (ofMarks (x .left)) r y _ k) refl

@@ -5,9 +5,13 @@ use mathlib.Core.List.{List}
 use Prim.Native.Nat.{ℕ, suc, _+_, _-_}
 use lib.Dec.{eqb}
 use Rattle.lists.specs.Pick.{pick}
+use Rattle.signals.specs.declared.counts.MarkCount.{MarkCount}
+use Rattle.moves.specs.Counting.{afterRecord, marks, numberOf}
 use Rattle.moves.specs.Seeking.{sought}
 use Rattle.moves.specs.declared.seeking.Sought.{Sought}
 use Rattle.moves.specs.declared.seeking.Sought.the-variants as sought-as
+use Rattle.moves.specs.declared.spacing.Count.{Count}
+use Rattle.moves.specs.declared.spacing.Count.the-variants as count-as
 use Rattle.moves.specs.declared.spacing.Rule.{Rule}
 use Rattle.moves.specs.declared.spacing.Span.{Span}
 use Rattle.moves.specs.declared.spacing.Spaced.{Spaced}
@@ -16,28 +20,33 @@ use Rattle.moves.specs.declared.spacing.Stop.the-variants as stop-as
 use Rattle.moves.specs.declared.spacing.Turn.{Turn}
 use Rattle.moves.specs.declared.spacing.Turn.the-variants as turn-as
 
-abbrev pub span : ℕ → ℕ → Bool → Bool → Span
+abbrev pub span : ℕ → Count → Bool → Bool → Span
 span q l t a = record { position = q; left = l; tmk = t; «after_mark» = a }
 
 abbrev pub stopped : Stop → Span → Spaced
 stopped why x = record { span = x; stop = why }
 
 -- a record is counted, unless marks are
-unfoldable pub recordTurn : Rule → Span → ℕ → Turn
-recordTurn r x q =
-    pick (r .marks) (turn-as.On (span q (x .left) (x .tmk) false)) (turn-as.On (span q (x .left - 1) (x .tmk) false))
+unfoldable pub recordTurn : Span → ℕ → Turn
+recordTurn x q = turn-as.On (span q (afterRecord (x .left)) (x .tmk) false)
 
--- a mark stops records; of marks it is counted, and with ESS the second in a row ends the command
+-- of marks it is counted, and with ESS the second in a row ends the command
+unfoldable pub skipTurn : Rule → Span → MarkCount → ℕ → Turn
+skipTurn r x n q =
+    pick (r .ess && x .«after_mark»)
+    (turn-as.Over (stopped stop-as.LogicalEnd (span q (marks (n .0 - 1)) true true)))
+    (turn-as.On (span q (marks (n .0 - 1)) true true))
+
+-- a mark stops records
+unfoldable pub markTurnBy : Rule → Span → Count → ℕ → Turn
+markTurnBy r x (count-as.Records n) q = turn-as.Over (stopped stop-as.Mark (span q (count-as.Records n) true true))
+markTurnBy r x (count-as.Marks n) q = skipTurn r x n q
+
 unfoldable pub markTurn : Rule → Span → ℕ → Turn
-markTurn r x q =
-    pick (r .marks)
-    (pick (r .ess && x .«after_mark»)
-    (turn-as.Over (stopped stop-as.LogicalEnd (span q (x .left - 1) true true)))
-    (turn-as.On (span q (x .left - 1) true true)))
-    (turn-as.Over (stopped stop-as.Mark (span q (x .left) true true)))
+markTurn r x q = markTurnBy r x (x .left) q
 
 unfoldable pub turnOf : Rule → Span → Sought → Turn
-turnOf r x (sought-as.Record n q) = recordTurn r x q
+turnOf r x (sought-as.Record n q) = recordTurn x q
 turnOf r x (sought-as.Mark q) = markTurn r x q
 turnOf r x (sought-as.Nothing q) = turn-as.Over (stopped stop-as.Nothing (span q (x .left) (x .tmk) (x .«after_mark»)))
 turnOf r x (sought-as.Bad k) = turn-as.Over (stopped (stop-as.Bad k) x)
@@ -50,7 +59,7 @@ unfoldable pub spacedFrom : ℕ → List ℕ → Rule → ℕ → Span → Space
 spacedFrom ℕ.zero s r e x = stopped stop-as.Count x
 spacedFrom (suc turns) s r e x =
     let rest = spacedOn (turnOf r x (sought s (r .reverse) (x .position) e)) (λ y. spacedFrom turns s r e y) in
-    pick (eqb (x .left) 0) (stopped stop-as.Count x) rest
+    pick (eqb (numberOf (x .left)) 0) (stopped stop-as.Count x) rest
 
 -- each turn passes a block or more, so a turn for each block and one more are enough
 unfoldable pub spaced : List ℕ → Rule → ℕ → Span → Spaced

@@ -4,9 +4,11 @@ mod spacing;
 
 pub use seeking::Sought;
 pub use seeking::seek;
+pub use spacing::Count;
 pub use spacing::Rule;
 pub use spacing::Spaced;
 pub use spacing::Span;
 pub use spacing::Stop;
 pub use spacing::Turn;
+pub use spacing::none_left;
 pub use spacing::space;

@@ -1,21 +1,30 @@
 // Spacing over a count of records, or skipping a count of marks.
 use crate::seeking::Sought;
 use crate::seeking::seek;
+use signals::MarkCount;
+use signals::RecordCount;
 ghost use mathlib.Core.Path.{_≡_};
 ghost use Prim.Native.Nat.{_<_, _≤_};
-ghost use Rattle.moves.specs.Spacing.{markTurn, recordTurn, spaced, turnOf};
+ghost use lib.Dec.{eqb};
+ghost use Rattle.moves.specs.Counting.{afterRecord, numberOf};
+ghost use Rattle.moves.specs.Spacing.{markTurn, recordTurn, skipTurn, spaced, turnOf};
 
-// Which way, what is counted, and whether two marks in a row end it (ESS).
+// What a Position counts, and how many of it. A space over records never becomes a skip over marks on its way.
+pub enum Count {
+    Records(RecordCount),
+    Marks(MarkCount),
+}
+
+// Which way, and whether two marks in a row end it (ESS).
 pub struct Rule {
     pub reverse: bool,
-    pub marks: bool,
     pub ess: bool,
 }
 
 // How far it came: the count that is left, whether a mark was passed, and whether the last object passed was a mark.
 pub struct Span {
     pub position: usize,
-    pub left: u16,
+    pub left: Count,
     pub tmk: bool,
     pub after_mark: bool,
 }
@@ -39,20 +48,33 @@ pub enum Turn {
     Over(Spaced),
 }
 
-// A record is counted, unless marks are.
-fn record_turn(r: Rule, s: Span, q: usize) -> Turn
-    requires { ⌜ 1 ≤ s .left ⌝ }
-    ensures { λ t. ⌜ t ≡ recordTurn r s q ⌝ }
+// Is all of it done?
+pub fn none_left(c: Count) -> bool
+    ensures { λ r. ⌜ r ≡ eqb (numberOf c) 0 ⌝ }
 {
-    if r.marks {
-        return Turn::On(Span {
-            position: q,
-            left: s.left,
-            tmk: s.tmk,
-            after_mark: false,
-        });
+    match c {
+        Count::Records(n) => n.0 == 0,
+        Count::Marks(n) => n.0 == 0,
     }
-    let left = s.left - 1;
+}
+
+// A record is counted, unless marks are.
+fn after_record(c: Count) -> Count
+    requires { ⌜ 1 ≤ numberOf c ⌝ }
+    ensures { λ r. ⌜ r ≡ afterRecord c ⌝ }
+{
+    match c {
+        Count::Records(n) => Count::Records(RecordCount(n.0 - 1)),
+        Count::Marks(n) => Count::Marks(n),
+    }
+}
+
+fn record_turn(s: Span, q: usize) -> Turn
+    requires { ⌜ 1 ≤ numberOf (s .left) ⌝ }
+    ensures { λ t. ⌜ t ≡ recordTurn s q ⌝ }
+{
+    let c = s.left;
+    let left = after_record(c);
     Turn::On(Span {
         position: q,
         left,
@@ -61,26 +83,14 @@ fn record_turn(r: Rule, s: Span, q: usize) -> Turn
     })
 }
 
-// A mark stops records and isn't counted; of marks it is counted, and ends the command where the one before was a mark too.
-fn mark_turn(r: Rule, s: Span, q: usize) -> Turn
-    requires { ⌜ 1 ≤ s .left ⌝ }
-    ensures { λ t. ⌜ t ≡ markTurn r s q ⌝ }
+// Of marks a mark is counted, and ends the command where the one before was a mark too.
+fn skip_turn(r: Rule, s: Span, n: MarkCount, q: usize) -> Turn
+    requires { ⌜ 1 ≤ n .0 ⌝ }
+    ensures { λ t. ⌜ t ≡ skipTurn r s n q ⌝ }
 {
-    if !r.marks {
-        let passed = Span {
-            position: q,
-            left: s.left,
-            tmk: true,
-            after_mark: true,
-        };
-        return Turn::Over(Spaced {
-            span: passed,
-            stop: Stop::Mark,
-        });
-    }
     let counted = Span {
         position: q,
-        left: s.left - 1,
+        left: Count::Marks(MarkCount(n.0 - 1)),
         tmk: true,
         after_mark: true,
     };
@@ -93,17 +103,38 @@ fn mark_turn(r: Rule, s: Span, q: usize) -> Turn
     Turn::On(counted)
 }
 
+// A mark stops records and isn't counted.
+fn mark_turn(r: Rule, s: Span, q: usize) -> Turn
+    requires { ⌜ 1 ≤ numberOf (s .left) ⌝ }
+    ensures { λ t. ⌜ t ≡ markTurn r s q ⌝ }
+{
+    let c = s.left;
+    match c {
+        Count::Records(n) => Turn::Over(Spaced {
+            span: Span {
+                position: q,
+                left: Count::Records(n),
+                tmk: true,
+                after_mark: true,
+            },
+            stop: Stop::Mark,
+        }),
+        Count::Marks(n) => skip_turn(r, s, n, q),
+    }
+}
+
 fn turn_over(r: Rule, s: Span, f: Sought) -> Turn
-    requires { ⌜ 1 ≤ s .left ⌝ }
+    requires { ⌜ 1 ≤ numberOf (s .left) ⌝ }
     ensures { λ t. ⌜ t ≡ turnOf r s f ⌝ }
 {
     match f {
-        Sought::Record(_, q) => record_turn(r, s, q),
+        Sought::Record(_, q) => record_turn(s, q),
         Sought::Mark(q) => mark_turn(r, s, q),
         Sought::Nothing(q) => {
+            let left = s.left;
             let there = Span {
                 position: q,
-                left: s.left,
+                left,
                 tmk: s.tmk,
                 after_mark: s.after_mark,
             };
@@ -128,7 +159,8 @@ pub fn space(reel: &[u8], r: Rule, e: usize, from: Span) -> Spaced
     let mut turns = e + 1;
     while 0 < turns {
         turns -= 1;
-        if s.left == 0 {
+        let left = s.left;
+        if none_left(left) {
             return Spaced {
                 span: s,
                 stop: Stop::Count,

@@ -68,7 +68,7 @@ pub record Table : Type 0 where
   pub p2 : pointerOf 0x1236 ≡ 0x21234
   pub p2-written : (u : Unit) → u .registers .ssr ≡ true → tsdbWritten u 0x1236 .registers .pointer ≡ 0x21234
   -- "P3 count 10, record 7: residual 3." It is the message's third word.
-  pub p3 : (rev : Bool) → readEnd 7 10 rev .residual ≡ bytes 3
+  pub p3 : (rev : Bool) → readEnd 7 (record { 0 = 10 }) rev .residual ≡ bytes 3
   pub p3-message : (u : Unit) (s : List ℕ) (h : Header) (p : Packet) (reverse : Bool) (q : ℕ) → ShortRead u s p reverse q → getD (readPlan u s h p reverse .message) 2 0 ≡ 3
   -- "P4 its TSSR 8084 hex (address below 65,536)."
   pub p4 : (u : Unit) (s : List ℕ) (h : Header) (p : Packet) (reverse : Bool) (q : ℕ) → ShortRead u s p reverse q → Clear u → tssrOf (readPlan u s h p reverse .unit) ≡ 0x8084

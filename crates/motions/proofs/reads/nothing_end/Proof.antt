@@ -4,8 +4,8 @@ use Rattle.motions.specs.Reads.{nothingEnd}
 use Rattle.motions.proofs.reads.nothing_end.Statement.{statement}
 use Rattle.motions.proofs.reads.nothing_end.Tie as tie
 
-add-t6 : tie.Need-add-t6
-add-t6 c = search needs
+add-t5 : tie.Need-add-t5
+add-t5 c = search needs
 
 returns : tie.Need-returns
 unfolding nothingEnd
@@ -16,4 +16,4 @@ unfolding nothingEnd
 returns-2 c = rw (c .if1 .left)
 
 pub nothing-end-spec : {M : Type 1} → statement M
-nothing-end-spec = tie.close (tie.spec add-t6 returns returns-2)
+nothing-end-spec = tie.close (tie.spec add-t5 returns returns-2)

@@ -9,6 +9,9 @@ use Rattle.motions.specs.Reads.{readEnd}
 use Rattle.motions.proofs.reads.read_end.Statement.{statement}
 use Rattle.motions.proofs.reads.read_end.Tie as tie
 
+cast-c : tie.Need-cast-c
+cast-c c = search needs
+
 flag-requires : tie.Need-flag-requires
 flag-requires c κs = search needs
 
@@ -33,15 +36,16 @@ cast-left c = search needs
 returns : tie.Need-returns
 unfolding readEnd
 returns c =
-    let a = c .before .before .before .before .before .args in
+    let a = c .before .before .before .before .before .before .args in
     let i = c .before .before .before .before .if1 in
-    let k : i .class ≡ pick (eqb (a .n) (a .count)) 0 2 = ⊎-elim (λ w. w .1 ∙ rw (eq-eqb (a .n) (a .count) (w .0 .taken))) (λ w. w .1 ∙ rw (ne-eqb (a .n) (a .count) (w .0 .left))) (i .came) in
+    let k : i .class ≡ pick (eqb (a .n) (a .count .0)) 0 2 = ⊎-elim (λ w. w .1 ∙ rw (eq-eqb (a .n) (a .count .0) (w .0 .taken))) (λ w. w .1 ∙ rw (ne-eqb (a .n) (a .count .0) (w .0 .left))) (i .came) in
     rw (k, c .before .before .before .flag .ensures .0, c .before .before .flag2 .ensures .0, c .before .flag3 .ensures .0, c .least .ensures)
 
 pub read-end-spec : {M : Type 1} → statement M
 read-end-spec =
     tie.close
     (tie.spec
+    cast-c
     flag-requires
     flag-requires-2
     add-found

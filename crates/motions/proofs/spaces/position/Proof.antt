@@ -1,9 +1,11 @@
 -- `position` meets its contract.
 use borrow.Author.Needs.{needs}
-use borrow.Author.Tests.{eq-eqb, ne-eqb}
 use Rattle.motions.specs.Spaces.{positioned}
 use Rattle.motions.proofs.spaces.position.Statement.{statement}
 use Rattle.motions.proofs.spaces.position.Tie as tie
+
+none-left-requires : tie.Need-none-left-requires
+none-left-requires c κs = search needs
 
 residual-of-requires : tie.Need-residual-of-requires
 residual-of-requires c κs = search needs
@@ -17,8 +19,7 @@ no-lay-requires c κs = search needs
 returns : tie.Need-returns
 unfolding positioned
 returns c =
-    let a = c .before .before .before .before .before .args in
-    rw (eq-eqb (a .count) 0 (c .before .before .before .if1 .taken), c .no-lay .ensures, c .before .no-move .ensures, c .before .before .residual-of .ensures)
+    rw (← c .before .before .before .before .none-left .ensures, c .before .before .before .if1 .taken, c .no-lay .ensures, c .before .no-move .ensures, c .before .before .residual-of .ensures)
 
 space-requires : tie.Need-space-requires
 space-requires c κs = search needs
@@ -29,13 +30,13 @@ space-motion-requires c κs = search needs
 returns-2 : tie.Need-returns-2
 unfolding positioned
 returns-2 c =
-    let a = c .before .before .before .before .before .args in
-    rw (ne-eqb (a .count) 0 (c .before .before .before .if1 .left), ← c .before .space .ensures) (c .space-motion .ensures)
+    rw (← c .before .before .before .before .none-left .ensures, c .before .before .before .if1 .left, ← c .before .space .ensures) (c .space-motion .ensures)
 
 pub position-spec : {M : Type 1} → statement M
 position-spec =
     tie.close
     (tie.spec
+    none-left-requires
     residual-of-requires
     no-move-requires
     no-lay-requires

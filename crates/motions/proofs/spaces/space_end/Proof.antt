@@ -13,6 +13,9 @@ flag-requires c κs = search needs
 flag-requires-2 : tie.Need-flag-requires-2
 flag-requires-2 c κs = search needs
 
+none-left-requires : tie.Need-none-left-requires
+none-left-requires c κs = search needs
+
 flag-requires-3 : tie.Need-flag-requires-3
 flag-requires-3 c κs = search needs
 
@@ -22,26 +25,26 @@ enum-told c = search needs
 enum-told-2 : tie.Need-enum-told-2
 enum-told-2 c = search needs
 
-add-t10 : tie.Need-add-t10
-add-t10 c = search needs
+add-t12 : tie.Need-add-t12
+add-t12 c = search needs
 
 enum-told-3 : tie.Need-enum-told-3
 enum-told-3 c = search needs
 
-add-t11 : tie.Need-add-t11
-add-t11 c = search needs
+add-t13 : tie.Need-add-t13
+add-t13 c = search needs
 
-add-t12 : tie.Need-add-t12
-add-t12 c = search needs
+add-t14 : tie.Need-add-t14
+add-t14 c = search needs
 
 enum-told-4 : tie.Need-enum-told-4
 enum-told-4 c = search needs
 
-add-t15 : tie.Need-add-t15
-add-t15 c = search needs
+add-t17 : tie.Need-add-t17
+add-t17 c = search needs
 
-add-t16 : tie.Need-add-t16
-add-t16 c = search needs
+add-t18 : tie.Need-add-t18
+add-t18 c = search needs
 
 enum-told-5 : tie.Need-enum-told-5
 enum-told-5 c = search needs
@@ -56,11 +59,11 @@ returns-2 c = rw (c .enum-told2 .given .1, c .before .before .before .before .be
 
 returns-3 : tie.Need-returns-3
 unfolding spaceEnd
-returns-3 c = rw (c .enum-told3 .given .1, c .before .before .flag3 .ensures .0, c .before .before .before .before .flag2 .ensures .0, c .before .before .before .before .before .flag .ensures .0, c .before .before .before .before .before .before .residual-of .ensures)
+returns-3 c = rw (c .enum-told3 .given .1, c .before .before .flag3 .ensures .0, c .before .before .before .none-left .ensures, c .before .before .before .before .flag2 .ensures .0, c .before .before .before .before .before .flag .ensures .0, c .before .before .before .before .before .before .residual-of .ensures)
 
 returns-4 : tie.Need-returns-4
 unfolding spaceEnd
-returns-4 c = rw (c .before .enum-told4 .given .1, c .if1 .taken, c .before .before .before .flag3 .ensures .0, c .before .before .before .before .before .flag2 .ensures .0, c .before .before .before .before .before .before .before .residual-of .ensures)
+returns-4 c = rw (c .before .enum-told4 .given .1, c .if1 .taken, c .before .before .before .flag3 .ensures .0, c .before .before .before .before .none-left .ensures, c .before .before .before .before .before .flag2 .ensures .0, c .before .before .before .before .before .before .before .residual-of .ensures)
 
 returns-5 : tie.Need-returns-5
 unfolding spaceEnd
@@ -77,16 +80,17 @@ space-end-spec =
     residual-of-requires
     flag-requires
     flag-requires-2
+    none-left-requires
     flag-requires-3
     enum-told
     enum-told-2
-    add-t10
-    enum-told-3
-    add-t11
     add-t12
+    enum-told-3
+    add-t13
+    add-t14
     enum-told-4
-    add-t15
-    add-t16
+    add-t17
+    add-t18
     enum-told-5
     returns
     returns-2

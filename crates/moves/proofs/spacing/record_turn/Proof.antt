@@ -4,16 +4,12 @@ use Rattle.moves.specs.Spacing.{recordTurn}
 use Rattle.moves.proofs.spacing.record_turn.Statement.{statement}
 use Rattle.moves.proofs.spacing.record_turn.Tie as tie
 
+after-record-requires : tie.Need-after-record-requires
+after-record-requires c κs = search needs
+
 returns : tie.Need-returns
 unfolding recordTurn
-returns c = rw (c .if1 .taken)
-
-sub-left : tie.Need-sub-left
-sub-left c = search needs
-
-returns-2 : tie.Need-returns-2
-unfolding recordTurn
-returns-2 c = rw (c .before .if1 .left)
+returns c = rw (c .after-record .ensures)
 
 pub record-turn-spec : {M : Type 1} → statement M
-record-turn-spec = tie.close (tie.spec returns sub-left returns-2)
+record-turn-spec = tie.close (tie.spec after-record-requires returns)
