@@ -42,7 +42,7 @@ use Rattle.signals.proofs.Messages.{length-words, xst0-sum}
 use Rattle.state.specs.declared.Tape.{Tape}
 use Rattle.state.specs.declared.Unit.{Unit}
 use Rattle.state.proofs.Tests.{either, neither}
-use Rattle.moves.specs.Counting.{countOf, numberOf, ofMarks}
+use Rattle.moves.specs.Counting.{countOf, howMany, ofMarks}
 use Rattle.moves.specs.Seeking.{sought, soughtFrom, soughtOn}
 use Rattle.moves.specs.Spacing.{recordTurn, spaced, turnOf}
 use Rattle.moves.specs.declared.seeking.Sought.{Sought}
@@ -539,7 +539,7 @@ module _ (s : List ℕ) (e : ℕ) (reverse : Bool) (p count : ℕ) (marks : Bool
   Past q left = (o : ReadOver s e reverse p q) × (passedIn marks o + left ≡ count)
 
   abbrev SpanPast : Span → Type 0
-  SpanPast y = Past (y .position) (numberOf (y .left))
+  SpanPast y = Past (y .position) (howMany (y .left))
 
   -- nothing is read over yet, and all of the count is left
   past-none : (left : ℕ) → left ≡ count → Past p left
@@ -564,21 +564,21 @@ module _ (s : List ℕ) (e : ℕ) (reverse : Bool) (p count : ℕ) (marks : Bool
 -- a space or a skip by the rule r
 module _ (s : List ℕ) (e : ℕ) (r : Rule) (p : ℕ) (count : Count) where
   abbrev CountPast : ℕ → ℕ → Type 0
-  CountPast = Past s e (r .reverse) p (numberOf count) (ofMarks count)
+  CountPast = Past s e (r .reverse) p (howMany count) (ofMarks count)
 
   abbrev RulePast : Span → Type 0
-  RulePast = SpanPast s e (r .reverse) p (numberOf count) (ofMarks count)
+  RulePast = SpanPast s e (r .reverse) p (howMany count) (ofMarks count)
 
   abbrev FoundPast : ℕ → Sought → Type 0
-  FoundPast left = Found s e (r .reverse) (λ q. CountPast q left) (past-gap s e (r .reverse) p (numberOf count) (ofMarks count) left)
+  FoundPast left = Found s e (r .reverse) (λ q. CountPast q left) (past-gap s e (r .reverse) p (howMany count) (ofMarks count) left)
 
   -- each turn, by what its search found
-  turn-past : (y : Span) (f : Sought) → Counts (ofMarks count) y → RulePast y → (numberOf (y .left) ≡ 0 → ⊥) → FoundPast (numberOf (y .left)) f → SpanHas RulePast (turnOf r y f)
+  turn-past : (y : Span) (f : Sought) → Counts (ofMarks count) y → RulePast y → (howMany (y .left) ≡ 0 → ⊥) → FoundPast (howMany (y .left)) f → SpanHas RulePast (turnOf r y f)
   unfolding turnOf recordTurn
   turn-past y (sought-as.Record n t) k before some (q, a, g) =
-      past-record s e (r .reverse) p (numberOf count) (ofMarks count) _ _ q t n a g (rw k at (record-number (y .left) some))
+      past-record s e (r .reverse) p (howMany count) (ofMarks count) _ _ q t n a g (rw k at (record-number (y .left) some))
   turn-past y (sought-as.Mark t) k before some (q, a, g) =
-      let past : (less : ℕ) → pick (ofMarks (y .left)) 1 0 + less ≡ numberOf (y .left) → CountPast t less = λ less d. past-mark s e (r .reverse) p (numberOf count) (ofMarks count) _ less q t a g (rw k at d) in
+      let past : (less : ℕ) → pick (ofMarks (y .left)) 1 0 + less ≡ howMany (y .left) → CountPast t less = λ less d. past-mark s e (r .reverse) p (howMany count) (ofMarks count) _ less q t a g (rw k at d) in
       mark-turns (SpanHas RulePast) r y t (λ n w. past _ (mark-stops-number n w)) (λ n w b. past _ (mark-number n w some)) (λ n w b. past _ (mark-number n w some))
   turn-past y (sought-as.Nothing t) k before some a = a
   turn-past y (sought-as.Bad n) k before some a = before
@@ -589,7 +589,7 @@ module _ (s : List ℕ) (e : ℕ) (r : Rule) (p : ℕ) (count : Count) where
       spaced-keeps s r e RulePast x
       (λ y k a some.
       turn-past y _ (k ∙ same) a some
-      (found s e (r .reverse) (λ q. CountPast q (numberOf (y .left))) (past-gap s e (r .reverse) p (numberOf count) (ofMarks count) (numberOf (y .left))) (y .position) a))
+      (found s e (r .reverse) (λ q. CountPast q (howMany (y .left))) (past-gap s e (r .reverse) p (howMany count) (ofMarks count) (howMany (y .left))) (y .position) a))
 
   -- an end of a Position: the objects that it read over, and the residual that it tells
   abbrev EndPast : Ending → Type 0
@@ -607,10 +607,10 @@ module _ (s : List ℕ) (e : ℕ) (r : Rule) (p : ℕ) (count : Count) where
 position-past : (s : List ℕ) (t : Tape) (r : Rule) (count : Count) (enb : Bool) → Has (EndPast s (t .end) r (t .position) count) (positioned s t r count enb)
 unfolding positioned spaceMotion
 position-past s t r count enb =
-    let none : (left : ℕ) → left ≡ numberOf count → CountPast s (t .end) r (t .position) count (t .position) left = past-none s (t .end) (r .reverse) (t .position) (numberOf count) (ofMarks count) in
-    pick-told (Has (EndPast s (t .end) r (t .position) count)) (eqb (numberOf count) 0) _ _
+    let none : (left : ℕ) → left ≡ howMany count → CountPast s (t .end) r (t .position) count (t .position) left = past-none s (t .end) (r .reverse) (t .position) (howMany count) (ofMarks count) in
+    pick-told (Has (EndPast s (t .end) r (t .position) count)) (eqb (howMany count) 0) _ _
     (λ z. none _ (residual-word count))
-    (λ z. space-past s (t .end) r (t .position) count _ _ (spaced-past s (t .end) r (t .position) count (startSpan t count enb) refl (none (numberOf count) refl)))
+    (λ z. space-past s (t .end) r (t .position) count _ _ (spaced-past s (t .end) r (t .position) count (startSpan t count enb) refl (none (howMany count) refl)))
 
 -- code 8 is a Position: modes 0 to 3 go one way or the other, over records or marks, and an end of steps 8 to 10 gives their whole count
 pub position-command : (code mode : ℕ) → code ≡ 8 → commandOf code mode ≡ positionMode mode
@@ -636,10 +636,10 @@ module _ (u : Unit) (m s : List ℕ) where
   -- of a plan, what `SpaceDone` says of the advance
   abbrev SpaceTold : Bool → Count → Plan → Type 0
   SpaceTold reverse count x =
-      Past s (u .tape .end) reverse (u .tape .position) (numberOf count) (ofMarks count) (x .unit .tape .position) (wordAt (memoryAfter x m s) (x .unit .characteristics .address + 4))
+      Past s (u .tape .end) reverse (u .tape .position) (howMany count) (ofMarks count) (x .unit .tape .position) (wordAt (memoryAfter x m s) (x .unit .characteristics .address + 4))
 
   space-told : (reverse : Bool) (count : Count) (v : Unit) (ie : Bool) (x : Ending)
-      → Past s (u .tape .end) reverse (u .tape .position) (numberOf count) (ofMarks count) (x .tape .position) (residualWord (x .end .residual)) → Sends u m s (told v ie x)
+      → Past s (u .tape .end) reverse (u .tape .position) (howMany count) (ofMarks count) (x .tape .position) (residualWord (x .end .residual)) → Sends u m s (told v ie x)
       → SpaceTold reverse count (told v ie x)
   unfolding told toldUnit ended
   space-told reverse count v ie x (o, c) (t, room) = (o, rw (told-word v ie x m s t room) c)

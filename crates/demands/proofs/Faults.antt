@@ -35,7 +35,7 @@ use Rattle.state.specs.Checks.{bufferWrong}
 use Rattle.state.specs.declared.Tape.{Tape}
 use Rattle.state.specs.declared.Unit.{Unit}
 use Rattle.state.proofs.Tests.{either}
-use Rattle.moves.specs.Counting.{numberOf, ofMarks}
+use Rattle.moves.specs.Counting.{howMany, ofMarks}
 use Rattle.moves.specs.Seeking.{sought, soughtFrom, soughtOn}
 use Rattle.moves.specs.Spacing.{recordTurn, spaced, turnOf}
 use Rattle.moves.specs.declared.seeking.Sought.{Sought}
@@ -531,7 +531,7 @@ module _ (s : List ℕ) (t : Tape) where
     unfolding positioned spaceMotion
     position-over r count enb =
         let x : Span = startSpan t count enb in
-        either (TapeOver (r .reverse)) (eqb (numberOf count) 0) _ _ tt
+        either (TapeOver (r .reverse)) (eqb (howMany count) 0) _ _ tt
         (space-by s (t .end) (r .reverse) (t .position) r (spaced s r (t .end) x .span) (spaced s r (t .end) x .stop) (space-over s (t .end) r x h))
 
     retry-over : (blocks : ℕ) (l : Laid) (mark : Bool) → TapeOver true (retried s t blocks l mark)

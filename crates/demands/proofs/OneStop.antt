@@ -15,7 +15,7 @@ use Rattle.signals.specs.Message.{flagOf}
 use Rattle.signals.specs.Residuals.{residualWord}
 use Rattle.state.specs.declared.Tape.{Tape}
 use Rattle.motions.specs.declared.parts.Ending.{Ending}
-use Rattle.moves.specs.Counting.{numberOf, ofMarks}
+use Rattle.moves.specs.Counting.{howMany, ofMarks}
 use Rattle.moves.specs.declared.spacing.Count.{Count}
 use Rattle.moves.specs.declared.spacing.Rule.{Rule}
 use Rattle.demands.specs.Done.{passedIn}
@@ -62,7 +62,7 @@ halts-is faults = false
 -- a Position from the tape t on the reel s
 module _ (s : List ℕ) (t : Tape) (rule : Rule) (count : Count) where
   abbrev left-at : Place → ℕ
-  left-at x = numberOf count - x .done
+  left-at x = howMany count - x .done
 
   -- by what is met
   abbrev onMet : Place → Met → Next
@@ -84,7 +84,7 @@ module _ (s : List ℕ) (t : Tape) (rule : Rule) (count : Count) where
 
   -- one object further, while some of the count is left
   abbrev next : Place → Next
-  next x = pick (ltb (x .done) (numberOf count)) (onMet x (metAhead x)) (halts (tells (x .at) 0 0 (flagOf (x .tmk) TMK) (flagOf (rule .reverse) REV)))
+  next x = pick (ltb (x .done) (howMany count)) (onMet x (metAhead x)) (halts (tells (x .at) 0 0 (flagOf (x .tmk) TMK) (flagOf (rule .reverse) REV)))
 
   abbrev onward-is : Next → Bool
   onward-is (goes-on y) = true
@@ -109,8 +109,8 @@ module _ (s : List ℕ) (t : Tape) (rule : Rule) (count : Count) where
   one-last {z₂ = z₂} (later {y = y} a l) (later b k) = one-last l (subst (Leads z₂) (ap (λ n. place-of n y) (sym b ∙ a)) k)
 
   -- the next object decides, while some of the count is left
-  next-met : (x : Place) (m : Met) → x .done < numberOf count → metAhead x ≡ m → next x ≡ onMet x m
-  next-met x m h y = rw (lt-ltb (x .done) (numberOf count) h, y)
+  next-met : (x : Place) (m : Met) → x .done < howMany count → metAhead x ≡ m → next x ≡ onMet x m
+  next-met x m h y = rw (lt-ltb (x .done) (howMany count) h, y)
 
   -- a mark that is counted
   mark-on : (x : Place) (b : ℕ) → ofMarks count ≡ true → (rule .ess && x .after) ≡ false → onMet x (met.Mark b) ≡ goes-on (place b (x .done + pick (ofMarks count) 1 0) true true)
@@ -122,29 +122,29 @@ module _ (s : List ℕ) (t : Tape) (rule : Rule) (count : Count) where
   none-ahead reverse q h = rw (eq-eqb (ahead reverse q (t .end)) 0 h)
 
   -- the five ends, with so much left
-  done-halts : (x : Place) (left : ℕ) → left ≡ 0 → x .done + left ≡ numberOf count → next x ≡ halts (tells (x .at) left 0 (flagOf (x .tmk) TMK) (flagOf (rule .reverse) REV))
-  done-halts x left z c = rw (le-ltb (x .done) (numberOf count) (omega arith), z)
+  done-halts : (x : Place) (left : ℕ) → left ≡ 0 → x .done + left ≡ howMany count → next x ≡ halts (tells (x .at) left 0 (flagOf (x .tmk) TMK) (flagOf (rule .reverse) REV))
+  done-halts x left z c = rw (le-ltb (x .done) (howMany count) (omega arith), z)
 
-  mark-halts : (x : Place) (b left : ℕ) → ofMarks count ≡ false → x .done + left ≡ numberOf count → onMet x (met.Mark b) ≡ halts (tells b left 2 (TMK + RLS) (flagOf (rule .reverse) REV))
+  mark-halts : (x : Place) (b left : ℕ) → ofMarks count ≡ false → x .done + left ≡ howMany count → onMet x (met.Mark b) ≡ halts (tells b left 2 (TMK + RLS) (flagOf (rule .reverse) REV))
   mark-halts x b left z c =
-      let l : numberOf count - x .done ≡ left = omega arith in
+      let l : howMany count - x .done ≡ left = omega arith in
       rw (z, l)
 
-  logical-halts : (x : Place) (b left : ℕ) → ofMarks count ≡ true → (rule .ess && x .after) ≡ true → x .done + 1 + left ≡ numberOf count
+  logical-halts : (x : Place) (b left : ℕ) → ofMarks count ≡ true → (rule .ess && x .after) ≡ true → x .done + 1 + left ≡ howMany count
       → onMet x (met.Mark b) ≡ halts (tells b left 2 (TMK + LET + flagOf (not (eqb left 0)) RLS) (flagOf (rule .reverse) REV))
   logical-halts x b left z w c =
-      let l : numberOf count - x .done - 1 ≡ left = omega arith in
+      let l : howMany count - x .done - 1 ≡ left = omega arith in
       rw (z, w, l)
 
-  bot-halts : (x : Place) (left : ℕ) → rule .reverse ≡ true → x .done + left ≡ numberOf count
+  bot-halts : (x : Place) (left : ℕ) → rule .reverse ≡ true → x .done + left ≡ howMany count
       → onMet x met.Nothing ≡ halts (tells (x .at) left 2 (flagOf (x .tmk) TMK + flagOf (not (eqb left 0)) RLS) (REV + RIB))
   bot-halts x left z c =
-      let l : numberOf count - x .done ≡ left = omega arith in
+      let l : howMany count - x .done ≡ left = omega arith in
       rw (z, l)
 
-  recorded-halts : (x : Place) (left : ℕ) → rule .reverse ≡ false → x .done + left ≡ numberOf count → onMet x met.Nothing ≡ halts (tells (x .at) left 6 (flagOf (x .tmk) TMK) OPI)
+  recorded-halts : (x : Place) (left : ℕ) → rule .reverse ≡ false → x .done + left ≡ howMany count → onMet x met.Nothing ≡ halts (tells (x .at) left 6 (flagOf (x .tmk) TMK) OPI)
   recorded-halts x left z c =
-      let l : numberOf count - x .done ≡ left = omega arith in
+      let l : howMany count - x .done ≡ left = omega arith in
       rw (z, l)
 
   module _ (first : Bool) where
@@ -161,7 +161,7 @@ module _ (s : List ℕ) (t : Tape) (rule : Rule) (count : Count) where
     goes-leads (past-mark {q = q} {r = r} {x = x} h z w g) l = goes-leads g (later (next-met (behind q r) _ h x ∙ mark-on (behind q r) _ z w) l)
 
     -- and each reason is where it ends
-    why-leads : {left q class found xst3 : ℕ} {r : Over s t rule count first q} → passedIn (ofMarks count) r + left ≡ numberOf count → Stopped s t rule count first left q r class found xst3
+    why-leads : {left q class found xst3 : ℕ} {r : Over s t rule count first q} → passedIn (ofMarks count) r + left ≡ howMany count → Stopped s t rule count first left q r class found xst3
         → Leads (halts (tells q left class found xst3)) (place (t .position) 0 false first)
     unfolding passedIn
     why-leads c (satisfied {q = q} {r = r} g z) = goes-leads g (now (done-halts (behind q r) _ z c) refl)

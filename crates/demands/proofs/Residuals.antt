@@ -15,7 +15,7 @@ use Rattle.signals.specs.declared.message.End.{End}
 use Rattle.state.specs.declared.Tape.{Tape}
 use Rattle.state.proofs.Tests.{either}
 use Rattle.moves.specs.Between.{Between, Bound, countIn}
-use Rattle.moves.specs.Counting.{numberOf, ofMarks}
+use Rattle.moves.specs.Counting.{howMany, ofMarks}
 use Rattle.moves.specs.Spacing.{spaced}
 use Rattle.moves.specs.declared.seeking.Sought.{Sought}
 use Rattle.moves.specs.declared.seeking.Sought.the-variants as sought-as
@@ -108,20 +108,20 @@ module _ (s : List ℕ) (t : Tape) (r : Buffer) (reverse : Bool) {x : Ending} wh
   reread-residual opp y = rw y at (reread-adds r s t reverse opp)
 
 -- the number in a Position's residual
-pub residual-word : (c : Count) → residualWord (residualOf c) ≡ numberOf c
+pub residual-word : (c : Count) → residualWord (residualOf c) ≡ howMany c
 unfolding residualOf
 residual-word (count-as.Records n) = refl
 residual-word (count-as.Marks n) = refl
 
 -- every end of a space tells what is left, and class 0 only where the count is exhausted
 module _ (r : Rule) (x : Span) where
-  pub left-told : (stop : Stop) → residualWord (spaceEnd r x stop .residual) ≡ numberOf (x .left)
+  pub left-told : (stop : Stop) → residualWord (spaceEnd r x stop .residual) ≡ howMany (x .left)
   unfolding spaceEnd
   left-told stop-as.Count = residual-word (x .left)
   left-told stop-as.Mark = residual-word (x .left)
   left-told stop-as.LogicalEnd = residual-word (x .left)
   left-told stop-as.Nothing =
-      either (λ (y : End). residualWord (y .residual) ≡ numberOf (x .left)) (r .reverse) _ _ (residual-word (x .left)) (residual-word (x .left))
+      either (λ (y : End). residualWord (y .residual) ≡ howMany (x .left)) (r .reverse) _ _ (residual-word (x .left)) (residual-word (x .left))
   left-told (stop-as.Bad k) = residual-word (x .left)
 
   class-told : (stop : Stop) → ((k : ℕ) → stop ≡ stop-as.Bad k → ⊥) → spaceEnd r x stop .class ≡ 0 → stop ≡ stop-as.Count
@@ -134,14 +134,14 @@ module _ (r : Rule) (x : Span) where
 
 module _ {s : List ℕ} {os : List Object} (t : Tape) (h : Holds s (t .end) os) (b : Bound os (t .position)) (r : Rule) (count : Count) where
   -- "A Position count of 0 moves nothing, class 0"
-  none-asked : eqb (numberOf count) 0 ≡ true → Has (SpacedPast os r (t .position) count) (stops (end 0 0 0 (residualOf count)) t)
+  none-asked : eqb (howMany count) 0 ≡ true → Has (SpacedPast os r (t .position) count) (stops (end 0 0 0 (residualOf count)) t)
   unfolding countIn
   none-asked e =
       record {
         mid = [];
         between = stays (r .reverse) b;
         counted = omega (arith, residual-word count);
-        whole = λ c. residual-word count ∙ eqb-true (numberOf count) 0 e;
+        whole = λ c. residual-word count ∙ eqb-true (howMany count) 0 e;
       }
 
   module _ (enb : Bool) where
@@ -173,16 +173,16 @@ module _ {s : List ℕ} {os : List Object} (t : Tape) (h : Holds s (t .end) os) 
 
     passes : Has (SpacedPast os r (t .position) count) (positioned s t r count enb)
     unfolding positioned spaceMotion
-    passes = pick-told (Has (SpacedPast os r (t .position) count)) (eqb (numberOf count) 0) _ _ none-asked (λ e. motion-by (spaces .stop) refl)
+    passes = pick-told (Has (SpacedPast os r (t .position) count)) (eqb (howMany count) 0) _ _ none-asked (λ e. motion-by (spaces .stop) refl)
 
     module _ {x : Ending} (y : positioned s t r count enb ≡ motion.Ended x) where
       passed-as : SpacedPast os r (t .position) count x
       passed-as = rw y at passes
 
       -- "records or marks for Position modes 0 to 3": those between the two positions and the residual make up the count asked
-      pub space-residual : (mid : List Object) × Between os (r .reverse) (t .position) (x .tape .position) mid × (countIn (ofMarks count) mid + residualWord (x .end .residual) ≡ numberOf count)
+      pub space-residual : (mid : List Object) × Between os (r .reverse) (t .position) (x .tape .position) mid × (countIn (ofMarks count) mid + residualWord (x .end .residual) ≡ howMany count)
       space-residual = (passed-as .mid, passed-as .between, passed-as .counted)
 
       -- a space that ends with class 0 passed all that was asked
-      pub space-whole : x .end .class ≡ 0 → (mid : List Object) × Between os (r .reverse) (t .position) (x .tape .position) mid × (countIn (ofMarks count) mid ≡ numberOf count)
+      pub space-whole : x .end .class ≡ 0 → (mid : List Object) × Between os (r .reverse) (t .position) (x .tape .position) mid × (countIn (ofMarks count) mid ≡ howMany count)
       space-whole c = (passed-as .mid, passed-as .between, omega (arith, passed-as .counted, passed-as .whole c))

@@ -14,7 +14,7 @@ use Rattle.tape.specs.declared.Met.the-variants as met
 use Rattle.tape.proofs.Within.{Onward, PassIn, fewer-ahead, pass-in}
 use Rattle.signals.specs.declared.message.End.{End}
 use Rattle.state.specs.declared.Tape.{Tape}
-use Rattle.moves.specs.Counting.{marks, numberOf, ofMarks}
+use Rattle.moves.specs.Counting.{howMany, marks, ofMarks}
 use Rattle.moves.specs.Seeking.{sought, soughtFrom, soughtOn}
 use Rattle.moves.specs.Spacing.{recordTurn, span, spaced, turnOf}
 use Rattle.moves.specs.declared.seeking.Sought.{Sought}
@@ -83,13 +83,13 @@ module _ (s : List ℕ) (t : Tape) (rule : Rule) (count : Count) (first : Bool) 
     goes : Goes rule count first q over
     marked : markPassed over ≡ tmk
     since : sinceMark first over ≡ after
-    adds : passedIn (ofMarks count) over + left ≡ numberOf count
+    adds : passedIn (ofMarks count) over + left ≡ howMany count
 
   abbrev KeptAt : Span → Type 0
-  KeptAt y = Kept (y .position) (numberOf (y .left)) (y .tmk) (y .«after_mark»)
+  KeptAt y = Kept (y .position) (howMany (y .left)) (y .tmk) (y .«after_mark»)
 
   -- before the first turn
-  kept-none : Kept (t .position) (numberOf count) false first
+  kept-none : Kept (t .position) (howMany count) false first
   unfolding passedIn markPassed sinceMark
   kept-none = record { over = nothing-yet; goes = from-start; marked = refl; since = refl; adds = omega arith }
 
@@ -115,54 +115,54 @@ module _ (s : List ℕ) (t : Tape) (rule : Rule) (count : Count) (first : Bool) 
   -- an end from position q with so much left
   record Ends (q left : ℕ) (x : End) : Type 0 where
     over : Over s t rule count first q
-    counted : passedIn (ofMarks count) over + left ≡ numberOf count
+    counted : passedIn (ofMarks count) over + left ≡ howMany count
     why : Stopped s t rule count first left q over (x .class) (x .found) (x .xst3)
 
   -- the count is satisfied
-  ends-count : (y : Span) → KeptAt y → numberOf (y .left) ≡ 0 → Ends (y .position) (numberOf (y .left)) (spaceEnd rule y stop-as.Count)
+  ends-count : (y : Span) → KeptAt y → howMany (y .left) ≡ 0 → Ends (y .position) (howMany (y .left)) (spaceEnd rule y stop-as.Count)
   unfolding spaceEnd
   ends-count y k z = record { over = k .over; counted = k .adds; why = rw (← k .marked) (satisfied (k .goes) z) }
 
   -- a mark ends records
   ends-mark : (left : ℕ) (less : Count) (tmk after : Bool) (q b : ℕ) → Kept q left tmk after → passed s (rule .reverse) q (t .end) ≡ met.Mark b → (left ≡ 0 → ⊥)
-      → ofMarks count ≡ false → pick (ofMarks count) 1 0 + numberOf less ≡ left → Ends b (numberOf less) (spaceEnd rule (span b less true true) stop-as.Mark)
+      → ofMarks count ≡ false → pick (ofMarks count) 1 0 + howMany less ≡ left → Ends b (howMany less) (spaceEnd rule (span b less true true) stop-as.Mark)
   unfolding spaceEnd passedIn
   ends-mark left less tmk after q b k g some z l =
       record { over = then-mark (k .over) g; counted = omega (arith, k .adds, l); why = by-mark (k .goes) (more some (k .adds)) z }
 
   -- the second mark in a row
   ends-logical : (left : ℕ) (less : Count) (tmk after : Bool) (q b : ℕ) → Kept q left tmk after → passed s (rule .reverse) q (t .end) ≡ met.Mark b → (left ≡ 0 → ⊥)
-      → ofMarks count ≡ true → (rule .ess && after) ≡ true → pick (ofMarks count) 1 0 + numberOf less ≡ left → Ends b (numberOf less) (spaceEnd rule (span b less true true) stop-as.LogicalEnd)
+      → ofMarks count ≡ true → (rule .ess && after) ≡ true → pick (ofMarks count) 1 0 + howMany less ≡ left → Ends b (howMany less) (spaceEnd rule (span b less true true) stop-as.LogicalEnd)
   unfolding spaceEnd passedIn
   ends-logical left less tmk after q b k g some z w l =
       record { over = then-mark (k .over) g; counted = omega (arith, k .adds, l); why = at-logical-end {r = k .over} (k .goes) (more some (k .adds)) z (rw (k .since) w) }
 
   -- nothing lies ahead
-  ends-nothing : (left : Count) (tmk after : Bool) (q : ℕ) → Kept q (numberOf left) tmk after → (numberOf left ≡ 0 → ⊥) → ahead (rule .reverse) q (t .end) ≡ 0
-      → Ends q (numberOf left) (spaceEnd rule (span q left tmk after) stop-as.Nothing)
+  ends-nothing : (left : Count) (tmk after : Bool) (q : ℕ) → Kept q (howMany left) tmk after → (howMany left ≡ 0 → ⊥) → ahead (rule .reverse) q (t .end) ≡ 0
+      → Ends q (howMany left) (spaceEnd rule (span q left tmk after) stop-as.Nothing)
   unfolding spaceEnd
   ends-nothing left tmk after q k some h =
-      pick-told (Ends q (numberOf left)) (rule .reverse) _ _
+      pick-told (Ends q (howMany left)) (rule .reverse) _ _
       (λ z. record { over = k .over; counted = k .adds; why = rw (← k .marked) (at-bot (k .goes) (more some (k .adds)) z (rw z at h)) })
       (λ z. record { over = k .over; counted = k .adds; why = rw (← k .marked) (at-recorded-end (k .goes) (more some (k .adds)) z (rw z at h)) })
 
   -- where the space stopped, by why it did
   abbrev Why : Span → Stop → Type 0
   Why y stop-as.Count = KeptAt y
-  Why y stop-as.Mark = Ends (y .position) (numberOf (y .left)) (spaceEnd rule y stop-as.Mark)
-  Why y stop-as.LogicalEnd = Ends (y .position) (numberOf (y .left)) (spaceEnd rule y stop-as.LogicalEnd)
-  Why y stop-as.Nothing = Ends (y .position) (numberOf (y .left)) (spaceEnd rule y stop-as.Nothing)
+  Why y stop-as.Mark = Ends (y .position) (howMany (y .left)) (spaceEnd rule y stop-as.Mark)
+  Why y stop-as.LogicalEnd = Ends (y .position) (howMany (y .left)) (spaceEnd rule y stop-as.LogicalEnd)
+  Why y stop-as.Nothing = Ends (y .position) (howMany (y .left)) (spaceEnd rule y stop-as.Nothing)
   Why y (stop-as.Bad k) = SpaceRefused s t rule count first k
 
   abbrev Turned : Turn → Type 0
   Turned x = TurnHas KeptAt (λ z. Why (z .span) (z .stop)) x
 
-  abbrev Met-from : (y : Span) → (numberOf (y .left) ≡ 0 → ⊥) → Sought → Type 0
+  abbrev Met-from : (y : Span) → (howMany (y .left) ≡ 0 → ⊥) → Sought → Type 0
   Met-from y some f =
-      Meets s (t .end) (rule .reverse) (λ q. Kept q (numberOf (y .left)) (y .tmk) (y .«after_mark»)) (kept-gap (numberOf (y .left)) (y .tmk) (y .«after_mark») some) f
+      Meets s (t .end) (rule .reverse) (λ q. Kept q (howMany (y .left)) (y .tmk) (y .«after_mark»)) (kept-gap (howMany (y .left)) (y .tmk) (y .«after_mark») some) f
 
   -- each turn, by what its search found
-  turn-kept : (y : Span) (f : Sought) → Counts (ofMarks count) y → (some : numberOf (y .left) ≡ 0 → ⊥) → Met-from y some f → Turned (turnOf rule y f)
+  turn-kept : (y : Span) (f : Sought) → Counts (ofMarks count) y → (some : howMany (y .left) ≡ 0 → ⊥) → Met-from y some f → Turned (turnOf rule y f)
   unfolding turnOf recordTurn
   turn-kept y (sought-as.Record n b) same some (q, k, g) = kept-record _ _ _ _ q b n k g some (rw same at (record-number (y .left) some))
   turn-kept y (sought-as.Mark b) same some (q, k, g) =
@@ -175,9 +175,9 @@ module _ (s : List ℕ) (t : Tape) (rule : Rule) (count : Count) (first : Bool) 
 
   module _ (below-end : t .position ≤ t .end) where
     -- the search of a turn, from what is kept
-    kept-met : (y : Span) (some : numberOf (y .left) ≡ 0 → ⊥) → KeptAt y → Met-from y some (sought s (rule .reverse) (y .position) (t .end))
+    kept-met : (y : Span) (some : howMany (y .left) ≡ 0 → ⊥) → KeptAt y → Met-from y some (sought s (rule .reverse) (y .position) (t .end))
     kept-met y some k =
-        meets s (t .end) (rule .reverse) (λ q. Kept q (numberOf (y .left)) (y .tmk) (y .«after_mark»)) (kept-gap (numberOf (y .left)) (y .tmk) (y .«after_mark») some) (y .position)
+        meets s (t .end) (rule .reverse) (λ q. Kept q (howMany (y .left)) (y .tmk) (y .«after_mark»)) (kept-gap (howMany (y .left)) (y .tmk) (y .«after_mark») some) (y .position)
         (over-below s (t .end) (rule .reverse) below-end (k .over)) k
 
     -- so where the space stops
@@ -188,7 +188,7 @@ module _ (s : List ℕ) (t : Tape) (rule : Rule) (count : Count) (first : Bool) 
         (λ turns y c k some. turn-kept y _ c some (kept-met y some k)) (λ turns y k w. k) (t .end + 1) x same i
 
   -- an end as the motion tells it
-  ends-told : (y : Span) (why : Stop) → Ends (y .position) (numberOf (y .left)) (spaceEnd rule y why)
+  ends-told : (y : Span) (why : Stop) → Ends (y .position) (howMany (y .left)) (spaceEnd rule y why)
       → SpaceEnded s t rule count first (resting (spaceEnd rule y why) (standing (y .position) (t .end)))
   ends-told y why k = record { over = k .over; counted = rw (left-told rule y why) (k .counted); why = rw (left-told rule y why) (k .why) }
 
@@ -198,7 +198,7 @@ module _ (s : List ℕ) (t : Tape) (rule : Rule) (count : Count) (first : Bool) 
   Comes (motion.Fault k) = SpaceRefused s t rule count first k
 
   -- and so by why the space stopped
-  motion-comes : (y : Span) (why : Stop) → Why y why → (why ≡ stop-as.Count → numberOf (y .left) ≡ 0) → Comes (spaceMotionBy rule y (t .end) why)
+  motion-comes : (y : Span) (why : Stop) → Why y why → (why ≡ stop-as.Count → howMany (y .left) ≡ 0) → Comes (spaceMotionBy rule y (t .end) why)
   unfolding spaceMotionBy
   motion-comes y stop-as.Count k z = ends-told y stop-as.Count (ends-count y k (z refl))
   motion-comes y stop-as.Mark k z = ends-told y stop-as.Mark k
@@ -208,7 +208,7 @@ module _ (s : List ℕ) (t : Tape) (rule : Rule) (count : Count) (first : Bool) 
 
 -- a Position with a count, from where the tape stands
 module _ (s : List ℕ) (t : Tape) (rule : Rule) (count : Count) (enb : Bool) where
-  position-comes : t .position ≤ t .end → eqb (numberOf count) 0 ≡ false → Comes s t rule count (enb && eqb (t .position) 0) (positioned s t rule count enb)
+  position-comes : t .position ≤ t .end → eqb (howMany count) 0 ≡ false → Comes s t rule count (enb && eqb (t .position) 0) (positioned s t rule count enb)
   unfolding positioned spaceMotion
   position-comes below-end some =
       let first : Bool = enb && eqb (t .position) 0 in
@@ -218,14 +218,14 @@ module _ (s : List ℕ) (t : Tape) (rule : Rule) (count : Count) (enb : Bool) wh
       (spaced-why s rule (t .end) x below-end))
 
   -- how a Position mode 0 to 3 ended that had a count
-  pub space-ended : (x : Ending) → t .position ≤ t .end → eqb (numberOf count) 0 ≡ false → positioned s t rule count enb ≡ motion.Ended x → SpaceEnded s t rule count (enb && eqb (t .position) 0) x
+  pub space-ended : (x : Ending) → t .position ≤ t .end → eqb (howMany count) 0 ≡ false → positioned s t rule count enb ≡ motion.Ended x → SpaceEnded s t rule count (enb && eqb (t .position) 0) x
   space-ended x below-end some y = rw y at (position-comes below-end some)
 
   -- and a block refuses it only where it has to be read
-  pub space-refused : (k : ℕ) → t .position ≤ t .end → eqb (numberOf count) 0 ≡ false → positioned s t rule count enb ≡ motion.Fault k → SpaceRefused s t rule count (enb && eqb (t .position) 0) k
+  pub space-refused : (k : ℕ) → t .position ≤ t .end → eqb (howMany count) 0 ≡ false → positioned s t rule count enb ≡ motion.Fault k → SpaceRefused s t rule count (enb && eqb (t .position) 0) k
   space-refused k below-end some y = rw y at (position-comes below-end some)
 
 -- "A Position count of 0 moves nothing, class 0"
-pub space-of-none : (s : List ℕ) (t : Tape) (rule : Rule) (count : Count) (enb : Bool) → numberOf count ≡ 0 → positioned s t rule count enb ≡ stops (end 0 0 0 (residualOf count)) t
+pub space-of-none : (s : List ℕ) (t : Tape) (rule : Rule) (count : Count) (enb : Bool) → howMany count ≡ 0 → positioned s t rule count enb ≡ stops (end 0 0 0 (residualOf count)) t
 unfolding positioned
-space-of-none s t rule count enb z = rw (eq-eqb (numberOf count) 0 z)
+space-of-none s t rule count enb z = rw (eq-eqb (howMany count) 0 z)

@@ -5,7 +5,7 @@ use Prim.Native.Nat.{ℕ, _+_}
 use Rattle.tape.specs.Objects.{Object}
 use Rattle.signals.specs.Residuals.{residualWord}
 use Rattle.moves.specs.Between.{Between, countIn}
-use Rattle.moves.specs.Counting.{numberOf, ofMarks}
+use Rattle.moves.specs.Counting.{howMany, ofMarks}
 use Rattle.moves.specs.declared.spacing.Count.{Count}
 use Rattle.moves.specs.declared.spacing.Rule.{Rule}
 use Rattle.motions.specs.declared.parts.Ending.{Ending}
@@ -14,5 +14,5 @@ use Rattle.motions.specs.declared.parts.Ending.{Ending}
 pub record SpacedPast (os : List Object) (r : Rule) (p : ℕ) (count : Count) (x : Ending) : Type 0 where
   pub mid : List Object
   pub between : Between os (r .reverse) p (x .tape .position) mid
-  pub counted : countIn (ofMarks count) mid + residualWord (x .end .residual) ≡ numberOf count
+  pub counted : countIn (ofMarks count) mid + residualWord (x .end .residual) ≡ howMany count
   pub whole : x .end .class ≡ 0 → residualWord (x .end .residual) ≡ 0

@@ -14,7 +14,7 @@ use Rattle.signals.specs.Message.{flagOf}
 use Rattle.signals.specs.Residuals.{residualWord}
 use Rattle.state.specs.declared.Tape.{Tape}
 use Rattle.motions.specs.declared.parts.Ending.{Ending}
-use Rattle.moves.specs.Counting.{numberOf, ofMarks}
+use Rattle.moves.specs.Counting.{howMany, ofMarks}
 use Rattle.moves.specs.declared.spacing.Count.{Count}
 use Rattle.moves.specs.declared.spacing.Rule.{Rule}
 use Rattle.demands.specs.Done.{passedIn}
@@ -39,11 +39,11 @@ module _ {s : List ℕ} {e : ℕ} {reverse : Bool} {p : ℕ} where
   -- second in a row
   pub data Goes (rule : Rule) (count : Count) (first : Bool) : (q : ℕ) → ReadOver s e reverse p q → Type 0 where
     from-start : Goes rule count first p nothing-yet
-    past-record : {q q′ n : ℕ} {r : ReadOver s e reverse p q} {x : passed s reverse q e ≡ met.Record n q′} → passedIn (ofMarks count) r < numberOf count
+    past-record : {q q′ n : ℕ} {r : ReadOver s e reverse p q} {x : passed s reverse q e ≡ met.Record n q′} → passedIn (ofMarks count) r < howMany count
         → Goes rule count first q r → Goes rule count first q′ (then-record r x)
-    past-gap : {q q′ : ℕ} {r : ReadOver s e reverse p q} {x : passed s reverse q e ≡ met.Gap q′} → passedIn (ofMarks count) r < numberOf count
+    past-gap : {q q′ : ℕ} {r : ReadOver s e reverse p q} {x : passed s reverse q e ≡ met.Gap q′} → passedIn (ofMarks count) r < howMany count
         → Goes rule count first q r → Goes rule count first q′ (then-gap r x)
-    past-mark : {q q′ : ℕ} {r : ReadOver s e reverse p q} {x : passed s reverse q e ≡ met.Mark q′} → passedIn (ofMarks count) r < numberOf count
+    past-mark : {q q′ : ℕ} {r : ReadOver s e reverse p q} {x : passed s reverse q e ≡ met.Mark q′} → passedIn (ofMarks count) r < howMany count
         → ofMarks count ≡ true → (rule .ess && sinceMark first r) ≡ false → Goes rule count first q r → Goes rule count first q′ (then-mark r x)
 
 -- of a Position by the rule r with this count from the tape t on the reel s: the objects read over, and its class, XST0's upper bits and XST3. `left`
@@ -56,22 +56,22 @@ module _ (s : List ℕ) (t : Tape) (rule : Rule) (count : Count) (first : Bool) 
     -- the count is satisfied, by the object read over last
     satisfied : {q : ℕ} {r : Over q} → Goes rule count first q r → left ≡ 0 → Stopped left q r 0 (flagOf (markPassed r) TMK) (flagOf (rule .reverse) REV)
     -- records, and a mark
-    by-mark : {q q′ : ℕ} {r : Over q} {x : passed s (rule .reverse) q (t .end) ≡ met.Mark q′} → Goes rule count first q r → passedIn (ofMarks count) r < numberOf count → ofMarks count ≡ false
+    by-mark : {q q′ : ℕ} {r : Over q} {x : passed s (rule .reverse) q (t .end) ≡ met.Mark q′} → Goes rule count first q r → passedIn (ofMarks count) r < howMany count → ofMarks count ≡ false
         → Stopped left q′ (then-mark r x) 2 (TMK + RLS) (flagOf (rule .reverse) REV)
     -- marks, and the second in a row
-    at-logical-end : {q q′ : ℕ} {r : Over q} {x : passed s (rule .reverse) q (t .end) ≡ met.Mark q′} → Goes rule count first q r → passedIn (ofMarks count) r < numberOf count
+    at-logical-end : {q q′ : ℕ} {r : Over q} {x : passed s (rule .reverse) q (t .end) ≡ met.Mark q′} → Goes rule count first q r → passedIn (ofMarks count) r < howMany count
         → ofMarks count ≡ true → (rule .ess && sinceMark first r) ≡ true
         → Stopped left q′ (then-mark r x) 2 (TMK + LET + flagOf (not (eqb left 0)) RLS) (flagOf (rule .reverse) REV)
     -- some of the count is left and nothing lies ahead, in reverse and forward
-    at-bot : {q : ℕ} {r : Over q} → Goes rule count first q r → passedIn (ofMarks count) r < numberOf count → rule .reverse ≡ true → ahead true q (t .end) ≡ 0
+    at-bot : {q : ℕ} {r : Over q} → Goes rule count first q r → passedIn (ofMarks count) r < howMany count → rule .reverse ≡ true → ahead true q (t .end) ≡ 0
         → Stopped left q r 2 (flagOf (markPassed r) TMK + flagOf (not (eqb left 0)) RLS) (REV + RIB)
-    at-recorded-end : {q : ℕ} {r : Over q} → Goes rule count first q r → passedIn (ofMarks count) r < numberOf count → rule .reverse ≡ false → ahead false q (t .end) ≡ 0
+    at-recorded-end : {q : ℕ} {r : Over q} → Goes rule count first q r → passedIn (ofMarks count) r < howMany count → rule .reverse ≡ false → ahead false q (t .end) ≡ 0
         → Stopped left q r 6 (flagOf (markPassed r) TMK) OPI
 
   -- how such a motion ended
   pub record SpaceEnded (x : Ending) : Type 0 where
     pub over : Over (x .tape .position)
-    pub counted : passedIn (ofMarks count) over + residualWord (x .end .residual) ≡ numberOf count
+    pub counted : passedIn (ofMarks count) over + residualWord (x .end .residual) ≡ howMany count
     pub why : Stopped (residualWord (x .end .residual)) (x .tape .position) over (x .end .class) (x .end .found) (x .end .xst3)
 
   -- block k refuses it: with some of the count left it has to be read, behind what was read over
@@ -79,5 +79,5 @@ module _ (s : List ℕ) (t : Tape) (rule : Rule) (count : Count) (first : Bool) 
     pub from : ℕ
     pub over : Over from
     pub goes : Goes rule count first from over
-    pub more : passedIn (ofMarks count) over < numberOf count
+    pub more : passedIn (ofMarks count) over < howMany count
     pub bad : passed s (rule .reverse) from (t .end) ≡ met.Bad k

@@ -8,7 +8,7 @@ use Rattle.tape.specs.Objects.{Holds, Object}
 use Rattle.state.specs.declared.Tape.{Tape}
 use Rattle.state.proofs.Tests.{either}
 use Rattle.moves.specs.Between.{Bound}
-use Rattle.moves.specs.Counting.{numberOf}
+use Rattle.moves.specs.Counting.{howMany}
 use Rattle.moves.specs.Spacing.{spaced}
 use Rattle.moves.specs.declared.spacing.Count.{Count}
 use Rattle.moves.specs.declared.spacing.Rule.{Rule}
@@ -32,5 +32,5 @@ module _ (s m : List ℕ) where
   unfolding positioned spaceMotion
   positioned-kept t h b r count enb =
       let from = startSpan t count enb in
-      either (KeptMotion s m) (eqb (numberOf count) 0) _ _ (halts s m h b)
+      either (KeptMotion s m) (eqb (howMany count) 0) _ _ (halts s m h b)
       (space-by h r (spaced s r (t .end) from .span) (spaced s r (t .end) from .stop) (spaced-sound h r from b) (spaced-bound h r from b))

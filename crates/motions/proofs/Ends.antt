@@ -9,7 +9,7 @@ use Rattle.signals.specs.Message.{flagOf}
 use Rattle.signals.specs.declared.counts.ByteCount.{ByteCount}
 use Rattle.signals.specs.declared.message.End.{End}
 use Rattle.state.proofs.Tests.{either}
-use Rattle.moves.specs.Counting.{numberOf}
+use Rattle.moves.specs.Counting.{howMany}
 use Rattle.moves.specs.declared.spacing.Rule.{Rule}
 use Rattle.moves.specs.declared.spacing.Span.{Span}
 use Rattle.moves.specs.declared.spacing.Stop.{Stop}
@@ -58,7 +58,7 @@ module _ (r : Rule) (x : Span) where
   passed-most = flag-most (x .tmk) TMK
 
   left-most : leftOver x ≤ RLS
-  left-most = flag-most (not (eqb (numberOf (x .left)) 0)) RLS
+  left-most = flag-most (not (eqb (howMany (x .left)) 0)) RLS
 
   reverse-most : flagOf (r .reverse) REV ≤ REV
   reverse-most = flag-most (r .reverse) REV

@@ -7,7 +7,7 @@ use native.Mathlib.Omega.{arith}
 use lib.Dec.{eqb}
 use Rattle.state.specs.declared.Tape.{Tape}
 use Rattle.state.proofs.Tests.{either}
-use Rattle.moves.specs.Counting.{numberOf}
+use Rattle.moves.specs.Counting.{howMany}
 use Rattle.moves.specs.Spacing.{spaced}
 use Rattle.moves.specs.declared.spacing.Count.{Count}
 use Rattle.moves.specs.declared.spacing.Rule.{Rule}
@@ -45,6 +45,6 @@ pub space-has : (s : List ℕ) (t : Tape) (r : Rule) (count : Count) (enb : Bool
 unfolding positioned spaceMotion
 space-has s t r count enb h =
     let from = startSpan t count enb in
-    either (Has (SpaceFits (t .end))) (eqb (numberOf count) 0) _ _
+    either (Has (SpaceFits (t .end))) (eqb (howMany count) 0) _ _
     (halts (t .end) _ (t .position) (record { class = omega arith; found = omega arith; xst3 = omega arith }) h)
     (space-by (t .end) r (spaced s r (t .end) from .span) (spaced s r (t .end) from .stop) (spaced-within s r (t .end) from h))

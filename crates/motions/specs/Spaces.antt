@@ -10,7 +10,7 @@ use Rattle.signals.specs.declared.message.End.{End}
 use Rattle.signals.specs.declared.counts.Residual.{Residual}
 use Rattle.signals.specs.declared.counts.Residual.the-variants as residual
 use Rattle.state.specs.declared.Tape.{Tape}
-use Rattle.moves.specs.Counting.{numberOf}
+use Rattle.moves.specs.Counting.{howMany}
 use Rattle.moves.specs.Spacing.{spaced, span}
 use Rattle.moves.specs.declared.spacing.Count.{Count}
 use Rattle.moves.specs.declared.spacing.Count.the-variants as count-as
@@ -30,7 +30,7 @@ residualOf (count-as.Marks n) = residual.Marks n
 
 -- "RLS if BOT or LET left any count"
 abbrev pub leftOver : Span → ℕ
-leftOver x = flagOf (not (eqb (numberOf (x .left)) 0)) RLS
+leftOver x = flagOf (not (eqb (howMany (x .left)) 0)) RLS
 
 -- "Marks: TMK if one was passed."
 abbrev pub passedMark : Span → ℕ
@@ -68,5 +68,5 @@ startSpan t count enb = span (t .position) count false (enb && eqb (t .position)
 -- "A Position count of 0 moves nothing, class 0"
 unfoldable pub positioned : List ℕ → Tape → Rule → Count → Bool → Motion
 positioned s t r count enb =
-    pick (eqb (numberOf count) 0) (stops (end 0 0 0 (residualOf count)) t)
+    pick (eqb (howMany count) 0) (stops (end 0 0 0 (residualOf count)) t)
     (spaceMotion r (spaced s r (t .end) (startSpan t count enb)) (t .end))

@@ -11,7 +11,7 @@ use Rattle.tape.specs.Pass.{ahead}
 use Rattle.tape.proofs.Accepted.{clash}
 use Rattle.tape.proofs.Within.{Onward, fewer-ahead}
 use Rattle.moves.specs.Between.{Between, Bound, Gaps, countIn, no-gap, one-gap, withGaps}
-use Rattle.moves.specs.Counting.{numberOf, ofMarks}
+use Rattle.moves.specs.Counting.{howMany, ofMarks}
 use Rattle.moves.specs.Spacing.{markTurn, recordTurn, spaced, turnOf}
 use Rattle.moves.specs.declared.seeking.Sought.{Sought}
 use Rattle.moves.specs.declared.seeking.Sought.the-variants as sought-as
@@ -47,7 +47,7 @@ count-found marks false {gaps} o g = omega (arith, count-both marks gaps (o ∷ 
 
 -- from the span x to the span y, objects were passed: those counted and what is left make up what was left before
 abbrev pub Counted : List Object → Bool → Bool → Span → Span → Type 0
-Counted os reverse marks x y = (mid : List Object) × Between os reverse (x .position) (y .position) mid × (countIn marks mid + numberOf (y .left) ≡ numberOf (x .left))
+Counted os reverse marks x y = (mid : List Object) × Between os reverse (x .position) (y .position) mid × (countIn marks mid + howMany (y .left) ≡ howMany (x .left))
 
 abbrev NoFault : Spaced → Type 0
 NoFault z = (k : ℕ) → z .stop ≡ stop-as.Bad k → ⊥
@@ -65,7 +65,7 @@ one-mark : (marks : Bool) → countIn marks (mark ∷ []) ≡ pick marks 1 0
 unfolding countIn
 one-mark marks = omega arith
 
-module _ {os : List Object} (r : Rule) (y : Span) (some : numberOf (y .left) ≡ 0 → ⊥) where
+module _ {os : List Object} (r : Rule) (y : Span) (some : howMany (y .left) ≡ 0 → ⊥) where
   mark-done : {gaps : List Object} {q : ℕ} → Gaps gaps → Between os (r .reverse) (y .position) q (withGaps (r .reverse) gaps mark) → Turned os (r .reverse) (ofMarks (y .left)) y (markTurn r y q)
   mark-done {gaps} {q} g b =
       let one = count-found (ofMarks (y .left)) (r .reverse) mark g ∙ one-mark (ofMarks (y .left)) in
@@ -91,7 +91,7 @@ module _ {s : List ℕ} {e : ℕ} {os : List Object} (h : Holds s e os) (r : Rul
   abbrev Since : Span → Type 0
   Since y = Counted os (r .reverse) (ofMarks (x .left)) x y
 
-  turn-on : (y : Span) → Counts (ofMarks (x .left)) y → Since y → (numberOf (y .left) ≡ 0 → ⊥) → Turned os (r .reverse) (ofMarks (x .left)) x (turnAt s r e y)
+  turn-on : (y : Span) → Counts (ofMarks (x .left)) y → Since y → (howMany (y .left) ≡ 0 → ⊥) → Turned os (r .reverse) (ofMarks (x .left)) x (turnAt s r e y)
   turn-on y k i n =
       let more : (z : Span) → Counted os (r .reverse) (ofMarks (x .left)) y z → Since z = λ z j. done-more (r .reverse) (ofMarks (x .left)) (h .allowed) x y z i j in
       turn-more _ _ _ _ more (λ z j. (more (z .span) (j .0), j .1)) (turnAt s r e y) (rw k at (turn-done r y n (finds h (r .reverse) (bound-to (r .reverse) (i .1)))))
@@ -106,7 +106,7 @@ module _ {s : List ℕ} {e : ℕ} {os : List Object} (h : Holds s e os) (r : Rul
   spaced-sound b = all-done b .1
 
   -- done and residual make up the count asked
-  pub spaced-between : Bound os (x .position) → (mid : List Object) × Between os (r .reverse) (x .position) (spaced s r e x .span .position) mid × (countIn (ofMarks (x .left)) mid + numberOf (spaced s r e x .span .left) ≡ numberOf (x .left))
+  pub spaced-between : Bound os (x .position) → (mid : List Object) × Between os (r .reverse) (x .position) (spaced s r e x .span .position) mid × (countIn (ofMarks (x .left)) mid + howMany (spaced s r e x .span .left) ≡ howMany (x .left))
   spaced-between b = all-done b .0
 
   pub spaced-bound : Bound os (x .position) → Bound os (spaced s r e x .span .position)
@@ -128,13 +128,13 @@ module _ (s : List ℕ) (r : Rule) (e : ℕ) where
   abbrev Enough : ℕ → Span → Type 0
   Enough turns y = (y .position ≤ e) × (ahead (r .reverse) (y .position) e < turns)
 
-  turn-enough : (turns : ℕ) (y : Span) → Enough (suc turns) y → TurnHas (Enough turns) (λ z. z .stop ≡ stop-as.Count → numberOf (z .span .left) ≡ 0) (turnAt s r e y)
+  turn-enough : (turns : ℕ) (y : Span) → Enough (suc turns) y → TurnHas (Enough turns) (λ z. z .stop ≡ stop-as.Count → howMany (z .span .left) ≡ 0) (turnAt s r e y)
   turn-enough turns y i =
       turn-more _ _ _ _ (λ z o. (o .below, omega (arith, i .1, fewer-ahead (r .reverse) (y .position) e (z .position) (i .0) o))) (λ z n k. absurd (n k)) (turnAt s r e y)
       (turn-moves r e y _ (sought-in s (r .reverse) (y .position) e (i .0)))
 
-  pub spaced-why : (x : Span) → x .position ≤ e → spaced s r e x .stop ≡ stop-as.Count → numberOf (spaced s r e x .span .left) ≡ 0
+  pub spaced-why : (x : Span) → x .position ≤ e → spaced s r e x .stop ≡ stop-as.Count → howMany (spaced s r e x .span .left) ≡ 0
   unfolding spaced
   spaced-why x h =
-      rounds s r e (ofMarks (x .left)) Enough (λ z. z .stop ≡ stop-as.Count → numberOf (z .span .left) ≡ 0) (λ turns y k i n. turn-enough turns y i) (λ turns y i w k. ⊎-elim (λ z. absurd (omega arith)) (λ z. z) w)
+      rounds s r e (ofMarks (x .left)) Enough (λ z. z .stop ≡ stop-as.Count → howMany (z .span .left) ≡ 0) (λ turns y k i n. turn-enough turns y i) (λ turns y i w k. ⊎-elim (λ z. absurd (omega arith)) (λ z. z) w)
       (e + 1) x refl (h, omega (arith, ahead-most (r .reverse) (x .position) e h))

@@ -7,7 +7,7 @@ use native.Mathlib.Omega.{arith}
 use borrow.Author.Tests.{eqb-false}
 use lib.Dec.{eqb}
 use Rattle.signals.specs.declared.counts.MarkCount.{MarkCount}
-use Rattle.moves.specs.Counting.{numberOf}
+use Rattle.moves.specs.Counting.{howMany}
 use Rattle.moves.specs.Seeking.{sought}
 use Rattle.moves.specs.Spacing.{markTurn, markTurnBy, skipTurn, spacedFrom, spacedOn, stopped, turnOf}
 use Rattle.moves.specs.declared.seeking.Sought.{Sought}
@@ -26,15 +26,15 @@ space-done turns s r e x h =
     rw z
 
 -- what the test of the count says, where it was made
-pub some-left : {none : Bool} (c : Count) → none ≡ eqb (numberOf c) 0 → none ≡ false → 1 ≤ numberOf c
-some-left c e w = omega (arith, eqb-false (numberOf c) 0 (sym e ∙ w))
+pub some-left : {none : Bool} (c : Count) → none ≡ eqb (howMany c) 0 → none ≡ false → 1 ≤ howMany c
+some-left c e w = omega (arith, eqb-false (howMany c) 0 (sym e ∙ w))
 
-pub space-counted : (turns : ℕ) (s : List ℕ) (r : Rule) (e : ℕ) (x : Span) {none : Bool} → none ≡ eqb (numberOf (x .left)) 0 → none ≡ true → stopped stop-as.Count x ≡ spacedFrom turns s r e x
+pub space-counted : (turns : ℕ) (s : List ℕ) (r : Rule) (e : ℕ) (x : Span) {none : Bool} → none ≡ eqb (howMany (x .left)) 0 → none ≡ true → stopped stop-as.Count x ≡ spacedFrom turns s r e x
 unfolding spacedFrom
 space-counted zero s r e x n w = refl
 space-counted (suc turns) s r e x n w = rw (← n, w)
 
-pub space-turn : (turns : ℕ) (s : List ℕ) (r : Rule) (e : ℕ) (x : Span) {none : Bool} {f : Sought} {t : Turn} {y : Spaced} → 0 < turns → none ≡ eqb (numberOf (x .left)) 0 → none ≡ false
+pub space-turn : (turns : ℕ) (s : List ℕ) (r : Rule) (e : ℕ) (x : Span) {none : Bool} {f : Sought} {t : Turn} {y : Spaced} → 0 < turns → none ≡ eqb (howMany (x .left)) 0 → none ≡ false
     → f ≡ sought s (r .reverse) (x .position) e → t ≡ turnOf r x f → y ≡ spacedOn t (λ z. spacedFrom (turns - 1) s r e z) → y ≡ spacedFrom turns s r e x
 unfolding spacedFrom
 space-turn zero s r e x h n w f t l = absurd (omega arith)

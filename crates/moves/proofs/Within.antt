@@ -9,7 +9,7 @@ use Rattle.tape.specs.Pass.{passed}
 use Rattle.tape.specs.declared.Met.{Met}
 use Rattle.tape.specs.declared.Met.the-variants as met
 use Rattle.tape.proofs.Within.{Onward, PassIn, RecordIn, onward-more, pass-in}
-use Rattle.moves.specs.Counting.{numberOf, ofMarks}
+use Rattle.moves.specs.Counting.{howMany, ofMarks}
 use Rattle.moves.specs.Seeking.{sought, soughtFrom, soughtOn}
 use Rattle.moves.specs.Spacing.{recordTurn, spaced, turnOf}
 use Rattle.moves.specs.declared.seeking.Sought.{Sought}
@@ -79,18 +79,18 @@ pub spaced-within : (s : List ℕ) (r : Rule) (e : ℕ) (x : Span) → x .positi
 spaced-within s r e x h = spaced-keeps s r e (Below e) x (λ y k i n. turn-below r e y _ i (sought-in s (r .reverse) (y .position) e i)) h
 
 abbrev Fewer : ℕ → Span → Type 0
-Fewer n y = numberOf (y .left) ≤ n
+Fewer n y = howMany (y .left) ≤ n
 
-turn-fewer : (r : Rule) (n : ℕ) (y : Span) (f : Sought) → (numberOf (y .left) ≡ 0 → ⊥) → Fewer n y → SpanHas (Fewer n) (turnOf r y f)
+turn-fewer : (r : Rule) (n : ℕ) (y : Span) (f : Sought) → (howMany (y .left) ≡ 0 → ⊥) → Fewer n y → SpanHas (Fewer n) (turnOf r y f)
 unfolding turnOf recordTurn
 turn-fewer r n y (sought-as.Record m q) some h = omega (arith, record-number (y .left) some)
 turn-fewer r n y (sought-as.Mark q) some h =
-    mark-turns (SpanHas (Fewer n)) r y q (λ k c. omega (arith, ap numberOf c)) (λ k c w. omega (arith, ap numberOf c)) (λ k c w. omega (arith, ap numberOf c))
+    mark-turns (SpanHas (Fewer n)) r y q (λ k c. omega (arith, ap howMany c)) (λ k c w. omega (arith, ap howMany c)) (λ k c w. omega (arith, ap howMany c))
 turn-fewer r n y (sought-as.Nothing q) some h = h
 turn-fewer r n y (sought-as.Bad k) some h = h
 
-pub spaced-left : (s : List ℕ) (r : Rule) (e : ℕ) (x : Span) → numberOf (spaced s r e x .span .left) ≤ numberOf (x .left)
-spaced-left s r e x = spaced-keeps s r e (Fewer (numberOf (x .left))) x (λ y k i some. turn-fewer r (numberOf (x .left)) y _ some i) (omega arith)
+pub spaced-left : (s : List ℕ) (r : Rule) (e : ℕ) (x : Span) → howMany (spaced s r e x .span .left) ≤ howMany (x .left)
+spaced-left s r e x = spaced-keeps s r e (Fewer (howMany (x .left))) x (λ y k i some. turn-fewer r (howMany (x .left)) y _ some i) (omega arith)
 
 -- what is left is of what was asked
 pub spaced-kind : (s : List ℕ) (r : Rule) (e : ℕ) (x : Span) → ofMarks (spaced s r e x .span .left) ≡ ofMarks (x .left)

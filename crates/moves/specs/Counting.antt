@@ -11,9 +11,9 @@ abbrev pub marks : ℕ → Count
 marks n = count-as.Marks (record { 0 = n })
 
 -- how many, of either
-abbrev pub numberOf : Count → ℕ
-numberOf (count-as.Records n) = n .0
-numberOf (count-as.Marks n) = n .0
+abbrev pub howMany : Count → ℕ
+howMany (count-as.Records n) = n .0
+howMany (count-as.Marks n) = n .0
 
 -- which of the two is counted
 abbrev pub ofMarks : Count → Bool

@@ -6,7 +6,7 @@ use Prim.Native.Nat.{ℕ, suc, _+_, _-_}
 use lib.Dec.{eqb}
 use Rattle.lists.specs.Pick.{pick}
 use Rattle.signals.specs.declared.counts.MarkCount.{MarkCount}
-use Rattle.moves.specs.Counting.{afterRecord, marks, numberOf}
+use Rattle.moves.specs.Counting.{afterRecord, howMany, marks}
 use Rattle.moves.specs.Seeking.{sought}
 use Rattle.moves.specs.declared.seeking.Sought.{Sought}
 use Rattle.moves.specs.declared.seeking.Sought.the-variants as sought-as
@@ -59,7 +59,7 @@ unfoldable pub spacedFrom : ℕ → List ℕ → Rule → ℕ → Span → Space
 spacedFrom ℕ.zero s r e x = stopped stop-as.Count x
 spacedFrom (suc turns) s r e x =
     let rest = spacedOn (turnOf r x (sought s (r .reverse) (x .position) e)) (λ y. spacedFrom turns s r e y) in
-    pick (eqb (numberOf (x .left)) 0) (stopped stop-as.Count x) rest
+    pick (eqb (howMany (x .left)) 0) (stopped stop-as.Count x) rest
 
 -- each turn passes a block or more, so a turn for each block and one more are enough
 unfoldable pub spaced : List ℕ → Rule → ℕ → Span → Spaced

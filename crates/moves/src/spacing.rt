@@ -6,7 +6,7 @@ use signals::RecordCount;
 ghost use mathlib.Core.Path.{_≡_};
 ghost use Prim.Native.Nat.{_<_, _≤_};
 ghost use lib.Dec.{eqb};
-ghost use Rattle.moves.specs.Counting.{afterRecord, numberOf};
+ghost use Rattle.moves.specs.Counting.{afterRecord, howMany};
 ghost use Rattle.moves.specs.Spacing.{markTurn, recordTurn, skipTurn, spaced, turnOf};
 
 // What a Position counts, and how many of it. A space over records never becomes a skip over marks on its way.
@@ -50,7 +50,7 @@ pub enum Turn {
 
 // Is all of it done?
 pub fn none_left(c: Count) -> bool
-    ensures { λ r. ⌜ r ≡ eqb (numberOf c) 0 ⌝ }
+    ensures { λ r. ⌜ r ≡ eqb (howMany c) 0 ⌝ }
 {
     match c {
         Count::Records(n) => n.0 == 0,
@@ -60,7 +60,7 @@ pub fn none_left(c: Count) -> bool
 
 // A record is counted, unless marks are.
 fn after_record(c: Count) -> Count
-    requires { ⌜ 1 ≤ numberOf c ⌝ }
+    requires { ⌜ 1 ≤ howMany c ⌝ }
     ensures { λ r. ⌜ r ≡ afterRecord c ⌝ }
 {
     match c {
@@ -70,7 +70,7 @@ fn after_record(c: Count) -> Count
 }
 
 fn record_turn(s: Span, q: usize) -> Turn
-    requires { ⌜ 1 ≤ numberOf (s .left) ⌝ }
+    requires { ⌜ 1 ≤ howMany (s .left) ⌝ }
     ensures { λ t. ⌜ t ≡ recordTurn s q ⌝ }
 {
     let c = s.left;
@@ -105,7 +105,7 @@ fn skip_turn(r: Rule, s: Span, n: MarkCount, q: usize) -> Turn
 
 // A mark stops records and isn't counted.
 fn mark_turn(r: Rule, s: Span, q: usize) -> Turn
-    requires { ⌜ 1 ≤ numberOf (s .left) ⌝ }
+    requires { ⌜ 1 ≤ howMany (s .left) ⌝ }
     ensures { λ t. ⌜ t ≡ markTurn r s q ⌝ }
 {
     let c = s.left;
@@ -124,7 +124,7 @@ fn mark_turn(r: Rule, s: Span, q: usize) -> Turn
 }
 
 fn turn_over(r: Rule, s: Span, f: Sought) -> Turn
-    requires { ⌜ 1 ≤ numberOf (s .left) ⌝ }
+    requires { ⌜ 1 ≤ howMany (s .left) ⌝ }
     ensures { λ t. ⌜ t ≡ turnOf r s f ⌝ }
 {
     match f {

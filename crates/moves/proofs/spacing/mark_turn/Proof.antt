@@ -3,7 +3,7 @@ use borrow.Author.Needs.{needs}
 use mathlib.Core.Path.{ap}
 use native.Mathlib.Omega.{arith}
 use Rattle.moves.proofs.Spaces.{mark-skips}
-use Rattle.moves.specs.Counting.{numberOf}
+use Rattle.moves.specs.Counting.{howMany}
 use Rattle.moves.specs.Spacing.{markTurn, markTurnBy}
 use Rattle.moves.proofs.spacing.mark_turn.Statement.{statement}
 use Rattle.moves.proofs.spacing.mark_turn.Tie as tie
@@ -15,7 +15,7 @@ enum-known-c-2 : tie.Need-enum-known-c-2
 enum-known-c-2 c = search needs
 
 skip-turn-requires : tie.Need-skip-turn-requires
-skip-turn-requires c κs = omega (arith, ap numberOf (c .before .c2 .given .1))
+skip-turn-requires c κs = omega (arith, ap howMany (c .before .c2 .given .1))
 
 returns : tie.Need-returns
 unfolding markTurn markTurnBy
