@@ -16,7 +16,8 @@ use Rattle.storing.specs.Stored.{memoryAfter, reelAfter}
 use Rattle.advance.specs.Rules.{writes}
 use Rattle.advance.specs.Steps.{advanced}
 use Rattle.demands.specs.Done.{Sent}
-use Rattle.demands.specs.Ways.{Fetched}
+use Rattle.demands.specs.Ways.{Fetched, started}
+use Rattle.demands.proofs.Carried.{carried-as}
 use Rattle.demands.proofs.Done.{read-done, space-done}
 use Rattle.demands.proofs.Kept.{memory-stays, none-laid, reel-stays}
 use Rattle.demands.proofs.Said.{space-says}
@@ -30,7 +31,7 @@ use Rattle.kept.proofs.Telling.{room-told, room-told-retry}
 use Rattle.kept.proofs.Unwritten.{writes-or-stays}
 use Rattle.unit.specs.Cores.{Admitted, Core}
 use Rattle.unit.proofs.Stepping.{advanced-fits}
-use Rattle.sessions.specs.Rules.{Obeys, Short, again, at-once, headerIn, objectIn}
+use Rattle.sessions.specs.Rules.{Obeys, Short, again, at-once, headerIn, objectIn, packetIn}
 
 -- codes of commands that tell how they ended
 abbrev Tells : Header → Type 0
@@ -88,6 +89,7 @@ module _ (c : Core) (a : Admitted c) (i : Bool) where
                 memory-stays = memory-stays (c .unit) (c .memory) (c .reel) (advanced-fits c a);
                 reel-stays = reel-stays (c .unit) (c .memory) (c .reel);
               };
+          table = carried-as (started (c .unit) (c .memory) (c .reel)) (c .memory) (c .reel) (headerIn c) (packetIn c);
           read = λ f code. read-done (c .unit) (c .memory) (c .reel) (a .legal .place) f code (sent f (code-tells (headerIn c) 1 code (refl, refl)));
           space = λ f code few. space-done (c .unit) (c .memory) (c .reel) f code few (sent f (code-tells (headerIn c) 8 code (refl, refl)));
           stop = λ r code few some. space-says (c .unit) (c .memory) (c .reel) (a .legal .place) r code few some (sent (r .0 .fetched) (code-tells (headerIn c) 8 code (refl, refl)));

@@ -20,9 +20,10 @@ use Rattle.commands.specs.declared.plans.Answer.the-variants as answer
 use Rattle.commands.specs.declared.plans.Plan.{Plan}
 use Rattle.storing.specs.Outside.{OffData, OffMessage}
 use Rattle.storing.specs.Stored.{memoryAfter, reelAfter}
+use Rattle.demands.specs.Commands.{Carried}
 use Rattle.demands.specs.Done.{ReadDone, RunsOn, SpaceDone}
 use Rattle.demands.specs.Saying.{SpaceSays}
-use Rattle.demands.specs.Ways.{Fetched, Way, header, packet}
+use Rattle.demands.specs.Ways.{Fetched, Way, header, packet, started}
 use Rattle.kept.specs.Leaving.{WriteRuns, WriteTold, Wrote, objectFor}
 use Rattle.kept.specs.NoRoom.{Found, NoRoom, NoneFound}
 use Rattle.unit.specs.Cores.{Core}
@@ -60,6 +61,8 @@ module _ (c : Core) (interrupts : Bool) (c′ : Core) where
     pub plan : Plan
     pub way : Way (c .unit) (c .memory) (c .reel) plan
     pub follows : Follows plan
+    -- and as what each code and mode of the table is carried out, from the state that steps 2 and 4 leave
+    pub table : Carried (started (c .unit) (c .memory) (c .reel)) (c .memory) (c .reel) (headerIn c) (packetIn c)
     -- Read, once its packet was fetched: the bytes stored, why it ended, and the residual word in the message
     pub read : Fetched (c .unit) (c .memory) (c .reel) → headerIn c .code ≡ 1 → ReadDone (c .unit) (c .memory) (c .reel) (c′ .unit) (c′ .memory)
     -- Position modes 0 to 3, likewise: the objects passed and the residual word; and where it ran, why it stopped
