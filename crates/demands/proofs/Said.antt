@@ -13,26 +13,29 @@ use Rattle.signals.specs.Residuals.{residualWord}
 use Rattle.signals.specs.declared.packet.Header.{Header}
 use Rattle.state.specs.declared.Tape.{Tape}
 use Rattle.state.specs.declared.Unit.{Unit}
+use Rattle.moves.specs.Counting.{howMany}
 use Rattle.moves.specs.declared.spacing.Count.{Count}
 use Rattle.moves.specs.declared.spacing.Rule.{Rule}
 use Rattle.moves.proofs.Counting.{number-asked}
 use Rattle.motions.proofs.Ends.{Has}
-use Rattle.motions.specs.Spaces.{positioned}
+use Rattle.motions.specs.Parts.{end, resting}
+use Rattle.motions.specs.Spaces.{positioned, residualOf}
 use Rattle.motions.specs.declared.parts.Ending.{Ending}
 use Rattle.motions.specs.declared.parts.Motion.{Motion}
 use Rattle.motions.specs.declared.parts.Motion.the-variants as motion
 use Rattle.commands.specs.Commands.{carriedOut, positionedBy}
-use Rattle.commands.specs.Ends.{ended, told, toldUnit}
+use Rattle.commands.specs.Ends.{ended, motionPlan, told, toldUnit}
 use Rattle.commands.specs.declared.plans.Plan.{Plan}
 use Rattle.storing.specs.Stored.{memoryAfter}
 use Rattle.advance.specs.Rules.{reverseFirst}
 use Rattle.advance.specs.Steps.{advanced}
 use Rattle.demands.specs.Done.{RunsOn, Sent}
-use Rattle.demands.specs.Saying.{SpaceSays, countAsked, markAtStart}
+use Rattle.demands.specs.Saying.{SpaceSays, SpacedNone, countAsked, markAtStart}
 use Rattle.demands.specs.Stops.{Over, SpaceEnded, Stopped, at-bot, at-logical-end, at-recorded-end, by-mark, markPassed, satisfied}
 use Rattle.demands.specs.Ways.{carried, header, packet, started}
 use Rattle.demands.proofs.Done.{Sends, Upper, motion-sends, position-command, position-mode, position-reverse, told-found, told-word, told-xst3}
-use Rattle.demands.proofs.Stopping.{space-ended}
+use Rattle.demands.proofs.Residuals.{residual-word}
+use Rattle.demands.proofs.Stopping.{space-ended, space-of-none}
 use Rattle.demands.proofs.Ways.{advanced-is}
 
 -- TMK, LET and RLS stand above XST0's low byte
@@ -102,11 +105,43 @@ module _ (u : Unit) (m s : List ℕ) where
       motion-sends u m s (SaysBy (byRule reverse)) (EndedBy (byRule reverse)) (started u m s) (header u m s .ie) (says (byRule reverse) (started u m s) (header u m s .ie)) _
       (has-by (EndedBy (byRule reverse)) _ (λ x e. space-ended s (u .tape) (byRule reverse) (countAsked u m s) (u .characteristics .enb) x inside asked e))
 
+  -- what the advance is, by the way of the mode
+  abbrev byWay : Bool → Plan
+  byWay b = positionedBy (started u m s) s (header u m s) (countAsked u m s) b
+
+  as-position : RunsOn u m s → header u m s .code ≡ 8 → header u m s .mode < 4 → advanced u m s ≡ byWay (reverseFirst (header u m s))
+  as-position (runs, room) code few =
+      let h : Header = header u m s in
+      advanced-is u m s (carried runs room) ∙ ap (carriedOut (started u m s) m s h (packet u m s)) (position-command (h .code) (h .mode) code) ∙ position-mode (started u m s) m s h (packet u m s) (h .mode) few ∙ ap byWay (sym (position-reverse h code))
+
   -- of every Position mode 0 to 3 with a count that was carried out and whose message went out
   pub space-says : u .tape .position ≤ u .tape .end → RunsOn u m s → header u m s .code ≡ 8 → header u m s .mode < 4 → eqb (packet u m s .count) 0 ≡ false → Sent u m s → SpaceSays u m s (advanced u m s .unit) (memoryAfter (advanced u m s) m s)
-  space-says inside (runs, room) code few some sent =
-      let h : Header = header u m s in
-      let by : Bool → Plan = λ b. positionedBy (started u m s) s h (countAsked u m s) b in
-      let is : advanced u m s ≡ by (reverseFirst h) = advanced-is u m s (carried runs room) ∙ ap (carriedOut (started u m s) m s h (packet u m s)) (position-command (h .code) (h .mode) code) ∙ position-mode (started u m s) m s h (packet u m s) (h .mode) few ∙ ap by (sym (position-reverse h code)) in
-      let k : SaysBy (byRule (reverseFirst h)) (advanced u m s) = subst (λ (x : Plan). Sends u m s x → SaysBy (byRule (reverseFirst h)) x) (sym is) (position-says (reverseFirst h) inside some) (sent .sends, sent .inside) in
+  space-says inside runs code few some sent =
+      let rule : Rule = byRule (reverseFirst (header u m s)) in
+      let k : SaysBy rule (advanced u m s) = subst (λ (x : Plan). Sends u m s x → SaysBy rule x) (sym (as-position runs code few)) (position-says (reverseFirst (header u m s)) inside some) (sent .sends, sent .inside) in
       record { ending = k .ending; ended = k .is-ended; position = k .position; class = k .class; residual = k .residual; found = k .found; xst3 = k .xst3 }
+
+  -- and with a count of 0
+  abbrev NoneBy : Plan → Type 0
+  NoneBy q = SpacedNone u m s (q .unit) (memoryAfter q m s)
+
+  none-says : (ie : Bool) → howMany (countAsked u m s) ≡ 0 → Sends u m s (told (started u m s) ie (resting (end 0 0 0 (residualOf (countAsked u m s))) (u .tape))) → NoneBy (told (started u m s) ie (resting (end 0 0 0 (residualOf (countAsked u m s))) (u .tape)))
+  unfolding told toldUnit ended
+  none-says ie z (t, room) =
+      let x : Ending = resting (end 0 0 0 (residualOf (countAsked u m s))) (u .tape) in
+      record {
+        unmoved = refl;
+        class = refl;
+        residual = told-word (started u m s) ie x m s t room ∙ residual-word (countAsked u m s) ∙ z;
+        found = told-found (started u m s) ie x m s t room (refl, omega arith);
+        xst3 = told-xst3 (started u m s) ie x m s t room;
+      }
+
+  pub space-none : RunsOn u m s → header u m s .code ≡ 8 → header u m s .mode < 4 → packet u m s .count ≡ 0 → Sent u m s → NoneBy (advanced u m s)
+  unfolding positionedBy motionPlan
+  space-none runs code few none sent =
+      let h : Header = header u m s in
+      let asked : howMany (countAsked u m s) ≡ 0 = number-asked (leb 2 (h .mode)) (packet u m s .count) ∙ none in
+      let is : advanced u m s ≡ told (started u m s) (h .ie) (resting (end 0 0 0 (residualOf (countAsked u m s))) (u .tape)) =
+      as-position runs code few ∙ ap (motionPlan (started u m s) (h .ie)) (space-of-none s (u .tape) (byRule (reverseFirst h)) (countAsked u m s) (u .characteristics .enb) asked) in
+      subst (λ (x : Plan). Sends u m s x → NoneBy x) (sym is) (none-says (h .ie) asked) (sent .sends, sent .inside)

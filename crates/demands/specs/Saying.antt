@@ -37,3 +37,11 @@ module _ (u : Unit) (m s : List ℕ) where
     pub residual : sentWord u′ m′ 2 ≡ residualWord (ending .end .residual)
     pub found : sentWord u′ m′ 3 / 256 * 256 ≡ ending .end .found
     pub xst3 : sentWord u′ m′ 6 ≡ ending .end .xst3
+
+  -- "A Position count of 0 moves nothing, class 0": the tape stays and the message has nothing to say
+  pub record SpacedNone (u′ : Unit) (m′ : List ℕ) : Type 0 where
+    pub unmoved : u′ .tape ≡ u .tape
+    pub class : u′ .registers .class ≡ 0
+    pub residual : sentWord u′ m′ 2 ≡ 0
+    pub found : sentWord u′ m′ 3 / 256 * 256 ≡ 0
+    pub xst3 : sentWord u′ m′ 6 ≡ 0

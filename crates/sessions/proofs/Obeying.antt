@@ -20,7 +20,7 @@ use Rattle.demands.specs.Ways.{Fetched, started}
 use Rattle.demands.proofs.Carried.{carried-as}
 use Rattle.demands.proofs.Done.{read-done, space-done}
 use Rattle.demands.proofs.Kept.{memory-stays, none-laid, reel-stays}
-use Rattle.demands.proofs.Said.{space-says}
+use Rattle.demands.proofs.Said.{space-none, space-says}
 use Rattle.demands.proofs.Sending.{fetched-sends}
 use Rattle.demands.proofs.Ways.{advanced-way}
 use Rattle.kept.specs.Leaving.{WriteRuns, WriteTold, Wrote}
@@ -93,6 +93,7 @@ module _ (c : Core) (a : Admitted c) (i : Bool) where
           read = λ f code. read-done (c .unit) (c .memory) (c .reel) (a .legal .place) f code (sent f (code-tells (headerIn c) 1 code (refl, refl)));
           space = λ f code few. space-done (c .unit) (c .memory) (c .reel) f code few (sent f (code-tells (headerIn c) 8 code (refl, refl)));
           stop = λ r code few some. space-says (c .unit) (c .memory) (c .reel) (a .legal .place) r code few some (sent (r .0 .fetched) (code-tells (headerIn c) 8 code (refl, refl)));
+          none-asked = λ r code few none. space-none (c .unit) (c .memory) (c .reel) r code few none (sent (r .0 .fetched) (code-tells (headerIn c) 8 code (refl, refl)));
           wrote = wrote-as;
           told = told-as;
           no-room = full-as;

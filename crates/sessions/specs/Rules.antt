@@ -22,7 +22,7 @@ use Rattle.storing.specs.Outside.{OffData, OffMessage}
 use Rattle.storing.specs.Stored.{memoryAfter, reelAfter}
 use Rattle.demands.specs.Commands.{Carried}
 use Rattle.demands.specs.Done.{ReadDone, RunsOn, SpaceDone}
-use Rattle.demands.specs.Saying.{SpaceSays}
+use Rattle.demands.specs.Saying.{SpaceSays, SpacedNone}
 use Rattle.demands.specs.Ways.{Fetched, Way, header, packet, started}
 use Rattle.kept.specs.Leaving.{WriteRuns, WriteTold, Wrote, objectFor}
 use Rattle.kept.specs.NoRoom.{Found, NoRoom, NoneFound}
@@ -69,6 +69,8 @@ module _ (c : Core) (interrupts : Bool) (c′ : Core) where
     pub space : Fetched (c .unit) (c .memory) (c .reel) → headerIn c .code ≡ 8 → headerIn c .mode < 4 → SpaceDone (c .unit) (c .memory) (c .reel) (c′ .unit) (c′ .memory)
     pub stop : RunsOn (c .unit) (c .memory) (c .reel) → headerIn c .code ≡ 8 → headerIn c .mode < 4 → eqb (packetIn c .count) 0 ≡ false
         → SpaceSays (c .unit) (c .memory) (c .reel) (c′ .unit) (c′ .memory)
+    pub none-asked : RunsOn (c .unit) (c .memory) (c .reel) → headerIn c .code ≡ 8 → headerIn c .mode < 4 → packetIn c .count ≡ 0
+        → SpacedNone (c .unit) (c .memory) (c .reel) (c′ .unit) (c′ .memory)
     -- Write and Format that ran, with room on the reel: what the reel holds then, and what the message says
     pub wrote : WriteRuns (c .unit) (c .memory) (c .reel) → Short c false → {os : List Object} → Holds (c .reel) (c .unit .tape .end) os → Bound os (c .unit .tape .position)
         → Wrote (c .unit) (c .memory) (c .reel) os (c′ .unit) (c′ .reel)
