@@ -1,5 +1,5 @@
 -- "7 a block that mount or the command must read is damaged or out of place (its number is given)" (01, the table): why the command comes to read it.
-use mathlib.Core.Bool.{Bool, true, _||_, _&&_}
+use mathlib.Core.Bool.{true, _||_, _&&_}
 use mathlib.Core.List.{List}
 use mathlib.Core.Path.{_≡_}
 use Prim.Native.Nat.{ℕ, _<_}

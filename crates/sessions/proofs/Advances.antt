@@ -26,7 +26,8 @@ use Rattle.advance.specs.Steps.{advanced}
 use Rattle.demands.specs.Faults.{FirstFault}
 use Rattle.demands.specs.Ways.{idle as idle-way}
 use Rattle.demands.proofs.Answering.{busy-answers}
-use Rattle.demands.proofs.Faults.{advanced-first, swept-first}
+use Rattle.demands.proofs.Faults.{swept-first}
+use Rattle.demands.proofs.Reached.{advanced-first}
 use Rattle.demands.proofs.Ways.{advanced-is}
 use Rattle.unit.specs.Asks.{advance}
 use Rattle.unit.specs.Cores.{Admitted}
