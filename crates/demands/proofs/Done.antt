@@ -16,7 +16,7 @@ use Rattle.lists.proofs.Stores.{getD-within}
 use Rattle.tape.specs.Bytes.{movedBytes, movedTo, readInto, recordBytes}
 use Rattle.tape.specs.Numbers.{blockBytes, piecesOf}
 use Rattle.tape.specs.Objects.{imagesOf}
-use Rattle.tape.specs.Pass.{ahead, beyond, lowest, passed}
+use Rattle.tape.specs.Pass.{beyond, lowest, passed}
 use Rattle.tape.specs.Reading.{blockAt, classAt, classOf}
 use Rattle.tape.specs.declared.Block.the-variants as block
 use Rattle.tape.specs.declared.Met.{Met}
@@ -26,13 +26,12 @@ use Rattle.tape.proofs.Outcomes.{Outcome, at-fault, outcome, over-gap, over-mar
 use Rattle.tape.proofs.Outcomes as outcomes
 use Rattle.tape.proofs.Passes.{PiecesAt}
 use Rattle.tape.proofs.Recorded.{record-length}
-use Rattle.tape.proofs.Within.{PassIn, fewer-ahead, gap-within, pass-in}
+use Rattle.tape.proofs.Within.{gap-within}
 use Rattle.signals.specs.Bits.{BOT, EOT, IE, ILA, MOT, NEF, ONL, OPI, REV, RIB, RLL, RLS, VCK, WLE, WLK}
 use Rattle.signals.specs.Codes.{commandOf, positionMode, readMode}
 use Rattle.signals.specs.Message.{flagOf, messageBytes, messageOf, messaged, statusByte, wordsBytes, xst0Of}
 use Rattle.signals.specs.Residuals.{residualWord}
 use Rattle.signals.specs.declared.codes.Command.{Command}
-use Rattle.signals.specs.declared.codes.Command.the-variants as command
 use Rattle.signals.specs.declared.message.End.{End}
 use Rattle.signals.specs.declared.message.Status.{Status}
 use Rattle.signals.specs.declared.counts.Residual.{Residual}
@@ -43,7 +42,7 @@ use Rattle.state.specs.declared.Tape.{Tape}
 use Rattle.state.specs.declared.Unit.{Unit}
 use Rattle.state.proofs.Tests.{either, neither}
 use Rattle.moves.specs.Counting.{countOf, howMany, ofMarks}
-use Rattle.moves.specs.Seeking.{sought, soughtFrom, soughtOn}
+use Rattle.moves.specs.Seeking.{sought}
 use Rattle.moves.specs.Spacing.{recordTurn, spaced, turnOf}
 use Rattle.moves.specs.declared.seeking.Sought.{Sought}
 use Rattle.moves.specs.declared.seeking.Sought.the-variants as sought-as
@@ -64,7 +63,7 @@ use Rattle.motions.specs.declared.parts.Motion.{Motion}
 use Rattle.motions.specs.declared.parts.Motion.the-variants as motion
 use Rattle.motions.specs.declared.reads.Buffer.{Buffer}
 use Rattle.motions.specs.declared.reads.Stage.{Stage}
-use Rattle.motions.proofs.Ends.{Has, flag-most}
+use Rattle.motions.proofs.Ends.{flag-most}
 use Rattle.motions.proofs.Onward.{StageHas, on-record}
 use Rattle.commands.specs.Commands.{asked, carriedOut, positionedBy, readBy, rereadBy}
 use Rattle.commands.specs.Ends.{ended, motionPlan, motionSeen, statusOf, still, told, toldUnit}
@@ -80,6 +79,7 @@ use Rattle.demands.specs.Faults.{ReadOver, nothing-yet, then-gap, then-m
 use Rattle.demands.specs.Saying.{countAsked}
 use Rattle.demands.specs.Ways.{Fetched, Way, attention, bad-pointer, carried, ends, header, idle, locked, lost, no-buffer, no-extent, no-header, no-words, not-executable, not-mounted, not-owned, packet, started, unknown}
 use Rattle.demands.proofs.Faults.{sought-back}
+use Rattle.demands.proofs.Meets.{Answers, Comes, Meets, meets, motion-answers}
 use Rattle.demands.proofs.ReadBack.{read-found}
 use Rattle.demands.proofs.Residuals.{left-told, residual-word}
 use Rattle.demands.proofs.Ways.{advanced-way}
@@ -150,60 +150,6 @@ module _ (v : Unit) (ie : Bool) (x : Ending) (m s : List ℕ) (sends : told v ie
   pub told-xst3 : wordAt (memoryAfter (told v ie x) m s) (v .characteristics .address + 12) ≡ x .end .xst3
   unfolding told toldUnit ended messageOf
   told-xst3 = sent-word (told v ie x) m s sends refl room 6 (omega arith)
-
--- a search, turn by turn: At holds where it began, and behind each gap, and so where it met what it found
-module _ (s : List ℕ) (e : ℕ) (reverse : Bool) (At : ℕ → Type 0) (behind : (q t : ℕ) → At q → passed s reverse q e ≡ met.Gap t → At t) where
-  abbrev Found : Sought → Type 0
-  Found (sought-as.Record n t) = (q : ℕ) × At q × (passed s reverse q e ≡ met.Record n t)
-  Found (sought-as.Mark t) = (q : ℕ) × At q × (passed s reverse q e ≡ met.Mark t)
-  Found (sought-as.Nothing q) = At q
-  Found (sought-as.Bad k) = Always
-
-  found-on : (q : ℕ) (x : Met) (onward : ℕ → Sought) → At q → passed s reverse q e ≡ x → ((t : ℕ) → At t → Found (onward t)) → Found (soughtOn x q onward)
-  unfolding soughtOn
-  found-on q (met.Record n t) onward a y on = (q, a, y)
-  found-on q (met.Mark t) onward a y on = (q, a, y)
-  found-on q (met.Gap t) onward a y on = on t (behind q t a y)
-  found-on q met.Nothing onward a y on = a
-  found-on q (met.Bad k) onward a y on = tt
-
-  found-from : (turns q : ℕ) → At q → Found (soughtFrom turns s reverse q e)
-  unfolding soughtFrom
-  found-from zero q a = a
-  found-from (suc turns) q a = found-on q (passed s reverse q e) (λ t. soughtFrom turns s reverse t e) a refl (λ t b. found-from turns t b)
-
-  found : (p : ℕ) → At p → Found (sought s reverse p e)
-  unfolding sought
-  found p a = found-from e p a
-
--- where a search from inside the recorded part finds nothing, nothing more lies ahead
-module _ (s : List ℕ) (e : ℕ) (reverse : Bool) where
-  abbrev pub AtEnd : Sought → Type 0
-  AtEnd (sought-as.Nothing q) = ahead reverse q e ≡ 0
-  AtEnd (sought-as.Record n t) = Always
-  AtEnd (sought-as.Mark t) = Always
-  AtEnd (sought-as.Bad k) = Always
-
-  end-on : (turns q : ℕ) (x : Met) (onward : ℕ → Sought) → q ≤ e → ahead reverse q e ≤ suc turns → PassIn reverse q e x → ((t : ℕ) → t ≤ e → ahead reverse t e ≤ turns → AtEnd (onward t)) → AtEnd (soughtOn x q onward)
-  unfolding soughtOn
-  end-on turns q (met.Record n t) onward h few i on = tt
-  end-on turns q (met.Mark t) onward h few i on = tt
-  end-on turns q (met.Gap t) onward h few i on = on t (i .below) (omega (arith, fewer-ahead reverse q e t h i))
-  end-on turns q met.Nothing onward h few i on = i
-  end-on turns q (met.Bad k) onward h few i on = tt
-
-  -- each gap takes a block, so the turns last
-  end-from : (turns q : ℕ) → q ≤ e → ahead reverse q e ≤ turns → AtEnd (soughtFrom turns s reverse q e)
-  unfolding soughtFrom
-  end-from zero q h few = omega arith
-  end-from (suc turns) q h few = end-on turns q (passed s reverse q e) (λ t. soughtFrom turns s reverse t e) h few (pass-in s reverse q e h) (λ t k l. end-from turns t k l)
-
-  at-most : (p : ℕ) → p ≤ e → ahead reverse p e ≤ e
-  at-most p h = either (λ n. n ≤ e) reverse p (e - p) h (omega arith)
-
-  pub nothing-ahead : (p : ℕ) → p ≤ e → AtEnd (sought s reverse p e)
-  unfolding sought
-  nothing-ahead p h = end-from e p h (at-most p h)
 
 -- a block that is read as a piece lies on the reel
 piece-held : (s : List ℕ) (k n i : ℕ) → classAt s k ≡ block.Piece n i → blockBytes * (k + 1) ≤ length s
@@ -317,26 +263,41 @@ module _ (u : Unit) (m s : List ℕ) where
   here-behind : (q t : ℕ) → Here q → passed s (way u m s) q (u .tape .end) ≡ met.Gap t → Here t
   here-behind q t (g, h) y = (behind-gap g y, gap-within s (way u m s) q (u .tape .end) h y .below)
 
+  -- what the search of a first stage met
+  abbrev First : Sought → Type 0
+  First = Meets s (u .tape .end) (way u m s) Here here-behind (u .tape .position)
+
+  first-met : u .tape .position ≤ u .tape .end → First (sought s (way u m s) (u .tape .position) (u .tape .end))
+  first-met inside = meets s (u .tape .end) (way u m s) Here here-behind (u .tape .position) (at-once, inside)
+
+  -- block k is met in the first object ahead that is no gap
+  abbrev pub FirstBad : ℕ → Type 0
+  FirstBad k = (q : ℕ) × Gapped u m s q × (passed s (way u m s) q (u .tape .end) ≡ met.Bad k)
+
+  -- how the motion of a Read comes out
+  abbrev ReadComes : Motion → Type 0
+  ReadComes = Comes ReadAs FirstBad
+
   -- the first stage ends so where it is over, and goes on from a record that it passed
   abbrev StageAs : Stage → Type 0
-  StageAs = StageHas (Has ReadAs) Passed
+  StageAs = StageHas ReadComes Passed
 
-  nothing-as : (reverse : Bool) (q : ℕ) → ReadStops u m s [] (pick reverse 2 6) 0 (pick reverse (REV + RIB) OPI) q → Has ReadAs (stopMotion (nothingEnd (asks .count) reverse) q (u .tape .end))
+  nothing-as : (reverse : Bool) (q : ℕ) → ReadStops u m s [] (pick reverse 2 6) 0 (pick reverse (REV + RIB) OPI) q → ReadComes (stopMotion (nothingEnd (asks .count) reverse) q (u .tape .end))
   unfolding stopMotion nothingEnd
   nothing-as true q y = rests-as _ _ y (refl, omega arith) refl
   nothing-as false q y = rests-as _ _ y (refl, omega arith) refl
 
-  stage-by : (f : Sought) → RunsOn u m s → Found s (u .tape .end) (way u m s) Here here-behind f → AtEnd s (u .tape .end) (way u m s) f → StageAs (stageBy (u .tape) (asks .count) (way u m s) f)
+  stage-by : (f : Sought) → u .tape .position ≤ u .tape .end → RunsOn u m s → First f → StageAs (stageBy (u .tape) (asks .count) (way u m s) f)
   unfolding stageBy stopMotion markEnd
-  stage-by (sought-as.Record n t) c (q, (g, h), y) z = record { from = q; ran = c; gapped = g; below = h; met-as = y }
-  stage-by (sought-as.Mark t) c (q, (g, h), y) z = rests-as _ _ (at-mark c g y) (refl, omega arith) refl
-  stage-by (sought-as.Nothing q) c (g, h) z = nothing-as (way u m s) q (at-end c g z)
-  stage-by (sought-as.Bad k) c a z = tt
+  stage-by (sought-as.Record n t) l c (q, (g, h), y) = record { from = q; ran = c; gapped = g; below = h; met-as = y }
+  stage-by (sought-as.Mark t) l c (q, (g, h), y) = rests-as _ _ (at-mark c g y) (refl, omega arith) refl
+  stage-by (sought-as.Nothing q) l c ((g, h), z) = nothing-as (way u m s) q (at-end c g (z l))
+  stage-by (sought-as.Bad k) l c (q, (g, h), y) = (q, g, y)
 
   -- a record that is moved: read either way, from its first block p on
   moves-as : (reverse : Bool) (n b p : ℕ) (t : Tape) (rev : Bool) → asks .pointer + asks .count .0 ≤ length m → reads u m s ≡ reverse → firstBlock reverse n b ≡ p → Standing s n p
       → ReadStops u m s (movedBytes reverse (asks .count .0) (recordBytes s p n)) (pick (eqb n (asks .count .0)) 0 2) (flagOf (ltb n (asks .count .0)) RLS + flagOf (ltb (asks .count .0) n) RLL) (flagOf rev REV) (t .position)
-      → Has ReadAs (readMotion asks reverse n b t rev)
+      → ReadComes (readMotion asks reverse n b t rev)
   unfolding readMotion readEnd movedOn readInto
   moves-as reverse n b p t rev fits go first k y =
       let d : List ℕ = recordBytes s p n in
@@ -360,14 +321,14 @@ module _ (u : Unit) (m s : List ℕ) where
   -- from inside the recorded part, with the data in memory (step 10 let it pass)
   module _ (inside : u .tape .position ≤ u .tape .end) (ran : RunsOn u m s) (fits : asks .pointer + asks .count .0 ≤ length m) where
     -- what goes on from the first stage
-    goes-on : (f : ℕ → ℕ → Motion) → ((n t : ℕ) → Passed n t → Has ReadAs (f n t)) → Has ReadAs (onRecord (stageOf s (u .tape) (asks .count) (way u m s)) f)
+    goes-on : (f : ℕ → ℕ → Motion) → ((n t : ℕ) → Passed n t → ReadComes (f n t)) → ReadComes (onRecord (stageOf s (u .tape) (asks .count) (way u m s)) f)
     unfolding stageOf
     goes-on f on =
-        on-record (Has ReadAs) Passed _ f
-        (stage-by _ ran (found s (u .tape .end) (way u m s) Here here-behind (u .tape .position) (at-once, inside)) (nothing-ahead s (u .tape .end) (way u m s) (u .tape .position) inside)) on
+        on-record ReadComes Passed _ f
+        (stage-by _ inside ran (first-met inside)) on
 
     -- a Read moves what it passed
-    one-as : again u m s ≡ false → Has ReadAs (readOne s (u .tape) asks (way u m s))
+    one-as : again u m s ≡ false → ReadComes (readOne s (u .tape) asks (way u m s))
     unfolding readOne
     one-as once =
         goes-on _
@@ -380,24 +341,24 @@ module _ (u : Unit) (m s : List ℕ) where
       second : sought s (not (way u m s)) t (u .tape .end) ≡ sought-as.Record n (x .from)
       second = sought-back s (u .tape .end) (way u m s) (x .from) (x .below) (x .met-as)
 
-      then-read : header u m s .opp ≡ false → Has ReadAs (readOne s (standing t (u .tape .end)) asks (not (way u m s)))
+      then-read : header u m s .opp ≡ false → ReadComes (readOne s (standing t (u .tape .end)) asks (not (way u m s)))
       then-read last =
           let k = passed-stands s (way u m s) (x .from) (u .tape .end) (x .met-as) in
           rw (read-found s (not (way u m s)) t (u .tape .end) n (x .from) asks second)
           (moves-as (not (way u m s)) n (x .from) _ _ (not (way u m s)) fits (rw (twice, last)) (first-back (way u m s) (x .from) n) (k .0)
           (record-so (not (way u m s)) (not (way u m s)) (x .from) x (rw (twice, last)) (rw twice) (rw twice)))
 
-      then-space : header u m s .opp ≡ true → Has ReadAs (spaceBack s (u .tape .end) asks (way u m s) n t)
+      then-space : header u m s .opp ≡ true → ReadComes (spaceBack s (u .tape .end) asks (way u m s) n t)
       unfolding spaceBack stageOf stageBy onRecord
       then-space first =
           let k = passed-stands s (way u m s) (x .from) (u .tape .end) (x .met-as) in
           rw second
           (moves-as (way u m s) n t _ _ (not (way u m s)) fits (rw (twice, first)) (k .1) (k .0) (record-so (way u m s) (not (way u m s)) (x .from) x (rw (twice, first)) (rw twice) (rw twice)))
 
-    reread-as : again u m s ≡ true → Has ReadAs (reread s (u .tape) asks (way u m s) (header u m s .opp))
+    reread-as : again u m s ≡ true → ReadComes (reread s (u .tape) asks (way u m s) (header u m s .opp))
     unfolding reread readThenSpace spaceThenRead
     reread-as twice =
-        pick-told (Has ReadAs) (header u m s .opp) _ _ (λ z. goes-on _ (λ n t x. then-space twice x z)) (λ z. goes-on _ (λ n t x. then-read twice x z))
+        pick-told ReadComes (header u m s .opp) _ _ (λ z. goes-on _ (λ n t x. then-space twice x z)) (λ z. goes-on _ (λ n t x. then-read twice x z))
 
   -- a plan whose message goes into a buffer inside memory
   abbrev pub Sends : Plan → Type 0
@@ -425,10 +386,10 @@ module _ (u : Unit) (m s : List ℕ) where
   fetched-ran f (carried r a) = run (r, a)
 
   -- a motion that sends ended: a fault sends nothing
-  pub motion-sends : (P : Plan → Type 0) (Q : Ending → Type 0) (v : Unit) (ie : Bool) → ((x : Ending) → Q x → Sends (told v ie x) → P (told v ie x)) → (y : Motion) → Has Q y → Sends (motionPlan v ie y) → P (motionPlan v ie y)
+  pub motion-sends : (P : Plan → Type 0) (Q : Ending → Type 0) (F : ℕ → Type 0) (v : Unit) (ie : Bool) → ((x : Ending) → Q x → Sends (told v ie x) → P (told v ie x)) → (y : Motion) → Comes Q F y → Sends (motionPlan v ie y) → P (motionPlan v ie y)
   unfolding motionPlan still
-  motion-sends P Q v ie tells (motion.Ended x) k t = tells x k t
-  motion-sends P Q v ie tells (motion.Fault b) k t = absurd (clash (cc (t .0)))
+  motion-sends P Q F v ie tells (motion.Ended x) k t = tells x k t
+  motion-sends P Q F v ie tells (motion.Fault b) k t = absurd (clash (cc (t .0)))
 
   -- of a plan, what `ReadDone` says of the advance
   record ReadTold (x : Plan) : Type 0 where
@@ -463,7 +424,7 @@ module _ (u : Unit) (m s : List ℕ) where
       }
 
 -- code 1 is a Read, and an end of steps 8 to 10 gives its whole count
-read-command : (code mode : ℕ) → code ≡ 1 → commandOf code mode ≡ readMode mode
+pub read-command : (code mode : ℕ) → code ≡ 1 → commandOf code mode ≡ readMode mode
 unfolding commandOf
 read-command code mode y = rw y
 
@@ -480,45 +441,58 @@ read-way : (h : Header) (mode : ℕ) → h .code ≡ 1 → h .mode ≡ mode → 
 read-way h mode y z = simp (y, z, or-false)
 
 module _ (u : Unit) (m s : List ℕ) (inside : u .tape .position ≤ u .tape .end) (code : header u m s .code ≡ 1) where
+  -- a command whose plan is a motion's that comes out as a Read's does
+  abbrev Reads : Command → Type 0
+  Reads c = (y : Motion) × (carriedOut (started u m s) m s (header u m s) (packet u m s) c ≡ motionPlan (started u m s) (header u m s .ie) y) × ReadComes u m s y
+
   -- a Read by its mode: every mode that is known reads
-  mode-told : RunsOn u m s → asks u m s .pointer + asks u m s .count .0 ≤ length m → isIllegal (readMode (header u m s .mode)) ≡ false
-      → Sends u m s (carriedOut (started u m s) m s (header u m s) (packet u m s) (readMode (header u m s .mode)))
-      → ReadTold u m s (carriedOut (started u m s) m s (header u m s) (packet u m s) (readMode (header u m s .mode)))
+  mode-comes : RunsOn u m s → isIllegal (readMode (header u m s .mode)) ≡ false → Reads (readMode (header u m s .mode))
   unfolding readMode isIllegal carriedOut readBy rereadBy
-  mode-told ran fits known =
+  mode-comes ran known =
       let h : Header = header u m s in
-      let v : Unit = started u m s in
       let mode : ℕ = h .mode in
-      let P : Command → Type 0 = λ c. isIllegal c ≡ false → Sends u m s (carriedOut v m s h (packet u m s) c) → ReadTold u m s (carriedOut v m s h (packet u m s) c) in
-      let by : (y : Motion) → Has (ReadAs u m s) y → Sends u m s (motionPlan v (h .ie) y) → ReadTold u m s (motionPlan v (h .ie) y) =
-      motion-sends u m s (ReadTold u m s) (ReadAs u m s) v (h .ie) (read-told u m s v (h .ie)) in
+      let P : Command → Type 0 = λ c. isIllegal c ≡ false → Reads c in
+      let fits : asks u m s .pointer + asks u m s .count .0 ≤ length m = read-extent h (length m) _ code (ran .1) in
       let is : (k : ℕ) → eqb mode k ≡ true → (reverseFirst h ≡ (eqb k 1 || eqb k 2)) × (leb 2 mode ≡ leb 2 k) = λ k t. (read-way h k code (eqb-true mode k t), ap (leb 2) (eqb-true mode k t)) in
-      let one : (b : Bool) → reverseFirst h ≡ b → leb 2 mode ≡ false → Has (ReadAs u m s) (readOne s (u .tape) (asks u m s) b) =
-      λ b w a. subst (λ b. Has (ReadAs u m s) (readOne s (u .tape) (asks u m s) b)) w (one-as u m s inside ran fits a) in
-      let two : (b : Bool) → reverseFirst h ≡ b → leb 2 mode ≡ true → Has (ReadAs u m s) (reread s (u .tape) (asks u m s) b (h .opp)) =
-      λ b w a. subst (λ b. Has (ReadAs u m s) (reread s (u .tape) (asks u m s) b (h .opp))) w (reread-as u m s inside ran fits a) in
-      pick-told P (eqb mode 0) _ _ (λ t i. by _ (one false (is 0 t .0) (is 0 t .1)))
+      let one : (b : Bool) → reverseFirst h ≡ b → leb 2 mode ≡ false → ReadComes u m s (readOne s (u .tape) (asks u m s) b) =
+      λ b w a. subst (λ b. ReadComes u m s (readOne s (u .tape) (asks u m s) b)) w (one-as u m s inside ran fits a) in
+      let two : (b : Bool) → reverseFirst h ≡ b → leb 2 mode ≡ true → ReadComes u m s (reread s (u .tape) (asks u m s) b (h .opp)) =
+      λ b w a. subst (λ b. ReadComes u m s (reread s (u .tape) (asks u m s) b (h .opp))) w (reread-as u m s inside ran fits a) in
+      pick-told P (eqb mode 0) _ _ (λ t i. (_, refl, one false (is 0 t .0) (is 0 t .1)))
       (λ f.
-      pick-told P (eqb mode 1) _ _ (λ t i. by _ (one true (is 1 t .0) (is 1 t .1)))
+      pick-told P (eqb mode 1) _ _ (λ t i. (_, refl, one true (is 1 t .0) (is 1 t .1)))
       (λ f.
-      pick-told P (eqb mode 2) _ _ (λ t i. by _ (two true (is 2 t .0) (is 2 t .1)))
+      pick-told P (eqb mode 2) _ _ (λ t i. (_, refl, two true (is 2 t .0) (is 2 t .1)))
       (λ f.
-      pick-told P (eqb mode 3) _ _ (λ t i. by _ (two false (is 3 t .0) (is 3 t .1)))
+      pick-told P (eqb mode 3) _ _ (λ t i. (_, refl, two false (is 3 t .0) (is 3 t .1)))
       (λ f i. absurd (clash (cc i)))))) known
 
-  read-ran : isIllegal (commandOf (header u m s .code) (header u m s .mode)) ≡ false → {x : Plan} → Ran u m s x → Sends u m s x → ReadTold u m s x
-  read-ran known (ended-before class shown up not) =
-      read-told u m s _ _ _ (rests-as u m s _ _ (not-run not) up (read-whole (header u m s) (packet u m s .count) code))
-  read-ran known (run a) =
+  -- a Read that runs: how its motion comes out
+  read-comes : RunsOn u m s → Reads (commandOf (header u m s .code) (header u m s .mode))
+  read-comes ran =
       let h : Header = header u m s in
-      let P : Command → Type 0 = λ c. isIllegal c ≡ false → Sends u m s (carriedOut (started u m s) m s h (packet u m s) c) → ReadTold u m s (carriedOut (started u m s) m s h (packet u m s) c) in
-      subst P (sym (read-command (h .code) (h .mode) code)) (mode-told a (read-extent h (length m) _ code (a .1))) known
+      let known = neither (not (h .plain)) (isIllegal (commandOf (h .code) (h .mode))) (ran .0 .fetched .known) .1 in
+      subst (λ c. isIllegal c ≡ false → Reads c) (sym (read-command (h .code) (h .mode) code)) (mode-comes ran) known
+
+  -- a block refuses it only where it is met in the first object ahead
+  pub read-refused : RunsOn u m s → Answers (FirstBad u m s) (carriedOut (started u m s) m s (header u m s) (packet u m s) (commandOf (header u m s .code) (header u m s .mode)) .answer)
+  read-refused ran =
+      let (y, is, c) = read-comes ran in
+      rw is (motion-answers (ReadAs u m s) (FirstBad u m s) (started u m s) (header u m s .ie) y c)
+
+  read-ran : {x : Plan} → Ran u m s x → Sends u m s x → ReadTold u m s x
+  read-ran (ended-before class shown up not) =
+      read-told u m s _ _ _ (rests-as u m s _ _ (not-run not) up (read-whole (header u m s) (packet u m s .count) code))
+  read-ran (run a) =
+      let v : Unit = started u m s in
+      let ie : Bool = header u m s .ie in
+      let (y, is, c) = read-comes a in
+      rw is (motion-sends u m s (ReadTold u m s) (ReadAs u m s) (FirstBad u m s) v ie (read-told u m s v ie) y c)
 
 -- "The residual counts bytes for Read": of every Read that was fetched and whose message went out, from a position inside the recorded part
 pub read-done : (u : Unit) (m s : List ℕ) → u .tape .position ≤ u .tape .end → Fetched u m s → header u m s .code ≡ 1 → Sent u m s → ReadDone u m s (advanced u m s .unit) (memoryAfter (advanced u m s) m s)
 read-done u m s inside f code sent =
-    let known = neither (not (header u m s .plain)) (isIllegal (commandOf (header u m s .code) (header u m s .mode))) (f .known) .1 in
-    let told : ReadTold u m s (advanced u m s) = read-ran u m s inside code known (fetched-ran u m s f (advanced-way u m s)) (sent .sends, sent .inside) in
+    let told : ReadTold u m s (advanced u m s) = read-ran u m s inside code (fetched-ran u m s f (advanced-way u m s)) (sent .sends, sent .inside) in
     record {
       stored = told .stored;
       found = told .found-so;
@@ -569,18 +543,18 @@ module _ (s : List ℕ) (e : ℕ) (r : Rule) (p : ℕ) (count : Count) where
   abbrev RulePast : Span → Type 0
   RulePast = SpanPast s e (r .reverse) p (howMany count) (ofMarks count)
 
-  abbrev FoundPast : ℕ → Sought → Type 0
-  FoundPast left = Found s e (r .reverse) (λ q. CountPast q left) (past-gap s e (r .reverse) p (howMany count) (ofMarks count) left)
+  abbrev MeetsPast : Span → Sought → Type 0
+  MeetsPast y = Meets s e (r .reverse) (λ q. CountPast q (howMany (y .left))) (past-gap s e (r .reverse) p (howMany count) (ofMarks count) (howMany (y .left))) (y .position)
 
   -- each turn, by what its search found
-  turn-past : (y : Span) (f : Sought) → Counts (ofMarks count) y → RulePast y → (howMany (y .left) ≡ 0 → ⊥) → FoundPast (howMany (y .left)) f → SpanHas RulePast (turnOf r y f)
+  turn-past : (y : Span) (f : Sought) → Counts (ofMarks count) y → RulePast y → (howMany (y .left) ≡ 0 → ⊥) → MeetsPast y f → SpanHas RulePast (turnOf r y f)
   unfolding turnOf recordTurn
   turn-past y (sought-as.Record n t) k before some (q, a, g) =
       past-record s e (r .reverse) p (howMany count) (ofMarks count) _ _ q t n a g (rw k at (record-number (y .left) some))
   turn-past y (sought-as.Mark t) k before some (q, a, g) =
       let past : (less : ℕ) → pick (ofMarks (y .left)) 1 0 + less ≡ howMany (y .left) → CountPast t less = λ less d. past-mark s e (r .reverse) p (howMany count) (ofMarks count) _ less q t a g (rw k at d) in
       mark-turns (SpanHas RulePast) r y t (λ n w. past _ (mark-stops-number n w)) (λ n w b. past _ (mark-number n w some)) (λ n w b. past _ (mark-number n w some))
-  turn-past y (sought-as.Nothing t) k before some a = a
+  turn-past y (sought-as.Nothing t) k before some (a, z) = a
   turn-past y (sought-as.Bad n) k before some a = before
 
   -- so where a space ends
@@ -589,13 +563,16 @@ module _ (s : List ℕ) (e : ℕ) (r : Rule) (p : ℕ) (count : Count) where
       spaced-keeps s r e RulePast x
       (λ y k a some.
       turn-past y _ (k ∙ same) a some
-      (found s e (r .reverse) (λ q. CountPast q (howMany (y .left))) (past-gap s e (r .reverse) p (howMany count) (ofMarks count) (howMany (y .left))) (y .position) a))
+      (meets s e (r .reverse) (λ q. CountPast q (howMany (y .left))) (past-gap s e (r .reverse) p (howMany count) (ofMarks count) (howMany (y .left))) (y .position) a))
 
   -- an end of a Position: the objects that it read over, and the residual that it tells
   abbrev EndPast : Ending → Type 0
   EndPast x = CountPast (x .tape .position) (residualWord (x .end .residual))
 
-  space-past : (x : Span) (stop : Stop) → RulePast x → Has EndPast (spaceMotionBy r x e stop)
+  abbrev MotionPast : Motion → Type 0
+  MotionPast = Comes EndPast (λ k. Always)
+
+  space-past : (x : Span) (stop : Stop) → RulePast x → MotionPast (spaceMotionBy r x e stop)
   unfolding spaceMotionBy
   space-past x stop-as.Count (o, c) = (o, rw (left-told r x stop-as.Count) c)
   space-past x stop-as.Mark (o, c) = (o, rw (left-told r x stop-as.Mark) c)
@@ -604,11 +581,11 @@ module _ (s : List ℕ) (e : ℕ) (r : Rule) (p : ℕ) (count : Count) where
   space-past x (stop-as.Bad k) a = tt
 
 -- "A Position count of 0 moves nothing"; any other reads over objects from where the tape stands
-position-past : (s : List ℕ) (t : Tape) (r : Rule) (count : Count) (enb : Bool) → Has (EndPast s (t .end) r (t .position) count) (positioned s t r count enb)
+position-past : (s : List ℕ) (t : Tape) (r : Rule) (count : Count) (enb : Bool) → MotionPast s (t .end) r (t .position) count (positioned s t r count enb)
 unfolding positioned spaceMotion
 position-past s t r count enb =
     let none : (left : ℕ) → left ≡ howMany count → CountPast s (t .end) r (t .position) count (t .position) left = past-none s (t .end) (r .reverse) (t .position) (howMany count) (ofMarks count) in
-    pick-told (Has (EndPast s (t .end) r (t .position) count)) (eqb (howMany count) 0) _ _
+    pick-told (MotionPast s (t .end) r (t .position) count) (eqb (howMany count) 0) _ _
     (λ z. none _ (residual-word count))
     (λ z. space-past s (t .end) r (t .position) count _ _ (spaced-past s (t .end) r (t .position) count (startSpan t count enb) refl (none (howMany count) refl)))
 
@@ -649,7 +626,7 @@ module _ (u : Unit) (m s : List ℕ) where
       → SpaceTold reverse count (positionedBy (started u m s) s (header u m s) count reverse)
   unfolding positionedBy
   position-told reverse count =
-      motion-sends u m s (SpaceTold reverse count) _ (started u m s) (header u m s .ie) (space-told reverse count (started u m s) (header u m s .ie)) _
+      motion-sends u m s (SpaceTold reverse count) _ (λ k. Always) (started u m s) (header u m s .ie) (space-told reverse count (started u m s) (header u m s .ie)) _
       (position-past s (u .tape) (record { reverse = reverse; ess = u .characteristics .ess }) count (u .characteristics .enb))
 
   space-ran : header u m s .code ≡ 8 → header u m s .mode < 4 → {x : Plan} → Ran u m s x → Sends u m s x → SpaceTold (reverseFirst (header u m s)) (countAsked u m s) x

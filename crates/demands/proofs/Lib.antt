@@ -1,6 +1,7 @@
 -- Theorems over the unit's definitions.
 pub mod Ways
 pub mod Faults
+pub mod Meets
 pub mod Carried
 pub mod Residuals
 pub mod ReadBack
@@ -15,3 +16,4 @@ pub mod OneStop
 pub mod Said
 pub mod Sending
 pub mod Answering
+pub mod Reached

@@ -1,5 +1,5 @@
 -- The message of a Position that was carried out says how its motion ended.
-use mathlib.Core.Bool.{Bool, true, false, _&&_, _||_, not}
+use mathlib.Core.Bool.{Bool, true, false, not}
 use mathlib.Core.List.{List}
 use mathlib.Core.Path.{_≡_, refl, sym, ap, subst, _∙_}
 use Prim.Native.Nat.{ℕ, _+_, _*_, _/_, _<_, _≤_}
@@ -7,7 +7,6 @@ use native.Mathlib.Omega.{arith}
 use lib.Dec.{eqb, leb}
 use Rattle.lists.specs.Words.{wordAt}
 use Rattle.signals.specs.Bits.{LET, RLS, TMK}
-use Rattle.signals.specs.Codes.{commandOf}
 use Rattle.signals.specs.Message.{flagOf}
 use Rattle.signals.specs.Residuals.{residualWord}
 use Rattle.signals.specs.declared.packet.Header.{Header}
@@ -17,12 +16,9 @@ use Rattle.moves.specs.Counting.{howMany}
 use Rattle.moves.specs.declared.spacing.Count.{Count}
 use Rattle.moves.specs.declared.spacing.Rule.{Rule}
 use Rattle.moves.proofs.Counting.{number-asked}
-use Rattle.motions.proofs.Ends.{Has}
 use Rattle.motions.specs.Parts.{end, resting}
-use Rattle.motions.specs.Spaces.{positioned, residualOf}
+use Rattle.motions.specs.Spaces.{residualOf}
 use Rattle.motions.specs.declared.parts.Ending.{Ending}
-use Rattle.motions.specs.declared.parts.Motion.{Motion}
-use Rattle.motions.specs.declared.parts.Motion.the-variants as motion
 use Rattle.commands.specs.Commands.{carriedOut, positionedBy}
 use Rattle.commands.specs.Ends.{ended, motionPlan, told, toldUnit}
 use Rattle.commands.specs.declared.plans.Plan.{Plan}
@@ -35,7 +31,7 @@ use Rattle.demands.specs.Stops.{Over, SpaceEnded, Stopped, at-bot, at-lo
 use Rattle.demands.specs.Ways.{carried, header, packet, started}
 use Rattle.demands.proofs.Done.{Sends, Upper, motion-sends, position-command, position-mode, position-reverse, told-found, told-word, told-xst3}
 use Rattle.demands.proofs.Residuals.{residual-word}
-use Rattle.demands.proofs.Stopping.{space-ended, space-of-none}
+use Rattle.demands.proofs.Stopping.{space-comes, space-of-none}
 use Rattle.demands.proofs.Ways.{advanced-is}
 
 -- TMK, LET and RLS stand above XST0's low byte
@@ -60,11 +56,6 @@ upper-stopped (by-mark g more x) = (refl, omega arith)
 upper-stopped {left = left} (at-logical-end g more x y) = upper-end (not (eqb left 0))
 upper-stopped {left = left} (at-bot {r = r} g more x y) = upper-mark (markPassed r) (not (eqb left 0))
 upper-stopped (at-recorded-end {r = r} g more x y) = upper-alone (markPassed r)
-
--- a law of every end of a motion
-has-by : (Q : Ending → Type 0) (y : Motion) → ((x : Ending) → y ≡ motion.Ended x → Q x) → Has Q y
-has-by Q (motion.Ended x) f = f x refl
-has-by Q (motion.Fault k) f = tt
 
 module _ (u : Unit) (m s : List ℕ) where
   -- the ending of a Position by a rule, and of a plan, what `SpaceSays` says of the advance
@@ -102,8 +93,8 @@ module _ (u : Unit) (m s : List ℕ) where
   unfolding positionedBy
   position-says reverse inside some =
       let asked = rw (← number-asked (leb 2 (header u m s .mode)) (packet u m s .count)) at some in
-      motion-sends u m s (SaysBy (byRule reverse)) (EndedBy (byRule reverse)) (started u m s) (header u m s .ie) (says (byRule reverse) (started u m s) (header u m s .ie)) _
-      (has-by (EndedBy (byRule reverse)) _ (λ x e. space-ended s (u .tape) (byRule reverse) (countAsked u m s) (u .characteristics .enb) x inside asked e))
+      motion-sends u m s (SaysBy (byRule reverse)) (EndedBy (byRule reverse)) _ (started u m s) (header u m s .ie) (says (byRule reverse) (started u m s) (header u m s .ie)) _
+      (space-comes s (u .tape) (byRule reverse) (countAsked u m s) (u .characteristics .enb) inside asked)
 
   -- what the advance is, by the way of the mode
   abbrev byWay : Bool → Plan

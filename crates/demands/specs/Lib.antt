@@ -6,6 +6,7 @@ pub mod Faults
 pub mod Done
 pub mod Stops
 pub mod Saying
+pub mod MustRead
 pub mod Reading
 pub mod ReadBack
 pub mod Spacing

@@ -31,9 +31,10 @@ use Rattle.storing.specs.Stored.{memoryAfter, reelAfter}
 use Rattle.advance.specs.Steps.{advanced}
 use Rattle.demands.specs.Done.{Sent}
 use Rattle.demands.specs.Ways.{ends, header, packet, started}
-use Rattle.demands.proofs.Done.{Sends, nothing-ahead, sent-word, told-found, told-word, told-xst3}
+use Rattle.demands.proofs.Done.{Sends, sent-word, told-found, told-word, told-xst3}
 use Rattle.demands.proofs.EndOfTape.{no-room-eot}
 use Rattle.demands.proofs.Kept.{none-laid}
+use Rattle.demands.proofs.Meets.{nothing-ahead}
 use Rattle.kept.specs.Leaving.{WriteRuns, objectFor}
 use Rattle.kept.specs.NoRoom.{Found, NoRoom, NoneFound, found-mark, found-record}
 use Rattle.kept.proofs.Laying.{Here, Lay, advance-lays, again-blocks, again-plan, here-blocks, here-plan}
@@ -102,7 +103,7 @@ module _ (m s : List ℕ) (v : Unit) (ie : Bool) where
       let x = nothingFound v at in
       record {
         class = refl;
-        position = rw none at (nothing-ahead s (v .tape .end) true (v .tape .position) below);
+        position = nothing-ahead s (v .tape .end) true (v .tape .position) below none;
         end = refl;
         reel = none-laid s m;
         residual = told-word v ie x m s sends room;

@@ -26,10 +26,11 @@ use Rattle.advance.specs.Steps.{advanced}
 use Rattle.demands.specs.Faults.{FirstFault}
 use Rattle.demands.specs.Ways.{idle as idle-way}
 use Rattle.demands.proofs.Answering.{busy-answers}
-use Rattle.demands.proofs.Faults.{advanced-first, swept-first}
+use Rattle.demands.proofs.Faults.{swept-first}
+use Rattle.demands.proofs.Reached.{advanced-must, must-first}
 use Rattle.demands.proofs.Ways.{advanced-is}
 use Rattle.unit.specs.Asks.{advance}
-use Rattle.unit.specs.Cores.{Admitted}
+use Rattle.unit.specs.Cores.{Admitted, Core}
 use Rattle.unit.specs.Mounts.{mountCall, mountRefusal, mountSwept}
 use Rattle.unit.specs.Steps.{carried, stepOf}
 use Rattle.entries.specs.Entries.{entryLength}
@@ -88,7 +89,10 @@ module _ (n : ℕ) (w : World) where
         (λ t. rw t (a-step sound busy (λ f. absurd (omega (arith, f, ltb-false free long t))) refl (advanced-obeys (w .core) admitted i e)))
     comes-by answer.Idle e d busy = absurd d
     comes-by (answer.Refused k) e d busy = absurd d
-    comes-by (answer.BadBlock k) e d busy = at-fault sound busy (advanced-first (w .core .unit) (w .core .memory) (w .core .reel) k (admitted .legal .place) e) refl
+    comes-by (answer.BadBlock k) e d busy =
+        let c : Core = w .core in
+        let must = advanced-must (c .unit) (c .memory) (c .reel) k (admitted .legal .place) e in
+        at-fault sound busy (record { read = must; first = must-first (c .unit) (c .memory) (c .reel) k (admitted .legal .place) must }) refl
 
     comes-on : Comes n w (takenBy w (carried (w .core) plan) (plan .answer))
     comes-on =

@@ -9,6 +9,7 @@ use Rattle.state.specs.declared.Unit.{Unit}
 use Rattle.commands.specs.declared.plans.Answer.the-variants as answer
 use Rattle.advance.specs.Rules.{reverseFirst}
 use Rattle.demands.specs.Faults.{FirstFault}
+use Rattle.demands.specs.MustRead.{MustRead}
 use Rattle.unit.specs.Asks.{advance}
 use Rattle.unit.specs.Cores.{Core}
 use Rattle.entries.specs.Entries.{entryLength}
@@ -22,9 +23,11 @@ use Rattle.sessions.specs.Rules.{Obeys, headerIn}
 abbrev pub Idle : Unit → Type 0
 Idle u = (u .registers .ssr ≡ true) × ((u .attention .pending && u .attention .«unit_owns») ≡ false)
 
--- block k is the first at fault ahead of the tape, in the direction of the command's first stage
-abbrev pub FaultAhead : Core → ℕ → Type 0
-FaultAhead c k = FirstFault (c .reel) (c .unit .tape .end) (reverseFirst (headerIn c)) (c .unit .tape .position) k
+-- "a block that .. the command must read is damaged or out of place": the command comes to read block k, which is the first at fault ahead of the
+-- tape, in the direction of its first stage
+pub record FaultAhead (c : Core) (k : ℕ) : Type 0 where
+  pub read : MustRead (c .unit) (c .memory) (c .reel) k
+  pub first : FirstFault (c .reel) (c .unit .tape .end) (reverseFirst (headerIn c)) (c .unit .tape .position) k
 
 -- "9 free journal less than the entry"
 abbrev pub Full : World → Type 0
