@@ -6,5 +6,6 @@ pub mod Filled
 pub mod Paired
 pub mod Xors
 pub mod Printed
+pub mod Spelt
 pub mod Meant
 pub mod Vectors

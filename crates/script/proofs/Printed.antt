@@ -2,18 +2,14 @@
 use mathlib.Core.Path.{_≡_, sym, ap, _∙_}
 use mathlib.Core.List.{List, [], _∷_, _++_}
 use Prim.Native.Nat.{ℕ, zero, suc, _+_, _-_, _≤_, _<_, min}
-use native.Mathlib.Nat.{pow-le-pow-right, suc-sub-suc, sub-zero, zero-min}
+use native.Mathlib.Nat.{suc-sub-suc, sub-zero, zero-min}
 use native.Mathlib.Omega.{arith}
 use borrow.Rule.Slice.PartMut.{putMid}
-use borrow.Author.Tests.{leb-false, leb-true}
-use lib.Dec.{leb}
 use lib.ListN.{length, take, drop, length-append, length-take}
 use lib.Seq.{length-sets, sets, take-nil}
-use Rattle.lists.proofs.Cases.{by-test}
 use Rattle.lists.proofs.Stores.{sets-at}
-use Rattle.io.specs.Digits.{digits, Fewest}
 use Rattle.script.specs.Fills.{copied}
-use Rattle.script.specs.Prints.{Put, putAt, Spelled}
+use Rattle.script.specs.Prints.{Put, putAt}
 use Rattle.script.proofs.Filled.{copied-part}
 
 -- behind the slice's end nothing is put
@@ -46,16 +42,3 @@ module _ (o a b o′ o″ : List ℕ) (at n r : ℕ) where
         stored = q .stored ∙ rw (k, p .stored) (sets-at (take (length o - at) a) (take (length o - at - length a) b) o at n m) ∙ ap (sets o at) (sym (take-both (length o - at) a b));
         next = q .next ∙ omega (arith, k, p .next, length-append a b);
       }
-
--- digits are the fewest that hold a number: there is one such count
-one-count : (b least n j k : ℕ) → 0 < b → Fewest b least n j → Fewest b least n k → k ≤ j
-one-count b least n j k h p q =
-    by-test (leb k j) (λ e. leb-true k j e)
-    (λ e. let m : j < k = leb-false k j e in
-    let u : j ≤ k - 1 = omega arith in
-    absurd (omega (arith, q .2 (omega (arith, p .0)), p .1, pow-le-pow-right {n = b} h {i = j} {j = k - 1} u)))
-
-pub spelled-once : (b least n : ℕ) (s t : List ℕ) → 0 < b → Spelled b least n s → Spelled b least n t → s ≡ t
-spelled-once b least n s t h p q =
-    let e : p .places ≡ q .places = omega (arith, one-count b least n (p .places) (q .places) h (p .fewest) (q .fewest), one-count b least n (q .places) (p .places) h (q .fewest) (p .fewest)) in
-    p .is ∙ ap (λ (k : ℕ). digits b k n) e ∙ sym (q .is)

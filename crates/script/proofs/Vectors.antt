@@ -6,6 +6,7 @@ use Rattle.script.specs.declared.Value.the-variants as value
 use Rattle.script.specs.Words.{eqs, lastEnd, over, spanned, placeFrom, placeOf, wordEnd, wordFrom, wordStart}
 use Rattle.script.specs.Numbers.{digitOf, hexed, joined, numberIn, said}
 use Rattle.script.specs.Fills.{generated, pairs}
+use Rattle.script.specs.Spelling.{placesFrom, spelling}
 use Rattle.script.specs.Sums.{crc32, step, steps, summed}
 
 -- "ab  cd " has the words ab and cd, and is over at 6
@@ -55,3 +56,16 @@ in-pairs = refl
 check : crc32 (49 ∷ 50 ∷ 51 ∷ 52 ∷ 53 ∷ 54 ∷ 55 ∷ 56 ∷ 57 ∷ []) ≡ 3421780262
 unfolding crc32 summed steps step
 check = refl
+
+-- 0 and 207 in decimal, and 510 in hexadecimal with at least four digits
+spelt-none : spelling 10 1 0 ≡ 48 ∷ []
+unfolding spelling placesFrom
+spelt-none = refl
+
+spelt-decimal : spelling 10 1 207 ≡ 50 ∷ 48 ∷ 55 ∷ []
+unfolding spelling placesFrom
+spelt-decimal = refl
+
+spelt-hexadecimal : spelling 16 4 510 ≡ 48 ∷ 49 ∷ 102 ∷ 101 ∷ []
+unfolding spelling placesFrom
+spelt-hexadecimal = refl

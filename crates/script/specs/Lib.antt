@@ -4,3 +4,4 @@ pub mod Numbers
 pub mod Fills
 pub mod Sums
 pub mod Prints
+pub mod Spelling

@@ -2,9 +2,10 @@
 use crate::fills::copy;
 use libc::STDOUT_FILENO;
 use lists::least;
-ghost use mathlib.Core.List.{[]};
+ghost use mathlib.Core.List.{_++_};
 ghost use Prim.Native.Nat.{max, min};
-ghost use Rattle.script.specs.Prints.{Labelled, Put};
+ghost use Rattle.script.specs.Prints.{Put};
+ghost use Rattle.script.specs.Spelling.{spelling};
 
 pub fn put_bytes(out: &mut [u8], at: usize, b: &[u8]) -> usize
     ensures { λ r. ⌜ Put (now (out .entry)) at (now (b .entry)) (now (out .exit)) r ⌝ }
@@ -17,7 +18,7 @@ pub fn put_bytes(out: &mut [u8], at: usize, b: &[u8]) -> usize
 }
 
 pub fn put_decimal(out: &mut [u8], at: usize, n: usize) -> usize
-    ensures { λ r. ⌜ Labelled 10 1 n [] (now (out .entry)) at (now (out .exit)) r ⌝ }
+    ensures { λ r. ⌜ Put (now (out .entry)) at (spelling 10 1 n) (now (out .exit)) r ⌝ }
 {
     let mut text = [0u8; 20];
     let k = io::decimal(n as u64, &mut text);
@@ -25,7 +26,7 @@ pub fn put_decimal(out: &mut [u8], at: usize, n: usize) -> usize
 }
 
 pub fn put_hex(out: &mut [u8], at: usize, n: usize, width: usize) -> usize
-    ensures { λ r. ⌜ Labelled 16 (min (max width 1) 16) n [] (now (out .entry)) at (now (out .exit)) r ⌝ }
+    ensures { λ r. ⌜ Put (now (out .entry)) at (spelling 16 (min (max width 1) 16) n) (now (out .exit)) r ⌝ }
 {
     let mut text = [0u8; 16];
     let k = io::hex(n as u64, width, &mut text);
@@ -33,7 +34,7 @@ pub fn put_hex(out: &mut [u8], at: usize, n: usize, width: usize) -> usize
 }
 
 pub fn put_labelled(out: &mut [u8], at: usize, label: &[u8], n: usize) -> usize
-    ensures { λ r. ⌜ Labelled 10 1 n (now (label .entry)) (now (out .entry)) at (now (out .exit)) r ⌝ }
+    ensures { λ r. ⌜ Put (now (out .entry)) at (now (label .entry) ++ spelling 10 1 n) (now (out .exit)) r ⌝ }
 {
     let next = put_bytes(out, at, label);
     put_decimal(out, next, n)

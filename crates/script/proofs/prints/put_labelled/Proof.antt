@@ -14,9 +14,7 @@ same-length : tie.Need-same-length
 same-length c = search needs
 
 returns : tie.Need-returns
-returns c =
-    let d = c .before .before .put-decimal .ensures in
-    record { text = d .text; spelled = d .spelled; put = put-more _ _ _ _ _ _ _ _ (c .before .before .before .before .before .before .put-bytes .ensures) (d .put) }
+returns c = put-more _ _ _ _ _ _ _ _ (c .before .before .before .before .before .before .put-bytes .ensures) (c .before .before .put-decimal .ensures)
 
 pub put-labelled-spec : {M : Type 1} → statement M
 put-labelled-spec =
