@@ -1,12 +1,7 @@
 // Replays a session script: each case and each call prints its line, and a line that can't be read ends the run.
 mod asks;
-mod builds;
-mod desk;
-mod faults;
-mod fields;
-mod makes;
+mod prints;
 mod reading;
-mod results;
 mod turns;
 
 use desk::fresh;

@@ -1,4 +1,6 @@
 // All that the lines of a script change, besides the bytes of the buffers.
+use lines::Sizes;
+use script::wipe;
 use state::Attention;
 use state::Characteristics;
 use state::Lengths;
@@ -8,13 +10,6 @@ use state::Tape;
 use state::Unit;
 use worlds::Session;
 
-// In bytes.
-pub struct Sizes {
-    pub memory: usize,
-    pub reel: usize,
-    pub journal: usize,
-}
-
 pub struct Desk {
     pub session: Session,
     pub sizes: Sizes,
@@ -23,9 +18,8 @@ pub struct Desk {
     pub cut: bool,
     // The block that the next object is laid at.
     pub cursor: usize,
-    // The number of the line, and how many of its bytes are read.
+    // The number of the line.
     pub line: usize,
-    pub filled: usize,
     pub stopped: bool,
 }
 
@@ -92,7 +86,6 @@ pub fn fresh() -> Desk {
         cut: false,
         cursor: 0,
         line: 0,
-        filled: 0,
         stopped: false,
     }
 }
@@ -101,7 +94,6 @@ pub fn fresh() -> Desk {
 pub fn cleared(d: Desk) -> Desk {
     let mut e = fresh();
     e.line = d.line;
-    e.filled = d.filled;
     e
 }
 
@@ -120,9 +112,15 @@ pub fn beyond(s: Sizes, memory: usize, reel: usize, journal: usize) -> bool {
 // The next line starts.
 pub fn next_line(d: Desk) -> Desk {
     let mut e = d;
-    e.filled = 0;
     if e.line < 1000000000000 {
         e.line += 1;
     }
     e
+}
+
+// Zeros from the sizes s to the sizes h, where h is more.
+pub fn trim(s: Sizes, h: Sizes, mem: &mut [u8], reel: &mut [u8], jrnl: &mut [u8]) {
+    wipe(mem, s.memory, h.memory);
+    wipe(reel, s.reel, h.reel);
+    wipe(jrnl, s.journal, h.journal);
 }

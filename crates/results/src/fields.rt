@@ -44,11 +44,6 @@ fn low(x: usize) -> u32 {
     (x % 4294967296) as u32
 }
 
-// Is v more than field k of the state can hold? The message buffer's address and length have 32 bits.
-pub fn too_wide(k: usize, v: usize) -> bool {
-    ((k == 16) | (k == 17)) & (4294967295 < v)
-}
-
 fn unit_of(f: &[usize; 23]) -> Unit {
     Unit {
         tape: Tape {

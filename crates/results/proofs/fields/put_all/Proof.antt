@@ -1,10 +1,10 @@
--- `replayer::fields::put_all` is safe and ends. Its loop keeps its index inside and its slices as long as they came.
+-- `results::fields::put_all` is safe and ends. Its loop keeps its index inside and its slices as long as they came.
 use Prim.Native.Nat.{_+_, _≤_, _<_, _-_, _*_}
 use mathlib.Core.Path.{_≡_, refl}
 use lib.ListN.{length}
 use borrow.Author.Needs.{needs}
-use Rattle.replayer.proofs.fields.put_all.Statement.{statement}
-use Rattle.replayer.proofs.fields.put_all.Tie as tie
+use Rattle.results.proofs.fields.put_all.Statement.{statement}
+use Rattle.results.proofs.fields.put_all.Tie as tie
 
 abbrev Inv-loop : tie.InvT-loop
 Inv-loop out₀ at f next₀ i₀ t6 out next i = (i ≤ 20) × (length out ≡ length out₀)
