@@ -9,9 +9,16 @@ use state::Registers;
 use state::Tape;
 use state::Unit;
 use worlds::Session;
+ghost use mathlib.Core.Path.{_≡_};
 ghost use Prim.Native.Nat.{_<_};
+ghost use lib.ListN.{set, take};
+ghost use Rattle.script.specs.Prints.{Put};
+ghost use Rattle.results.specs.Fields.{fieldsOf, lowOf, printedFields, sessionWith, unitWith};
+ghost use Rattle.results.specs.Lines.{numbersText};
 
-fn fields(s: Session) -> [usize; 23] {
+fn fields(s: Session) -> [usize; 23]
+    ensures { λ r. ⌜ r ≡ fieldsOf s ⌝ }
+{
     [
         s.unit.tape.position,
         s.unit.tape.end,
@@ -40,11 +47,15 @@ fn fields(s: Session) -> [usize; 23] {
 }
 
 // Of a number that the state holds in 32 bits.
-fn low(x: usize) -> u32 {
+fn low(x: usize) -> u32
+    ensures { λ r. ⌜ r ≡ lowOf x ⌝ }
+{
     (x % 4294967296) as u32
 }
 
-fn unit_of(f: &[usize; 23]) -> Unit {
+fn unit_of(f: [usize; 23]) -> Unit
+    ensures { λ r. ⌜ r ≡ unitWith f ⌝ }
+{
     Unit {
         tape: Tape {
             position: f[0],
@@ -82,7 +93,9 @@ fn unit_of(f: &[usize; 23]) -> Unit {
     }
 }
 
-fn session_of(f: &[usize; 23]) -> Session {
+fn session_of(f: [usize; 23]) -> Session
+    ensures { λ r. ⌜ r ≡ sessionWith f ⌝ }
+{
     Session {
         unit: unit_of(f),
         used: f[19],
@@ -93,13 +106,16 @@ fn session_of(f: &[usize; 23]) -> Session {
 // The session with field k made up.
 pub fn with_field(s: Session, k: usize, v: usize) -> Session
     requires { ⌜ k < 23 ⌝ }
+    ensures { λ r. ⌜ r ≡ sessionWith (set (fieldsOf s) k v) ⌝ }
 {
     let mut f = fields(s);
     f[k] = v;
-    session_of(&f)
+    session_of(f)
 }
 
-fn put_all(out: &mut [u8], at: usize, f: &[usize; 23]) -> usize {
+fn put_all(out: &mut [u8], at: usize, f: [usize; 23]) -> usize
+    ensures { λ r. ⌜ Put (now (out .entry)) at (numbersText (take printedFields f)) (now (out .exit)) r ⌝ }
+{
     let mut next = at;
     let mut i: usize = 0;
     while i < 20 {
@@ -109,7 +125,9 @@ fn put_all(out: &mut [u8], at: usize, f: &[usize; 23]) -> usize {
     next
 }
 
-pub fn put_fields(out: &mut [u8], at: usize, s: Session) -> usize {
+pub fn put_fields(out: &mut [u8], at: usize, s: Session) -> usize
+    ensures { λ r. ⌜ Put (now (out .entry)) at (numbersText (take printedFields (fieldsOf s))) (now (out .exit)) r ⌝ }
+{
     let f = fields(s);
-    put_all(out, at, &f)
+    put_all(out, at, f)
 }
