@@ -10,11 +10,21 @@ use script::Fault;
 use script::Value;
 use script::copy;
 use tape::Geometry;
-ghost use Prim.Native.Nat.{_≤_};
-ghost use lib.ListN.{length};
+ghost use mathlib.Core.Path.{_≡_};
+ghost use Prim.Native.Nat.{_+_, _≤_};
+ghost use lib.ListN.{length, take};
+ghost use lib.Seq.{sets};
+ghost use Rattle.lists.specs.Pick.{pick};
+ghost use Rattle.lists.specs.Words.{wordBytes};
+ghost use Rattle.tape.specs.Objects.{Object};
+ghost use Rattle.desk.specs.Turns.{settled};
+ghost use Rattle.desk.specs.Builds.{blockAnswer, checkBytes, checkPlace, ifTaken, laidAt, pokeAnswer, recordAnswer, wordAnswer};
 
 // The bytes d at a place of memory or reel.
-pub fn poke(b: &mut [u8], at: usize, d: &[u8], p: usize, outside: Fault) -> Value {
+pub fn poke(b: &mut [u8], at: usize, d: &[u8], p: usize, outside: Fault) -> Value
+    ensures answer { λ r. ⌜ r ≡ pokeAnswer (length (now (b .entry))) at (length (now (d .entry))) p outside ⌝ }
+    ensures stored { λ _. ⌜ now (b .exit) ≡ ifTaken (pokeAnswer (length (now (b .entry))) at (length (now (d .entry))) p outside) (sets (now (b .entry)) at (now (d .entry))) (now (b .entry)) ⌝ }
+{
     if b.len() < d.len() {
         return Value::Wrong(outside);
     }
@@ -25,7 +35,10 @@ pub fn poke(b: &mut [u8], at: usize, d: &[u8], p: usize, outside: Fault) -> Valu
     Value::Is(p)
 }
 
-pub fn poke_word(mem: &mut [u8], at: usize, w: usize, p: usize) -> Value {
+pub fn poke_word(mem: &mut [u8], at: usize, w: usize, p: usize) -> Value
+    ensures answer { λ r. ⌜ r ≡ wordAnswer (length (now (mem .entry))) at w p ⌝ }
+    ensures stored { λ _. ⌜ now (mem .exit) ≡ ifTaken (wordAnswer (length (now (mem .entry))) at w p) (sets (now (mem .entry)) at (wordBytes w)) (now (mem .entry)) ⌝ }
+{
     if 65535 < w {
         return Value::Wrong(Fault::NumberTooLarge);
     }
@@ -40,7 +53,10 @@ pub fn poke_word(mem: &mut [u8], at: usize, w: usize, p: usize) -> Value {
 }
 
 // Block k gets the check word that its bytes ask.
-pub fn fix_sum(reel: &mut [u8], k: usize, p: usize) -> Value {
+pub fn fix_sum(reel: &mut [u8], k: usize, p: usize) -> Value
+    ensures answer { λ r. ⌜ r ≡ blockAnswer (length (now (reel .entry))) k p ⌝ }
+    ensures stored { λ _. ⌜ now (reel .exit) ≡ ifTaken (blockAnswer (length (now (reel .entry))) k p) (sets (now (reel .entry)) (checkPlace k) (checkBytes (now (reel .entry)) k)) (now (reel .entry)) ⌝ }
+{
     if reel.len() / Geometry::BLOCK <= k {
         return Value::Wrong(Fault::OutsideReel);
     }
@@ -56,7 +72,10 @@ pub fn fix_sum(reel: &mut [u8], k: usize, p: usize) -> Value {
 }
 
 // The record of data's first n bytes at block p.
-pub fn lay_bytes(reel: &mut [u8], p: usize, data: &[u8], n: usize) -> Value {
+pub fn lay_bytes(reel: &mut [u8], p: usize, data: &[u8], n: usize) -> Value
+    ensures answer { λ r. ⌜ r ≡ recordAnswer (length (now (reel .entry))) p (length (now («data» .entry))) n ⌝ }
+    ensures stored { λ _. ⌜ now (reel .exit) ≡ ifTaken (recordAnswer (length (now (reel .entry))) p (length (now («data» .entry))) n) (laidAt (now (reel .entry)) p (Object.record-of (take n (now («data» .entry))))) (now (reel .entry)) ⌝ }
+{
     if 65535 < n {
         return Value::Wrong(Fault::RecordTooLong);
     }
@@ -79,7 +98,10 @@ pub fn lay_bytes(reel: &mut [u8], p: usize, data: &[u8], n: usize) -> Value {
 }
 
 // A mark or a gap at block p.
-pub fn lay_single(reel: &mut [u8], p: usize, gap: bool) -> Value {
+pub fn lay_single(reel: &mut [u8], p: usize, gap: bool) -> Value
+    ensures answer { λ r. ⌜ r ≡ blockAnswer (length (now (reel .entry))) p (p + 1) ⌝ }
+    ensures stored { λ _. ⌜ now (reel .exit) ≡ ifTaken (blockAnswer (length (now (reel .entry))) p (p + 1)) (laidAt (now (reel .entry)) p (pick gap Object.gap Object.mark)) (now (reel .entry)) ⌝ }
+{
     if reel.len() / Geometry::BLOCK <= p {
         return Value::Wrong(Fault::OutsideReel);
     }
@@ -106,7 +128,9 @@ fn build_at(b: Build, p: usize, data: &[u8], n: usize, mem: &mut [u8], reel: &mu
     }
 }
 
-fn settle(d: Desk, v: Value) -> Turn {
+fn settle(d: Desk, v: Value) -> Turn
+    ensures { λ r. ⌜ r ≡ settled d v ⌝ }
+{
     match v {
         Value::Wrong(f) => {
             let said = Said::Wrong(f);

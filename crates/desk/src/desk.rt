@@ -9,6 +9,9 @@ use state::Registers;
 use state::Tape;
 use state::Unit;
 use worlds::Session;
+ghost use mathlib.Core.Path.{_≡_};
+ghost use Rattle.script.specs.Fills.{wiped};
+ghost use Rattle.desk.specs.Desks.{freshAt, handedOf, nextLine, noSession, noSizes, noUnit, sizesBeyond};
 
 pub struct Desk {
     pub session: Session,
@@ -23,7 +26,9 @@ pub struct Desk {
     pub stopped: bool,
 }
 
-pub fn no_sizes() -> Sizes {
+pub fn no_sizes() -> Sizes
+    ensures { λ r. ⌜ r ≡ noSizes ⌝ }
+{
     Sizes {
         memory: 0,
         reel: 0,
@@ -31,7 +36,9 @@ pub fn no_sizes() -> Sizes {
     }
 }
 
-fn no_unit() -> Unit {
+fn no_unit() -> Unit
+    ensures { λ r. ⌜ r ≡ noUnit ⌝ }
+{
     Unit {
         tape: Tape {
             position: 0,
@@ -69,7 +76,9 @@ fn no_unit() -> Unit {
     }
 }
 
-fn no_session() -> Session {
+fn no_session() -> Session
+    ensures { λ r. ⌜ r ≡ noSession ⌝ }
+{
     Session {
         unit: no_unit(),
         used: 0,
@@ -78,7 +87,9 @@ fn no_session() -> Session {
 }
 
 // As a run starts.
-pub fn fresh() -> Desk {
+pub fn fresh() -> Desk
+    ensures { λ r. ⌜ r ≡ freshAt 0 ⌝ }
+{
     Desk {
         session: no_session(),
         sizes: no_sizes(),
@@ -91,26 +102,34 @@ pub fn fresh() -> Desk {
 }
 
 // As a case starts.
-pub fn cleared(d: Desk) -> Desk {
+pub fn cleared(d: Desk) -> Desk
+    ensures { λ r. ⌜ r ≡ freshAt (d .line) ⌝ }
+{
     let mut e = fresh();
     e.line = d.line;
     e
 }
 
 // The lengths that the calls are handed.
-pub fn handed(d: Desk) -> Sizes {
+pub fn handed(d: Desk) -> Sizes
+    ensures { λ r. ⌜ r ≡ handedOf d ⌝ }
+{
     let cuts = d.cuts;
     let sizes = d.sizes;
     if d.cut { cuts } else { sizes }
 }
 
 // Whether sizes are more than these.
-pub fn beyond(s: Sizes, memory: usize, reel: usize, journal: usize) -> bool {
+pub fn beyond(s: Sizes, memory: usize, reel: usize, journal: usize) -> bool
+    ensures { λ r. ⌜ r ≡ sizesBeyond s memory reel journal ⌝ }
+{
     (memory < s.memory) | (reel < s.reel) | (journal < s.journal)
 }
 
 // The next line starts.
-pub fn next_line(d: Desk) -> Desk {
+pub fn next_line(d: Desk) -> Desk
+    ensures { λ r. ⌜ r ≡ nextLine d ⌝ }
+{
     let mut e = d;
     if e.line < 1000000000000 {
         e.line += 1;
@@ -119,7 +138,11 @@ pub fn next_line(d: Desk) -> Desk {
 }
 
 // Zeros from the sizes s to the sizes h, where h is more.
-pub fn trim(s: Sizes, h: Sizes, mem: &mut [u8], reel: &mut [u8], jrnl: &mut [u8]) {
+pub fn trim(s: Sizes, h: Sizes, mem: &mut [u8], reel: &mut [u8], jrnl: &mut [u8])
+    ensures memory { λ _. ⌜ now (mem .exit) ≡ wiped (now (mem .entry)) (s .memory) (h .memory) ⌝ }
+    ensures reel { λ _. ⌜ now (reel .exit) ≡ wiped (now (reel .entry)) (s .reel) (h .reel) ⌝ }
+    ensures journal { λ _. ⌜ now (jrnl .exit) ≡ wiped (now (jrnl .entry)) (s .journal) (h .journal) ⌝ }
+{
     wipe(mem, s.memory, h.memory);
     wipe(reel, s.reel, h.reel);
     wipe(jrnl, s.journal, h.journal);
