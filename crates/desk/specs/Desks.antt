@@ -44,7 +44,7 @@ abbrev pub handedOf : Desk → Sizes
 handedOf d = pick (d .cut) (d .cuts) (d .sizes)
 
 -- whether one of the sizes is more than these
-abbrev pub sizesBeyond : Sizes → ℕ → ℕ → ℕ → Bool
+unfoldable pub sizesBeyond : Sizes → ℕ → ℕ → ℕ → Bool
 sizesBeyond s m r j = ltb m (s .memory) || ltb r (s .reel) || ltb j (s .journal)
 
 -- lines are counted up to a number that no script reaches

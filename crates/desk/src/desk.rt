@@ -147,3 +147,14 @@ pub fn trim(s: Sizes, h: Sizes, mem: &mut [u8], reel: &mut [u8], jrnl: &mut [u8]
     wipe(reel, s.reel, h.reel);
     wipe(jrnl, s.journal, h.journal);
 }
+
+// The bytes within the sizes go back to zero.
+pub fn clear(s: Sizes, mem: &mut [u8], reel: &mut [u8], jrnl: &mut [u8])
+    ensures memory { λ _. ⌜ now (mem .exit) ≡ wiped (now (mem .entry)) 0 (s .memory) ⌝ }
+    ensures reel { λ _. ⌜ now (reel .exit) ≡ wiped (now (reel .entry)) 0 (s .reel) ⌝ }
+    ensures journal { λ _. ⌜ now (jrnl .exit) ≡ wiped (now (jrnl .entry)) 0 (s .journal) ⌝ }
+{
+    wipe(mem, 0, s.memory);
+    wipe(reel, 0, s.reel);
+    wipe(jrnl, 0, s.journal);
+}
