@@ -14,6 +14,8 @@ use Rattle.script.specs.declared.Fault.{Fault}
 use Rattle.script.specs.declared.Fault.the-variants as fault
 use Rattle.script.specs.declared.Value.{Value}
 use Rattle.script.specs.declared.Value.the-variants as value
+use Rattle.lines.specs.declared.Build.{Build}
+use Rattle.lines.specs.declared.Build.the-variants as build
 
 -- what is stored where the answer is a cursor, and what stays where it is a fault
 abbrev pub ifTaken : Value → List ℕ → List ℕ → List ℕ
@@ -51,3 +53,32 @@ recordAnswer room p held n =
 -- the reel with an object laid at block p
 abbrev pub laidAt : List ℕ → ℕ → Object → List ℕ
 laidAt s p o = sets s (blockBytes * p) (imageOf o)
+
+-- what such a line answers while the cursor is at p: it gives the bytes d, the first n of so many held, and memory and reel are m and r bytes
+unfoldable pub builtAnswer : Build → ℕ → List ℕ → ℕ → ℕ → ℕ → ℕ → Value
+builtAnswer (build.Poke at) p d held n m r = pokeAnswer m at (length d) p fault.OutsideMemory
+builtAnswer (build.PokeWord at w) p d held n m r = wordAnswer m at w p
+builtAnswer (build.PokeReel at) p d held n m r = pokeAnswer r at (length d) p fault.OutsideReel
+builtAnswer (build.FixSum k) p d held n m r = blockAnswer r k p
+builtAnswer build.Record p d held n m r = recordAnswer r p held n
+builtAnswer build.Mark p d held n m r = blockAnswer r p (p + 1)
+builtAnswer build.Gap p d held n m r = blockAnswer r p (p + 1)
+
+-- and the memory and the reel that it leaves
+unfoldable pub builtMemory : Build → ℕ → List ℕ → List ℕ → List ℕ
+builtMemory (build.Poke at) p d m = ifTaken (pokeAnswer (length m) at (length d) p fault.OutsideMemory) (sets m at d) m
+builtMemory (build.PokeWord at w) p d m = ifTaken (wordAnswer (length m) at w p) (sets m at (wordBytes w)) m
+builtMemory (build.PokeReel at) p d m = m
+builtMemory (build.FixSum k) p d m = m
+builtMemory build.Record p d m = m
+builtMemory build.Mark p d m = m
+builtMemory build.Gap p d m = m
+
+unfoldable pub builtReel : Build → ℕ → List ℕ → ℕ → ℕ → List ℕ → List ℕ
+builtReel (build.Poke at) p d held n s = s
+builtReel (build.PokeWord at w) p d held n s = s
+builtReel (build.PokeReel at) p d held n s = ifTaken (pokeAnswer (length s) at (length d) p fault.OutsideReel) (sets s at d) s
+builtReel (build.FixSum k) p d held n s = ifTaken (blockAnswer (length s) k p) (sets s (checkPlace k) (checkBytes s k)) s
+builtReel build.Record p d held n s = ifTaken (recordAnswer (length s) p held n) (laidAt s p (Object.record-of d)) s
+builtReel build.Mark p d held n s = ifTaken (blockAnswer (length s) p (p + 1)) (laidAt s p Object.mark) s
+builtReel build.Gap p d held n s = ifTaken (blockAnswer (length s) p (p + 1)) (laidAt s p Object.gap) s

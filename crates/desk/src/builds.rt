@@ -11,14 +11,14 @@ use script::Value;
 use script::copy;
 use tape::Geometry;
 ghost use mathlib.Core.Path.{_≡_};
-ghost use Prim.Native.Nat.{_+_, _≤_};
+ghost use Prim.Native.Nat.{_+_, _≤_, min};
 ghost use lib.ListN.{length, take};
 ghost use lib.Seq.{sets};
 ghost use Rattle.lists.specs.Pick.{pick};
 ghost use Rattle.lists.specs.Words.{wordBytes};
 ghost use Rattle.tape.specs.Objects.{Object};
 ghost use Rattle.desk.specs.Turns.{settled};
-ghost use Rattle.desk.specs.Builds.{blockAnswer, checkBytes, checkPlace, ifTaken, laidAt, pokeAnswer, recordAnswer, wordAnswer};
+ghost use Rattle.desk.specs.Builds.{blockAnswer, builtAnswer, builtMemory, builtReel, checkBytes, checkPlace, ifTaken, laidAt, pokeAnswer, recordAnswer, wordAnswer};
 
 // The bytes d at a place of memory or reel.
 pub fn poke(b: &mut [u8], at: usize, d: &[u8], p: usize, outside: Fault) -> Value
@@ -116,6 +116,9 @@ pub fn lay_single(reel: &mut [u8], p: usize, gap: bool) -> Value
 // What the line does while the cursor is at p, with data's first n bytes.
 fn build_at(b: Build, p: usize, data: &[u8], n: usize, mem: &mut [u8], reel: &mut [u8]) -> Value
     requires { ⌜ n ≤ length (now «data») ⌝ }
+    ensures answer { λ r. ⌜ r ≡ builtAnswer b p (take n (now («data» .entry))) (length (now («data» .entry))) n (length (now (mem .entry))) (length (now (reel .entry))) ⌝ }
+    ensures memory { λ _. ⌜ now (mem .exit) ≡ builtMemory b p (take n (now («data» .entry))) (now (mem .entry)) ⌝ }
+    ensures reel { λ _. ⌜ now (reel .exit) ≡ builtReel b p (take n (now («data» .entry))) (length (now («data» .entry))) n (now (reel .entry)) ⌝ }
 {
     match b {
         Build::Poke(at) => poke(mem, at, &data[0..n], p, Fault::OutsideMemory),
@@ -148,6 +151,9 @@ fn settle(d: Desk, v: Value) -> Turn
 // The line changes only what is within the sizes.
 pub fn build(d: Desk, b: Build, data: &[u8], n: usize, mem: &mut [u8], reel: &mut [u8]) -> Turn
     requires { ⌜ n ≤ length (now «data») ⌝ }
+    ensures turn { λ r. ⌜ r ≡ settled d (builtAnswer b (d .cursor) (take n (now («data» .entry))) (length (now («data» .entry))) n (length (take (min (d .sizes .memory) (length (now (mem .entry)))) (now (mem .entry)))) (length (take (min (d .sizes .reel) (length (now (reel .entry)))) (now (reel .entry))))) ⌝ }
+    ensures memory { λ _. ⌜ now (mem .exit) ≡ sets (now (mem .entry)) 0 (builtMemory b (d .cursor) (take n (now («data» .entry))) (take (min (d .sizes .memory) (length (now (mem .entry)))) (now (mem .entry)))) ⌝ }
+    ensures reel { λ _. ⌜ now (reel .exit) ≡ sets (now (reel .entry)) 0 (builtReel b (d .cursor) (take n (now («data» .entry))) (length (now («data» .entry))) n (take (min (d .sizes .reel) (length (now (reel .entry)))) (now (reel .entry)))) ⌝ }
 {
     let m = least(d.sizes.memory, mem.len());
     let r = least(d.sizes.reel, reel.len());
