@@ -7,6 +7,10 @@ use results::Told;
 use unit::Register;
 use worlds::Outcome;
 use worlds::Session;
+ghost use lib.ListN.{length};
+ghost use Rattle.worlds.specs.Worlds.{Leaves, worldOf};
+ghost use Rattle.worlds.specs.Calls.{stepOn};
+ghost use Rattle.replayer.specs.Asks.{askOf};
 
 // A step, with the bytes that its line gives.
 fn ask(
@@ -16,7 +20,9 @@ fn ask(
     mem: &mut [u8],
     reel: &mut [u8],
     jrnl: &mut [u8],
-) -> Outcome {
+) -> Outcome
+    ensures { λ r. ⌜ Leaves (stepOn (worldOf s (now (mem .entry)) (now (reel .entry)) (now (jrnl .entry))) (length (now (jrnl .entry))) (askOf a (now (bytes .entry)))) (now (jrnl .entry)) r (now (mem .exit)) (now (reel .exit)) (now (jrnl .exit)) ⌝ }
+{
     match a {
         Ask::WriteTsdb(w) => journal::write_tsdb(s, mem, reel, jrnl, w),
         Ask::WriteTssr => journal::write_tssr(s, mem, reel, jrnl),

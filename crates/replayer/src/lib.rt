@@ -57,6 +57,7 @@ fn replay_over(
     );
 }
 
+// No contract can say more than that it returns: the C library's read and write promise nothing that one could use.
 pub fn replay(fd: i32) {
     let mut mem = memory();
     let mut reel = reel_space();
