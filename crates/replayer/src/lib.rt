@@ -1,12 +1,7 @@
 // Replays a session script: each case and each call prints its line, and a line that can't be read ends the run.
 mod asks;
-mod builds;
-mod desk;
-mod faults;
-mod fields;
-mod makes;
+mod prints;
 mod reading;
-mod results;
 mod turns;
 
 use desk::fresh;
@@ -62,6 +57,7 @@ fn replay_over(
     );
 }
 
+// No contract can say more than that it returns: the C library's read and write promise nothing that one could use.
 pub fn replay(fd: i32) {
     let mut mem = memory();
     let mut reel = reel_space();

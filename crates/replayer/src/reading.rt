@@ -1,143 +1,235 @@
-// The script in chunks, and its lines out of them.
-use crate::desk::Desk;
-use crate::desk::next_line;
-use crate::faults::stop;
-use crate::turns::run_line;
+// The script in chunks, its lines out of them, and each line run. No contract here can say more: the C library's read promises nothing of
+// what is read.
+use crate::prints::print;
+use crate::turns::carry_out;
+use desk::Desk;
+use desk::Said;
+use desk::Turn;
+use desk::next_line;
+use lines::Does;
+use lines::Given;
+use lines::Line;
+use lines::fill;
+use lines::line_of;
+use lists::least;
 use script::Fault;
+use script::Value;
 use script::append;
 use script::find;
+ghost use mathlib.Core.Path.{_≡_};
 ghost use Prim.Native.Nat.{_≤_, _<_};
 ghost use lib.ListN.{length};
 
 // More than any line holds.
 const LONG: usize = 1000000;
 
-// The line that has come is whole.
-fn end_line(
-    d: Desk,
+// Where the reading of a line is.
+struct Reader {
+    // The next byte of the chunk, and how many the chunk has.
+    at: usize,
+    got: usize,
+    // How many bytes of the line have come, and whether it is whole.
     filled: usize,
-    line: &[u8],
-    mem: &mut [u8],
-    reel: &mut [u8],
-    jrnl: &mut [u8],
-    data: &mut [u8],
-    table: &[usize; 256],
-) -> Desk {
-    let e = next_line(d);
-    if line.len() < filled {
-        return stop(e, Fault::LineTooLong);
-    }
-    run_line(e, &line[0..filled], mem, reel, jrnl, data, table)
+    whole: bool,
+    // No more will come.
+    ended: bool,
 }
 
-// The bytes of the chunk from `at` to the next line end, or to its own: a line end has the line run.
-fn take_part(
-    d: Desk,
-    chunk: &[u8],
-    at: usize,
-    end: usize,
-    line: &mut [u8],
-    mem: &mut [u8],
-    reel: &mut [u8],
-    jrnl: &mut [u8],
-    data: &mut [u8],
-    table: &[usize; 256],
-) -> Desk
-    requires { ⌜ (at ≤ end) × (end ≤ length (now chunk)) ⌝ }
-{
-    let filled = append(line, d.filled, &chunk[at..end], LONG);
-    if end < chunk.len() {
-        return end_line(d, filled, line, mem, reel, jrnl, data, table);
+fn start() -> Reader {
+    Reader {
+        at: 0,
+        got: 0,
+        filled: 0,
+        whole: false,
+        ended: false,
     }
-    let mut e = d;
-    e.filled = filled;
-    e
+}
+
+// How many bytes have come of the line that is being read.
+fn begun(r: Reader) -> usize {
+    if r.whole { 0 } else { r.filled }
 }
 
 // The place beyond a line end, or the chunk's end.
-fn onward(at: usize, end: usize, n: usize) -> usize
-    requires { ⌜ (at ≤ end) × (end ≤ n) × (at < n) ⌝ }
-    ensures { λ r. ⌜ (at < r) × (r ≤ n) ⌝ }
+fn onward(end: usize, n: usize) -> usize
+    requires { ⌜ end ≤ n ⌝ }
 {
     if end < n { end + 1 } else { n }
 }
 
-fn run_chunk(
-    d: Desk,
-    chunk: &[u8],
-    line: &mut [u8],
-    mem: &mut [u8],
-    reel: &mut [u8],
-    jrnl: &mut [u8],
-    data: &mut [u8],
-    table: &[usize; 256],
-) -> Desk {
-    let mut e = d;
-    let mut at: usize = 0;
-    while at < chunk.len() {
-        if e.stopped {
-            return e;
-        }
-        let end = find(chunk, at, 10);
-        e = take_part(e, chunk, at, end, line, mem, reel, jrnl, data, table);
-        at = onward(at, end, chunk.len());
+// The bytes of the chunk from `at` to the next line end, or to its own.
+fn take_part(r: Reader, chunk: &[u8], line: &mut [u8]) -> Reader {
+    let got = least(r.got, chunk.len());
+    let at = least(r.at, got);
+    let end = find(&chunk[0..got], at, 10);
+    let filled = append(line, begun(r), &chunk[at..end], LONG);
+    let whole = end < got;
+    Reader {
+        at: onward(end, got),
+        got,
+        filled,
+        whole,
+        ended: false,
     }
-    e
 }
 
 // The script has ended; its last line may lack a line end.
-fn end_script(
-    d: Desk,
-    line: &[u8],
-    mem: &mut [u8],
-    reel: &mut [u8],
-    jrnl: &mut [u8],
-    data: &mut [u8],
-    table: &[usize; 256],
-) -> Desk {
-    let mut e = end_line(d, d.filled, line, mem, reel, jrnl, data, table);
-    e.stopped = true;
-    e
+fn end_script(r: Reader) -> Reader {
+    Reader {
+        at: 0,
+        got: 0,
+        filled: begun(r),
+        whole: true,
+        ended: true,
+    }
 }
 
-fn read_some(
-    d: Desk,
-    fd: i32,
-    chunk: &mut [u8],
-    line: &mut [u8],
-    mem: &mut [u8],
-    reel: &mut [u8],
-    jrnl: &mut [u8],
-    data: &mut [u8],
-    table: &[usize; 256],
-) -> Desk {
+fn read_more(r: Reader, fd: i32, chunk: &mut [u8], line: &mut [u8]) -> Reader {
     let got = libc::read(fd, chunk);
     let n = io::count(got, chunk);
     if n == 0 {
-        return end_script(d, line, mem, reel, jrnl, data, table);
+        return end_script(r);
     }
-    run_chunk(d, &chunk[..n], line, mem, reel, jrnl, data, table)
+    let mut next = r;
+    next.at = 0;
+    next.got = n;
+    take_part(next, chunk, line)
+}
+
+// More of the line, as far as the chunk has it.
+fn take_more(r: Reader, fd: i32, chunk: &mut [u8], line: &mut [u8]) -> Reader {
+    if r.at < r.got {
+        return take_part(r, chunk, line);
+    }
+    read_more(r, fd, chunk, line)
+}
+
+// How many bytes stand before a comment; 0 of a line that is too long.
+fn text_length(line: &[u8], filled: usize) -> usize
+    ensures { λ r. ⌜ r ≤ length (now (line .entry)) ⌝ }
+{
+    if line.len() < filled {
+        return 0;
+    }
+    find(&line[0..filled], 0, b'#')
+}
+
+fn too_long() -> Line {
+    let does = Does::Wrong(Fault::LineTooLong);
+    let given = Given::Nothing;
+    Line { does, given }
+}
+
+// The line as a value, its text n bytes.
+fn line_in(line: &[u8], filled: usize, n: usize, cursor: usize) -> Line
+    requires { ⌜ n ≤ length (now line) ⌝ }
+{
+    if line.len() < filled {
+        return too_long();
+    }
+    line_of(&line[0..n], cursor)
+}
+
+// How many bytes a line gave.
+fn held(v: Value, room: usize) -> usize
+    ensures { λ r. ⌜ r ≤ room ⌝ }
+{
+    match v {
+        Value::Is(n) => least(n, room),
+        Value::Wrong(_) => 0,
+    }
+}
+
+// What the line does, unless the bytes that it gives are wrong.
+fn agreed(does: Does, v: Value) -> Does {
+    match v {
+        Value::Is(_) => does,
+        Value::Wrong(f) => Does::Wrong(f),
+    }
+}
+
+// A line that is wrong, or the last, ends the run.
+fn ended(t: Turn, last: bool) -> Desk {
+    let said = t.said;
+    let mut d = t.desk;
+    match said {
+        Said::Wrong(_) => d.stopped = true,
+        _ => d.stopped = last,
+    }
+    d
+}
+
+// The line is run, and prints.
+fn run_line(
+    d: Desk,
+    r: Reader,
+    line: &[u8],
+    mem: &mut [u8; 262146],
+    reel: &mut [u8; 131072],
+    jrnl: &mut [u8; 1048576],
+    data: &mut [u8; 131072],
+    table: &[usize; 256],
+) -> Desk {
+    let e = next_line(d);
+    let n = text_length(line, r.filled);
+    let l = line_in(line, r.filled, n, e.cursor);
+    let given = l.given;
+    let does = l.does;
+    let v = fill(given, &line[0..n], data);
+    let k = held(v, data.len());
+    let t = carry_out(e, agreed(does, v), data, k, mem, reel, jrnl);
+    let said = t.said;
+    print(
+        said,
+        e.line,
+        &line[0..n],
+        mem,
+        t.desk.sizes.memory,
+        reel,
+        t.desk.sizes.reel,
+        table,
+    );
+    ended(t, r.ended)
+}
+
+// The line is run if it is whole.
+fn turn(
+    d: Desk,
+    r: Reader,
+    line: &[u8],
+    mem: &mut [u8; 262146],
+    reel: &mut [u8; 131072],
+    jrnl: &mut [u8; 1048576],
+    data: &mut [u8; 131072],
+    table: &[usize; 256],
+) -> Desk {
+    if r.whole {
+        return run_line(d, r, line, mem, reel, jrnl, data, table);
+    }
+    d
 }
 
 // Nothing says that the input ends, so the turns run down from a number that no run uses up.
 pub fn read_all(
     d: Desk,
     fd: i32,
-    chunk: &mut [u8],
-    line: &mut [u8],
-    mem: &mut [u8],
-    reel: &mut [u8],
-    jrnl: &mut [u8],
-    data: &mut [u8],
+    chunk: &mut [u8; 65536],
+    line: &mut [u8; 4096],
+    mem: &mut [u8; 262146],
+    reel: &mut [u8; 131072],
+    jrnl: &mut [u8; 1048576],
+    data: &mut [u8; 131072],
     table: &[usize; 256],
 ) {
     let mut e = d;
+    let mut r = start();
     let mut turns: usize = 1000000000000;
     while 0 < turns {
-        e = read_some(e, fd, chunk, line, mem, reel, jrnl, data, table);
+        turns -= 1;
+        r = take_more(r, fd, chunk, line);
+        e = turn(e, r, line, mem, reel, jrnl, data, table);
         if e.stopped {
             return;
         }
-        turns -= 1;
     }
 }

@@ -1,71 +1,38 @@
--- `replayer::reading::read_all` is safe and ends. Its loop keeps its index inside and its slices as long as they came.
-use Prim.Native.Nat.{_+_, _≤_, _<_, _-_, _*_}
-use mathlib.Core.Path.{_≡_, refl}
-use lib.ListN.{length}
+-- `read_all` is safe and ends: its turns run down.
+use Prim.Native.Nat.{_≤_}
 use borrow.Author.Needs.{needs}
-use native.Mathlib.Omega.{arith}
 use Rattle.replayer.proofs.reading.read_all.Statement.{statement}
 use Rattle.replayer.proofs.reading.read_all.Tie as tie
 
 abbrev Inv-loop : tie.InvT-loop
-Inv-loop fd chunk₀ line₀ mem₀ reel₀ jrnl₀ data₀ table e₀ turns₀ chunk line mem reel jrnl «data» e turns = (length chunk ≡ length chunk₀) × (length line ≡ length line₀) × (length mem ≡ length mem₀) × (length reel ≡ length reel₀) × (length jrnl ≡ length jrnl₀) × (length «data» ≡ length data₀)
+Inv-loop fd chunk₀ line₀ mem₀ reel₀ jrnl₀ data₀ table e₀ r₀ turns₀ chunk line mem reel jrnl «data» e r turns = 0 ≤ turns
 
 abbrev μ-loop : tie.MeasureT-loop
-μ-loop fd chunk₀ line₀ mem₀ reel₀ jrnl₀ data₀ table e₀ turns₀ chunk line mem reel jrnl «data» e turns = turns
+μ-loop fd chunk₀ line₀ mem₀ reel₀ jrnl₀ data₀ table e₀ r₀ turns₀ chunk line mem reel jrnl «data» e r turns = turns
+
+start-requires : tie.Need-start-requires Inv-loop μ-loop
+start-requires c κs = search needs
 
 loop-holds : tie.Need-loop-holds Inv-loop μ-loop
 loop-holds c = search needs
 
-read-some-requires : tie.Need-read-some-requires Inv-loop μ-loop
-read-some-requires c κs = search needs
+sub-turns : tie.Need-sub-turns Inv-loop μ-loop
+sub-turns c = search needs
 
-same-length : tie.Need-same-length Inv-loop μ-loop
-same-length c = search needs
+take-more-requires : tie.Need-take-more-requires Inv-loop μ-loop
+take-more-requires c κs = search needs
 
-same-length-2 : tie.Need-same-length-2 Inv-loop μ-loop
-same-length-2 c = search needs
-
-same-length-3 : tie.Need-same-length-3 Inv-loop μ-loop
-same-length-3 c = search needs
-
-same-length-4 : tie.Need-same-length-4 Inv-loop μ-loop
-same-length-4 c = search needs
-
-same-length-5 : tie.Need-same-length-5 Inv-loop μ-loop
-same-length-5 c = search needs
-
-same-length-6 : tie.Need-same-length-6 Inv-loop μ-loop
-same-length-6 c = search needs
+turn-requires : tie.Need-turn-requires Inv-loop μ-loop
+turn-requires c κs = search needs
 
 returns : tie.Need-returns Inv-loop μ-loop
 returns c = search needs
-
-sub-turns : tie.Need-sub-turns Inv-loop μ-loop
-sub-turns c = search needs
 
 loop-less : tie.Need-loop-less Inv-loop μ-loop
 loop-less c = search needs
 
 loop-again : tie.Need-loop-again Inv-loop μ-loop
 loop-again c = search needs
-
-same-length-7 : tie.Need-same-length-7 Inv-loop μ-loop
-same-length-7 c = search needs
-
-same-length-8 : tie.Need-same-length-8 Inv-loop μ-loop
-same-length-8 c = search needs
-
-same-length-9 : tie.Need-same-length-9 Inv-loop μ-loop
-same-length-9 c = search needs
-
-same-length-10 : tie.Need-same-length-10 Inv-loop μ-loop
-same-length-10 c = search needs
-
-same-length-11 : tie.Need-same-length-11 Inv-loop μ-loop
-same-length-11 c = search needs
-
-same-length-12 : tie.Need-same-length-12 Inv-loop μ-loop
-same-length-12 c = search needs
 
 returns-2 : tie.Need-returns-2 Inv-loop μ-loop
 returns-2 c = search needs
@@ -76,22 +43,12 @@ read-all-spec =
     (tie.spec
     Inv-loop
     μ-loop
+    start-requires
     loop-holds
-    read-some-requires
-    same-length
-    same-length-2
-    same-length-3
-    same-length-4
-    same-length-5
-    same-length-6
-    returns
     sub-turns
+    take-more-requires
+    turn-requires
+    returns
     loop-less
     loop-again
-    same-length-7
-    same-length-8
-    same-length-9
-    same-length-10
-    same-length-11
-    same-length-12
     returns-2)

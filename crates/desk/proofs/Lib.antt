@@ -1,0 +1,2 @@
+-- The laws of what is put into memory and reel.
+pub mod Built

@@ -1,0 +1,2 @@
+-- The laws of the bytes that a line gives.
+pub mod Made

@@ -1,0 +1,2 @@
+-- What the lines of a script say.
+pub mod Gives

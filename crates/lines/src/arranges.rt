@@ -1,0 +1,84 @@
+// Lines that set the desk up.
+use crate::Arrange;
+use crate::Line;
+use crate::Sizes;
+use crate::makes::arranges;
+use crate::makes::wrong;
+use lists::least;
+use script::Fault;
+use script::Three;
+use script::Value;
+use script::argument;
+use script::find_word;
+use script::numbers;
+use tape::Geometry;
+
+// In bytes; no reel of the program has so many blocks that a cut matters.
+fn reel_bytes(blocks: usize) -> usize {
+    Geometry::BLOCK * least(blocks, 1000000)
+}
+
+fn sizes_line(text: &[u8]) -> Line {
+    match numbers(text, 1, 3) {
+        Three::Wrong(f) => wrong(f),
+        Three::Are(m, b, j) => arranges(Arrange::Sizes(Sizes {
+            memory: m,
+            reel: reel_bytes(b),
+            journal: j,
+        })),
+    }
+}
+
+fn lens_line(text: &[u8]) -> Line {
+    if find_word(b"off", text, 1) == 0 {
+        return arranges(Arrange::Uncut);
+    }
+    match numbers(text, 1, 3) {
+        Three::Wrong(f) => wrong(f),
+        Three::Are(m, r, j) => arranges(Arrange::Cut(Sizes {
+            memory: m,
+            reel: r,
+            journal: j,
+        })),
+    }
+}
+
+fn field_in(text: &[u8]) -> usize {
+    find_word(
+        b"pos end ptr class rmr nxm nba ssr online lock vck unit_owns attn eai ess enb msgaddr msglen release_ie used memlen reelblocks jrnllen",
+        text,
+        1,
+    )
+}
+
+// Is v more than field k of the state can hold? The message buffer's address and length have 32 bits.
+fn too_wide(k: usize, v: usize) -> bool {
+    ((k == 16) | (k == 17)) & (4294967295 < v)
+}
+
+fn set_to(k: usize, v: usize) -> Line {
+    if 22 < k {
+        return wrong(Fault::UnknownWord);
+    }
+    if too_wide(k, v) {
+        return wrong(Fault::NumberTooLarge);
+    }
+    arranges(Arrange::Set(k, v))
+}
+
+fn set_line(text: &[u8]) -> Line {
+    match argument(text, 2) {
+        Value::Wrong(f) => wrong(f),
+        Value::Is(v) => set_to(field_in(text), v),
+    }
+}
+
+// Lines 0 to 3 of the list of words.
+pub fn arrange_line(text: &[u8], k: usize) -> Line {
+    match k {
+        0 => arranges(Arrange::Case),
+        1 => sizes_line(text),
+        2 => lens_line(text),
+        _ => set_line(text),
+    }
+}

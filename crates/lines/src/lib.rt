@@ -1,0 +1,79 @@
+// A line of a session script as a value: what it asks for, its words and numbers read.
+mod arranges;
+mod builds;
+mod calls;
+mod gives;
+mod makes;
+mod texts;
+
+pub use gives::fill;
+use script::Fault;
+use state::Act;
+pub use texts::line_of;
+
+// In bytes.
+pub struct Sizes {
+    pub memory: usize,
+    pub reel: usize,
+    pub journal: usize,
+}
+
+// Lines that set the desk up.
+pub enum Arrange {
+    Case,
+    Sizes(Sizes),
+    Cut(Sizes),
+    Uncut,
+    // A field of the session by its number, and what it is made.
+    Set(usize, usize),
+}
+
+// Lines that put bytes into memory or reel with no call: at a place, in a block, or at the cursor.
+pub enum Build {
+    Poke(usize),
+    PokeWord(usize, usize),
+    PokeReel(usize),
+    FixSum(usize),
+    Record,
+    Mark,
+    Gap,
+}
+
+// A step that is asked for.
+pub enum Ask {
+    WriteTsdb(u16),
+    WriteTssr,
+    Operate(Act),
+    // The bytes that the line gives go to a place.
+    HostStore(usize),
+    Advance,
+}
+
+pub enum Call {
+    // The recorded end; whether on line; whether locked.
+    Mount(usize, bool, bool),
+    ReadTsba,
+    ReadTssr,
+    Step(Ask),
+    StepBack,
+}
+
+pub enum Does {
+    Nothing,
+    Arranges(Arrange),
+    Builds(Build),
+    Calls(Call),
+    Wrong(Fault),
+}
+
+// The bytes that a line gives: none, those of a word, or so many made from a seed.
+pub enum Given {
+    Nothing,
+    Word(usize),
+    Made(usize, usize),
+}
+
+pub struct Line {
+    pub does: Does,
+    pub given: Given,
+}

@@ -1,0 +1,2 @@
+-- What a line asks of the journal.
+pub mod Asks

@@ -1,0 +1,68 @@
+-- The result line of a call.
+use mathlib.Core.Bool.{Bool}
+use mathlib.Core.List.{List, [], _∷_, _++_}
+use Prim.Native.Nat.{ℕ}
+use lib.ListN.{take}
+use Rattle.commands.specs.declared.plans.Answer.{Answer}
+use Rattle.commands.specs.declared.plans.Answer.the-variants as answer
+use Rattle.worlds.specs.declared.Session.{Session}
+use Rattle.script.specs.Spelling.{spelling}
+use Rattle.results.specs.declared.Also.{Also}
+use Rattle.results.specs.declared.Also.the-variants as also
+use Rattle.results.specs.Fields.{bitOf, fieldsOf, printedFields}
+
+-- a number in decimal, and in hexadecimal with no fewer digits than so many
+abbrev pub decimal : ℕ → List ℕ
+decimal n = spelling 10 1 n
+
+abbrev pub hexadecimal : ℕ → ℕ → List ℕ
+hexadecimal least n = spelling 16 least n
+
+-- " int=" and " entry="
+abbrev pub interruptText : Bool → List ℕ
+interruptText i = (32 ∷ 105 ∷ 110 ∷ 116 ∷ 61 ∷ []) ++ decimal (bitOf i)
+
+abbrev pub entryText : ℕ → List ℕ
+entryText n = (32 ∷ 101 ∷ 110 ∷ 116 ∷ 114 ∷ 121 ∷ 61 ∷ []) ++ decimal n
+
+-- what a step that was taken tells behind its answer: the length of its entry; an advance its interrupt before that
+unfoldable pub alsoText : Bool → Also → List ℕ
+alsoText i also.Nothing = []
+alsoText i (also.Entry n) = entryText n
+alsoText i (also.Interrupt n) = interruptText i ++ entryText n
+alsoText i (also.Word w) = []
+
+-- "0" of a call that was done
+abbrev pub doneText : Bool → Also → List ℕ
+doneText i x = (48 ∷ []) ++ alsoText i x
+
+-- "0", "idle", a refusal's number, or "7 block=" and the block
+unfoldable pub answerText : Answer → Also → List ℕ
+answerText (answer.Done i) x = doneText i x
+answerText answer.Idle x = 105 ∷ 100 ∷ 108 ∷ 101 ∷ []
+answerText (answer.Refused n) x = decimal n
+answerText (answer.BadBlock k) x = (55 ∷ 32 ∷ 98 ∷ 108 ∷ 111 ∷ 99 ∷ 107 ∷ 61 ∷ []) ++ decimal k
+
+-- " word=" and the word read, whatever the answer
+abbrev pub readText : ℕ → List ℕ
+readText w = (32 ∷ 119 ∷ 111 ∷ 114 ∷ 100 ∷ 61 ∷ []) ++ hexadecimal 4 w
+
+unfoldable pub wordText : Also → List ℕ
+wordText also.Nothing = []
+wordText (also.Entry n) = []
+wordText (also.Interrupt n) = []
+wordText (also.Word w) = readText w
+
+-- a blank and each number
+unfoldable pub numbersText : List ℕ → List ℕ
+numbersText [] = []
+numbersText (n ∷ l) = ((32 ∷ []) ++ decimal n) ++ numbersText l
+
+-- " | ", two check sums with a blank between them, and the line's end
+unfoldable pub sumsText : ℕ → ℕ → List ℕ
+sumsText m r = (32 ∷ 124 ∷ 32 ∷ []) ++ (hexadecimal 8 m ++ ((32 ∷ []) ++ (hexadecimal 8 r ++ (10 ∷ []))))
+
+-- the answer and what it tells, the word read, the session after the call, the check sums of memory and reel
+unfoldable pub resultLine : Answer → Also → Session → ℕ → ℕ → List ℕ
+resultLine a x s m r =
+    answerText a x ++ (wordText x ++ ((32 ∷ 124 ∷ []) ++ (numbersText (take printedFields (fieldsOf s)) ++ sumsText m r)))
