@@ -1,12 +1,12 @@
 // The eight calls. Each contract says that answer, session, memory, reel and used journal are those of a definition in crate worlds
 // (specs/Calls.antt); the theorems over any sequence of them are listed in crates/sessions/src/lib.rt.
-use crate::steps::change;
-use crate::steps::host_step;
-use crate::steps::refused;
-use crate::steps::step;
-use crate::steps::undo;
 use commands::Answer;
 use state::Act;
+use steps::change;
+use steps::host_step;
+use steps::refused;
+use steps::step;
+use steps::undo;
 use unit::Register;
 use unit::register_word;
 use worlds::JOURNAL_LIMIT;

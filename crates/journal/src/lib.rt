@@ -1,7 +1,6 @@
 // The calls that the debugger makes, in code: each with its refusals and its journal entry, and the step back. What they mean stands in
 // crate worlds.
 mod calls;
-mod steps;
 
 pub use calls::advance;
 pub use calls::host_store;

@@ -1,7 +1,7 @@
 -- `advance` meets its contract: a step for an answer of 0, else nothing changes.
-use Rattle.journal.proofs.Outs.{guarded-goes, guarded-stops}
-use Rattle.journal.proofs.Called.{advance-rests, advance-takes}
-use Rattle.journal.proofs.Readies.{advance-ready}
+use Rattle.steps.proofs.Outs.{guarded-goes, guarded-stops}
+use Rattle.steps.proofs.Called.{advance-rests, advance-takes}
+use Rattle.steps.proofs.Readies.{advance-ready}
 use Rattle.worlds.specs.Worlds.{worldOf}
 use Rattle.worlds.specs.Calls.{stepOn, takenBy}
 use Rattle.worlds.proofs.Passing.{passed, plannable}

@@ -1,7 +1,7 @@
 -- `host_store` meets its contract: refusals 1 to 5, else the step.
-use Rattle.journal.proofs.Outs.{guarded-goes, guarded-stops}
-use Rattle.journal.proofs.Called.{store-stops, store-takes}
-use Rattle.journal.proofs.Readies.{host-ready}
+use Rattle.steps.proofs.Outs.{guarded-goes, guarded-stops}
+use Rattle.steps.proofs.Called.{store-stops, store-takes}
+use Rattle.steps.proofs.Readies.{host-ready}
 use Rattle.unit.specs.Steps.{stepOf}
 use Rattle.worlds.specs.Calls.{stepOn}
 use borrow.Author.Needs.{needs}

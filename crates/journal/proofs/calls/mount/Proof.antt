@@ -1,5 +1,5 @@
 -- `mount` is its definition.
-use Rattle.journal.proofs.Outs.{same-outcome}
+use Rattle.steps.proofs.Outs.{same-outcome}
 use Rattle.worlds.specs.Calls.{mountOn, mountedBy}
 use borrow.Author.Tests.{eq-eqb, le-ltb, lt-ltb, ne-eqb}
 use borrow.Author.Needs.{needs}

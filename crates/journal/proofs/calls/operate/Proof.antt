@@ -1,6 +1,6 @@
 -- `operate` meets its contract: refusals 1 to 4, else the change.
-use Rattle.journal.proofs.Outs.{guarded-goes, guarded-stops}
-use Rattle.journal.proofs.Called.{change-takes}
+use Rattle.steps.proofs.Outs.{guarded-goes, guarded-stops}
+use Rattle.steps.proofs.Called.{change-takes}
 use Rattle.unit.specs.Steps.{stepOf}
 use Rattle.worlds.specs.Calls.{stepOn}
 use borrow.Author.Needs.{needs}

@@ -23,7 +23,7 @@ use Rattle.worlds.specs.Refusals.{checked}
 use Rattle.worlds.specs.Worlds.{worldOf}
 use Rattle.worlds.specs.declared.Session.{Session}
 use Rattle.worlds.proofs.Passing.{core-accepted, passed, sizes}
-use Rattle.journal.specs.Readiness.{HostReady, Ready, Unrefused}
+use Rattle.steps.specs.Readiness.{HostReady, Ready, Unrefused}
 
 module _ (s : Session) (m r : List ℕ) (journal : ℕ) (k : Unrefused s (length m) (length r) journal) where
   pub sound-sizes : Sizes (length m) (length r)

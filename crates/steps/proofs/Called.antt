@@ -17,8 +17,8 @@ use Rattle.worlds.specs.Worlds.{Leaves, answered, worldOf}
 use Rattle.worlds.specs.Calls.{outcome, takenAs, takenBy}
 use Rattle.worlds.specs.declared.Session.{Session}
 use Rattle.worlds.specs.declared.Outcome.{Outcome}
-use Rattle.journal.proofs.Outs.{answer-rests, answer-takes}
-use Rattle.journal.proofs.Entered.{store-answer}
+use Rattle.steps.proofs.Outs.{answer-rests, answer-takes}
+use Rattle.steps.proofs.Entered.{store-answer}
 
 module _ (s : Session) (m r j : List ℕ) where
   abbrev core : Core

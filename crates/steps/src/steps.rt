@@ -24,7 +24,7 @@ ghost use lib.ListN.{length};
 ghost use Rattle.unit.specs.Steps.{carried, changed, stored};
 ghost use Rattle.worlds.specs.Worlds.{Leaves, worldOf};
 ghost use Rattle.worlds.specs.Calls.{takenAs, undoOn};
-ghost use Rattle.journal.specs.Readiness.{HostReady, Ready, Unrefused, Undoable};
+ghost use Rattle.steps.specs.Readiness.{HostReady, Ready, Unrefused, Undoable};
 
 // Refusal n changes nothing.
 pub fn refused(s: Session, n: usize) -> Outcome

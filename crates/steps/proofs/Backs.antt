@@ -18,7 +18,7 @@ use Rattle.worlds.specs.Refusals.{checked}
 use Rattle.worlds.specs.Calls.{backOn, entryWrong, outcome, session, undoBy, undoOn, undone, without}
 use Rattle.worlds.specs.declared.Session.{Session}
 use Rattle.worlds.specs.declared.Outcome.{Outcome}
-use Rattle.journal.proofs.Outs.{guarded-goes, left-alone}
+use Rattle.steps.proofs.Outs.{guarded-goes, left-alone}
 
 -- the newest entry e, tested by f and w: refusal 8, or brought back
 module _ (s : Session) (m r j : List ℕ) (e : Entry) (f w : Bool) (de : e ≡ newestEntry (usedIn (s .used) j)) (df : f ≡ entryFits e (s .used) (s .unit .lengths) (length m) (length r)) (dw : w ≡ stateWrong (e .unit)) where

@@ -1,13 +1,13 @@
 -- `step` meets its contract: refusal 9, or the entry first and then the stores.
-use Rattle.journal.proofs.Outs.{taken-goes, taken-stops}
-use Rattle.journal.proofs.Entered.{step-after, step-entry}
-use Rattle.journal.proofs.Readies.{step-in}
+use Rattle.steps.proofs.Outs.{taken-goes, taken-stops}
+use Rattle.steps.proofs.Entered.{step-after, step-entry}
+use Rattle.steps.proofs.Readies.{step-in}
 use Rattle.worlds.specs.Worlds.{worldOf}
 use Rattle.worlds.proofs.Passing.{passed, room}
 use native.Mathlib.Omega.{arith}
 use borrow.Author.Needs.{needs}
-use Rattle.journal.proofs.steps.step.Statement.{statement}
-use Rattle.journal.proofs.steps.step.Tie as tie
+use Rattle.steps.proofs.steps.step.Statement.{statement}
+use Rattle.steps.proofs.steps.step.Tie as tie
 
 touched-by-requires : tie.Need-touched-by-requires
 touched-by-requires c κs = search needs

@@ -4,15 +4,15 @@ use Rattle.commands.specs.Answers.{isStep}
 use lib.Seq.{sets}
 use Rattle.entries.proofs.Joined.{run-bytes, run-whole}
 use Rattle.unit.proofs.Touches.{host-run}
-use Rattle.journal.proofs.Outs.{taken-goes, taken-stops}
-use Rattle.journal.proofs.Entered.{store-after, store-entry, store-right}
-use Rattle.journal.proofs.Readies.{sound-sizes, store-in}
+use Rattle.steps.proofs.Outs.{taken-goes, taken-stops}
+use Rattle.steps.proofs.Entered.{store-after, store-entry, store-right}
+use Rattle.steps.proofs.Readies.{sound-sizes, store-in}
 use Rattle.worlds.specs.Worlds.{worldOf}
 use Rattle.worlds.proofs.Passing.{passed, room}
 use native.Mathlib.Omega.{arith}
 use borrow.Author.Needs.{needs}
-use Rattle.journal.proofs.steps.host_step.Statement.{statement}
-use Rattle.journal.proofs.steps.host_step.Tie as tie
+use Rattle.steps.proofs.steps.host_step.Statement.{statement}
+use Rattle.steps.proofs.steps.host_step.Tie as tie
 
 host-touched-requires : tie.Need-host-touched-requires
 host-touched-requires c κs = search needs

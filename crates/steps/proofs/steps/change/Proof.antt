@@ -3,14 +3,14 @@ use mathlib.Core.Path.{ap, refl, sym, _∙_}
 use Rattle.commands.specs.Answers.{isStep}
 use lib.Seq.{sets}
 use Rattle.entries.proofs.Joined.{bare-bytes}
-use Rattle.journal.proofs.Outs.{taken-goes, taken-stops}
-use Rattle.journal.proofs.Entered.{bare-length, change-after, change-entry}
+use Rattle.steps.proofs.Outs.{taken-goes, taken-stops}
+use Rattle.steps.proofs.Entered.{bare-length, change-after, change-entry}
 use Rattle.worlds.specs.Worlds.{worldOf}
 use Rattle.worlds.proofs.Passing.{passed, room}
 use native.Mathlib.Omega.{arith}
 use borrow.Author.Needs.{needs}
-use Rattle.journal.proofs.steps.change.Statement.{statement}
-use Rattle.journal.proofs.steps.change.Tie as tie
+use Rattle.steps.proofs.steps.change.Statement.{statement}
+use Rattle.steps.proofs.steps.change.Tie as tie
 
 nothing-requires : tie.Need-nothing-requires
 nothing-requires c κs = search needs

@@ -1,11 +1,11 @@
 -- `undo` meets its contract: refusal 8, or the newest entry brought back.
-use Rattle.journal.proofs.Backs.{undo-fits, undo-goes, undo-stops}
-use Rattle.journal.proofs.Readies.{sound-sizes}
+use Rattle.steps.proofs.Backs.{undo-fits, undo-goes, undo-stops}
+use Rattle.steps.proofs.Readies.{sound-sizes}
 use Rattle.worlds.proofs.Passing.{passed}
 use native.Mathlib.Omega.{arith}
 use borrow.Author.Needs.{needs}
-use Rattle.journal.proofs.steps.undo.Statement.{statement}
-use Rattle.journal.proofs.steps.undo.Tie as tie
+use Rattle.steps.proofs.steps.undo.Statement.{statement}
+use Rattle.steps.proofs.steps.undo.Tie as tie
 
 newest-entry-requires : tie.Need-newest-entry-requires
 newest-entry-requires c κs =
