@@ -15,8 +15,8 @@ use Rattle.lines.specs.declared.Given.the-variants as given
 use Rattle.lines.specs.Makes.{arrangesLine, asksLine, buildsLine, callsLine, onNumber, onNumbers, plainLine, wrongLine}
 use Rattle.lines.specs.Starts.{hasWord, mostWords, startOf, startWords}
 use Rattle.lines.specs.Arranging.{arranging, fieldOf, fieldWords, setLine, setTo}
-use Rattle.lines.specs.Building.{laying, madeLine, pokeLine, poking}
-use Rattle.lines.specs.Calling.{calling, endOf, mountLine, opLine, operateBy}
+use Rattle.lines.specs.Building.{laying, madeLine, pokeLine, poking, recordLine}
+use Rattle.lines.specs.Calling.{calling, endOf, mountLine, opLine, operateBy, tsdbLine, tsdbTo}
 use Rattle.lines.specs.Lines.{lineBy, lineFrom, lineOf}
 
 -- a blank line
@@ -57,3 +57,21 @@ extra = refl
 unknown : lineOf (98 ∷ 97 ∷ 99 ∷ 107 ∷ 107 ∷ []) 0 ≡ wrongLine fault.UnknownWord
 unfolding lineOf lineFrom lineBy hasWord startOf startWords mostWords placeFrom eqs wordFrom wordStart wordEnd over spanned
 unknown = refl
+
+-- the last of the words, and the last of the fields
+last-word : lineOf (98 ∷ 97 ∷ 99 ∷ 107 ∷ []) 0 ≡ callsLine call.StepBack given.Nothing
+unfolding lineOf lineFrom lineBy hasWord startOf startWords mostWords calling placeFrom eqs wordFrom wordStart wordEnd over spanned
+last-word = refl
+
+last-field : lineOf (115 ∷ 101 ∷ 116 ∷ 32 ∷ 106 ∷ 114 ∷ 110 ∷ 108 ∷ 108 ∷ 101 ∷ 110 ∷ 32 ∷ 51 ∷ []) 0 ≡ arrangesLine (arrange.Set 22 3)
+unfolding lineOf lineFrom lineBy hasWord startOf startWords mostWords arranging setLine setTo fieldOf fieldWords numberIn hexed said joined digitOf wantedOf threeOf onNumber onNumbers placeFrom eqs wordFrom wordStart wordEnd over spanned
+last-field = refl
+
+-- "tsdb 65536" is no word of 16 bits, "R" gives no bytes
+wide-word : lineOf (116 ∷ 115 ∷ 100 ∷ 98 ∷ 32 ∷ 54 ∷ 53 ∷ 53 ∷ 51 ∷ 54 ∷ []) 0 ≡ wrongLine fault.NumberTooLarge
+unfolding lineOf lineFrom lineBy hasWord startOf startWords mostWords calling tsdbLine tsdbTo numberIn hexed said joined digitOf wantedOf threeOf onNumber onNumbers placeFrom eqs wordFrom wordStart wordEnd over spanned
+wide-word = refl
+
+no-bytes : lineOf (82 ∷ []) 0 ≡ wrongLine fault.WordMissing
+unfolding lineOf lineFrom lineBy hasWord startOf startWords mostWords laying recordLine placeFrom eqs wordFrom wordStart wordEnd over spanned
+no-bytes = refl

@@ -32,27 +32,27 @@ fn most_words(k: usize) -> usize
     ensures { λ r. ⌜ r ≡ mostWords k ⌝ }
 {
     let most: [usize; 21] = [
-        4096,
-        4,
-        4,
-        3,
-        3,
-        3,
-        3,
-        2,
-        2,
-        3,
-        1,
-        1,
-        4,
-        2,
-        2,
-        2,
-        2,
-        3,
-        4,
-        1,
-        1,
+        4096, // case
+        4, // sizes
+        4, // lens
+        3, // set
+        3, // poke
+        3, // word
+        3, // pokereel
+        2, // fixsum
+        2, // R
+        3, // RN
+        1, // M
+        1, // G
+        4, // mount
+        2, // tsdb
+        2, // tssr
+        2, // reg
+        2, // op
+        3, // host
+        4, // hostn
+        1, // adv
+        1, // back
     ];
     most[k]
 }
