@@ -1,2 +1,4 @@
--- The laws of the bytes that a line gives.
+-- The laws of lines, and of the bytes that they give.
+pub mod Asked
 pub mod Made
+pub mod Vectors

@@ -1,2 +1,8 @@
 -- What the lines of a script say.
 pub mod Gives
+pub mod Makes
+pub mod Starts
+pub mod Arranging
+pub mod Building
+pub mod Calling
+pub mod Lines

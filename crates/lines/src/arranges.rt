@@ -12,13 +12,19 @@ use script::argument;
 use script::find_word;
 use script::numbers;
 use tape::Geometry;
+ghost use mathlib.Core.Path.{_≡_};
+ghost use Rattle.lines.specs.Arranging.{arranging, fieldOf, lensLine, reelBytes, setLine, setTo, sizesLine, tooWide};
 
 // In bytes; no reel of the program has so many blocks that a cut matters.
-fn reel_bytes(blocks: usize) -> usize {
+fn reel_bytes(blocks: usize) -> usize
+    ensures { λ r. ⌜ r ≡ reelBytes blocks ⌝ }
+{
     Geometry::BLOCK * least(blocks, 1000000)
 }
 
-fn sizes_line(text: &[u8]) -> Line {
+fn sizes_line(text: &[u8]) -> Line
+    ensures { λ r. ⌜ r ≡ sizesLine (now (text .entry)) ⌝ }
+{
     match numbers(text, 1, 3) {
         Three::Wrong(f) => wrong(f),
         Three::Are(m, b, j) => arranges(Arrange::Sizes(Sizes {
@@ -29,7 +35,9 @@ fn sizes_line(text: &[u8]) -> Line {
     }
 }
 
-fn lens_line(text: &[u8]) -> Line {
+fn lens_line(text: &[u8]) -> Line
+    ensures { λ r. ⌜ r ≡ lensLine (now (text .entry)) ⌝ }
+{
     if find_word(b"off", text, 1) == 0 {
         return arranges(Arrange::Uncut);
     }
@@ -43,7 +51,9 @@ fn lens_line(text: &[u8]) -> Line {
     }
 }
 
-fn field_in(text: &[u8]) -> usize {
+fn field_in(text: &[u8]) -> usize
+    ensures { λ r. ⌜ r ≡ fieldOf (now (text .entry)) ⌝ }
+{
     find_word(
         b"pos end ptr class rmr nxm nba ssr online lock vck unit_owns attn eai ess enb msgaddr msglen release_ie used memlen reelblocks jrnllen",
         text,
@@ -52,11 +62,15 @@ fn field_in(text: &[u8]) -> usize {
 }
 
 // Is v more than field k of the state can hold? The message buffer's address and length have 32 bits.
-fn too_wide(k: usize, v: usize) -> bool {
+fn too_wide(k: usize, v: usize) -> bool
+    ensures { λ r. ⌜ r ≡ tooWide k v ⌝ }
+{
     ((k == 16) | (k == 17)) & (4294967295 < v)
 }
 
-fn set_to(k: usize, v: usize) -> Line {
+fn set_to(k: usize, v: usize) -> Line
+    ensures { λ r. ⌜ r ≡ setTo k v ⌝ }
+{
     if 22 < k {
         return wrong(Fault::UnknownWord);
     }
@@ -66,7 +80,9 @@ fn set_to(k: usize, v: usize) -> Line {
     arranges(Arrange::Set(k, v))
 }
 
-fn set_line(text: &[u8]) -> Line {
+fn set_line(text: &[u8]) -> Line
+    ensures { λ r. ⌜ r ≡ setLine (now (text .entry)) ⌝ }
+{
     match argument(text, 2) {
         Value::Wrong(f) => wrong(f),
         Value::Is(v) => set_to(field_in(text), v),
@@ -74,7 +90,9 @@ fn set_line(text: &[u8]) -> Line {
 }
 
 // Lines 0 to 3 of the list of words.
-pub fn arrange_line(text: &[u8], k: usize) -> Line {
+pub fn arrange_line(text: &[u8], k: usize) -> Line
+    ensures { λ r. ⌜ r ≡ arranging (now (text .entry)) k ⌝ }
+{
     match k {
         0 => arranges(Arrange::Case),
         1 => sizes_line(text),

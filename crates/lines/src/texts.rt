@@ -10,9 +10,15 @@ use crate::makes::wrong;
 use script::Fault;
 use script::find_word;
 use script::nth;
+ghost use mathlib.Core.Path.{_≡_};
+ghost use Prim.Native.Nat.{_<_};
+ghost use Rattle.lines.specs.Lines.{lineBy, lineFrom, lineOf};
+ghost use Rattle.lines.specs.Starts.{hasWord, mostWords, startOf};
 
 // The words that a line may start with, in the order of the tables here.
-fn first_word(text: &[u8]) -> usize {
+fn first_word(text: &[u8]) -> usize
+    ensures { λ r. ⌜ r ≡ startOf (now (text .entry)) ⌝ }
+{
     find_word(
         b"case sizes lens set poke word pokereel fixsum R RN M G mount tsdb tssr reg op host hostn adv back",
         text,
@@ -20,24 +26,48 @@ fn first_word(text: &[u8]) -> usize {
     )
 }
 
-// How many words such a line may have.
-fn most_words(k: usize) -> usize {
-    match k {
-        0 => 4096,
-        1 | 2 | 12 | 18 => 4,
-        3 | 4 | 5 | 6 | 9 | 17 => 3,
-        7 | 8 | 13 | 14 | 15 | 16 => 2,
-        _ => 1,
-    }
+// How many words a line may have that starts with word k of them.
+fn most_words(k: usize) -> usize
+    requires { ⌜ k < 21 ⌝ }
+    ensures { λ r. ⌜ r ≡ mostWords k ⌝ }
+{
+    let most: [usize; 21] = [
+        4096, // case
+        4, // sizes
+        4, // lens
+        3, // set
+        3, // poke
+        3, // word
+        3, // pokereel
+        2, // fixsum
+        2, // R
+        3, // RN
+        1, // M
+        1, // G
+        4, // mount
+        2, // tsdb
+        2, // tssr
+        2, // reg
+        2, // op
+        3, // host
+        4, // hostn
+        1, // adv
+        1, // back
+    ];
+    most[k]
 }
 
-pub fn has_word(text: &[u8], k: usize) -> bool {
+pub fn has_word(text: &[u8], k: usize) -> bool
+    ensures { λ r. ⌜ r ≡ hasWord (now (text .entry)) k ⌝ }
+{
     let s = nth(text, k);
     s.start < s.end
 }
 
 // The line whose first word is number k of the list.
-fn line_by(text: &[u8], k: usize, cursor: usize) -> Line {
+fn line_by(text: &[u8], k: usize, cursor: usize) -> Line
+    ensures { λ r. ⌜ r ≡ lineBy (now (text .entry)) k cursor ⌝ }
+{
     if k < 4 {
         return arrange_line(text, k);
     }
@@ -50,12 +80,10 @@ fn line_by(text: &[u8], k: usize, cursor: usize) -> Line {
     call_line(text, k, cursor)
 }
 
-// A line with no comment, while the cursor is at that block.
-pub fn line_of(text: &[u8], cursor: usize) -> Line {
-    if !has_word(text, 0) {
-        return plain(Does::Nothing);
-    }
-    let k = first_word(text);
+// A line that starts with word k of the list, or with none of them.
+fn line_from(text: &[u8], k: usize, cursor: usize) -> Line
+    ensures { λ r. ⌜ r ≡ lineFrom (now (text .entry)) k cursor ⌝ }
+{
     if 20 < k {
         return wrong(Fault::UnknownWord);
     }
@@ -63,4 +91,14 @@ pub fn line_of(text: &[u8], cursor: usize) -> Line {
         return wrong(Fault::ExtraWord);
     }
     line_by(text, k, cursor)
+}
+
+// A line with no comment, while the cursor is at that block.
+pub fn line_of(text: &[u8], cursor: usize) -> Line
+    ensures { λ r. ⌜ r ≡ lineOf (now (text .entry)) cursor ⌝ }
+{
+    if has_word(text, 0) {
+        return line_from(text, first_word(text), cursor);
+    }
+    plain(Does::Nothing)
 }
