@@ -1,0 +1,3 @@
+-- The laws of what calls come to.
+pub mod Telling
+pub mod Making
