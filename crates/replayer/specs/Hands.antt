@@ -1,4 +1,4 @@
--- A call of a line over what the desk d hands it: the first bytes of memory m, reel r and journal j, as many as the line before said.
+-- A call of a line over what the desk d hands it: the first bytes of memory m, reel r and journal j, as many as its cuts or its sizes say.
 use mathlib.Core.List.{List}
 use Prim.Native.Nat.{ℕ, min}
 use lib.ListN.{length, take}

@@ -9,7 +9,6 @@ use Rattle.desk.specs.Builds.{builtAnswer, builtMemory, builtReel}
 use Rattle.desk.specs.Turns.{settled, still, wrong}
 use Rattle.desk.specs.declared.Turn.{Turn}
 use Rattle.desk.specs.declared.desk.Desk.{Desk}
-use Rattle.lines.specs.declared.Arrange.{Arrange}
 use Rattle.lines.specs.declared.Does.{Does}
 use Rattle.lines.specs.declared.Does.the-variants as does
 use Rattle.lists.specs.Pick.{pick}

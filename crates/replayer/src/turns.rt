@@ -16,14 +16,13 @@ ghost use mathlib.Core.Path.{_≡_};
 ghost use Prim.Native.Nat.{_≤_};
 ghost use lib.ListN.{length};
 ghost use lib.Seq.{sets};
-ghost use Rattle.desk.specs.Turns.{still};
 ghost use Rattle.desk.specs.Turns as turns;
 ghost use Rattle.replayer.specs.Hands.{handOn, handTold};
 ghost use Rattle.replayer.specs.Keeps.{JournalHanded, JournalKept, callTurn, keptAs, memoryKept, reelKept};
 ghost use Rattle.replayer.specs.Turns.{JournalOn, memoryOn, reelOn, turnOn};
 
 fn nothing(desk: Desk) -> Turn
-    ensures { λ r. ⌜ r ≡ still desk ⌝ }
+    ensures { λ r. ⌜ r ≡ turns.still desk ⌝ }
 {
     let said = Said::Nothing;
     Turn { desk, said }
