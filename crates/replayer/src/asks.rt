@@ -7,10 +7,14 @@ use results::Told;
 use unit::Register;
 use worlds::Outcome;
 use worlds::Session;
+ghost use mathlib.Core.Path.{_≡_};
 ghost use lib.ListN.{length};
 ghost use Rattle.worlds.specs.Worlds.{Leaves, worldOf};
 ghost use Rattle.worlds.specs.Calls.{stepOn};
 ghost use Rattle.replayer.specs.Asks.{askOf};
+ghost use Rattle.replayer.specs.Calls.{callOn};
+ghost use Rattle.replayer.specs.Journals.{JournalLeft};
+ghost use Rattle.replayer.specs.Tells.{readTold, stepTold, toldAs, toldOn};
 
 // A step, with the bytes that its line gives.
 fn ask(
@@ -32,7 +36,9 @@ fn ask(
     }
 }
 
-fn told(o: Outcome, also: Also) -> Told {
+fn told(o: Outcome, also: Also) -> Told
+    ensures { λ r. ⌜ r ≡ toldAs o also ⌝ }
+{
     let answer = o.answer;
     let session = o.session;
     Told {
@@ -43,7 +49,9 @@ fn told(o: Outcome, also: Also) -> Told {
 }
 
 // A step tells how much longer the used journal is, and an advance whether it interrupts.
-fn step(s: Session, a: Ask, o: Outcome) -> Told {
+fn step(s: Session, a: Ask, o: Outcome) -> Told
+    ensures { λ r. ⌜ r ≡ stepTold s a o ⌝ }
+{
     let used = o.session.used;
     let entry = used - least(s.used, used);
     match a {
@@ -52,7 +60,9 @@ fn step(s: Session, a: Ask, o: Outcome) -> Told {
     }
 }
 
-fn read(s: Session, register: Register) -> Told {
+fn read(s: Session, register: Register) -> Told
+    ensures { λ r. ⌜ r ≡ readTold s register ⌝ }
+{
     let r = journal::read_register(s, register);
     let answer = r.answer;
     let also = Also::Word(r.word as usize);
@@ -71,7 +81,12 @@ pub fn call(
     mem: &mut [u8],
     reel: &mut [u8],
     jrnl: &mut [u8],
-) -> Told {
+) -> Told
+    ensures told { λ r. ⌜ r ≡ toldOn c (now (bytes .entry)) s (now (mem .entry)) (now (reel .entry)) (now (jrnl .entry)) ⌝ }
+    ensures memory { λ _. ⌜ now (mem .exit) ≡ callOn c (now (bytes .entry)) s (now (mem .entry)) (now (reel .entry)) (now (jrnl .entry)) .world .core .memory ⌝ }
+    ensures reel { λ _. ⌜ now (reel .exit) ≡ callOn c (now (bytes .entry)) s (now (mem .entry)) (now (reel .entry)) (now (jrnl .entry)) .world .core .reel ⌝ }
+    ensures journal { λ _. ⌜ JournalLeft c (callOn c (now (bytes .entry)) s (now (mem .entry)) (now (reel .entry)) (now (jrnl .entry))) (now (jrnl .entry)) (now (jrnl .exit)) ⌝ }
+{
     match c {
         Call::Mount(e, online, locked) => told(
             journal::mount(s, mem.len(), reel, jrnl.len(), e, online, locked),

@@ -12,21 +12,33 @@ use lines::Does;
 use lists::least;
 use results::Told;
 use script::Fault;
+ghost use mathlib.Core.Path.{_≡_};
 ghost use Prim.Native.Nat.{_≤_};
 ghost use lib.ListN.{length};
+ghost use lib.Seq.{sets};
+ghost use Rattle.desk.specs.Turns as turns;
+ghost use Rattle.replayer.specs.Hands.{handOn, handTold};
+ghost use Rattle.replayer.specs.Keeps.{JournalHanded, JournalKept, callTurn, keptAs, memoryKept, reelKept};
+ghost use Rattle.replayer.specs.Turns.{JournalOn, memoryOn, reelOn, turnOn};
 
-fn nothing(desk: Desk) -> Turn {
+fn nothing(desk: Desk) -> Turn
+    ensures { λ r. ⌜ r ≡ turns.still desk ⌝ }
+{
     let said = Said::Nothing;
     Turn { desk, said }
 }
 
-fn wrong(desk: Desk, f: Fault) -> Turn {
+fn wrong(desk: Desk, f: Fault) -> Turn
+    ensures { λ r. ⌜ r ≡ turns.wrong desk f ⌝ }
+{
     let said = Said::Wrong(f);
     Turn { desk, said }
 }
 
 // The session that a call left is kept.
-fn kept(d: Desk, t: Told) -> Turn {
+fn kept(d: Desk, t: Told) -> Turn
+    ensures { λ r. ⌜ r ≡ keptAs d t ⌝ }
+{
     let session = t.session;
     let mut desk = d;
     desk.session = session;
@@ -35,7 +47,12 @@ fn kept(d: Desk, t: Told) -> Turn {
 }
 
 // The call over what it is handed.
-fn hand(d: Desk, c: Call, bytes: &[u8], mem: &mut [u8], reel: &mut [u8], jrnl: &mut [u8]) -> Told {
+fn hand(d: Desk, c: Call, bytes: &[u8], mem: &mut [u8], reel: &mut [u8], jrnl: &mut [u8]) -> Told
+    ensures told { λ r. ⌜ r ≡ handTold d c (now (bytes .entry)) (now (mem .entry)) (now (reel .entry)) (now (jrnl .entry)) ⌝ }
+    ensures memory { λ _. ⌜ now (mem .exit) ≡ sets (now (mem .entry)) 0 (handOn d c (now (bytes .entry)) (now (mem .entry)) (now (reel .entry)) (now (jrnl .entry)) .world .core .memory) ⌝ }
+    ensures reel { λ _. ⌜ now (reel .exit) ≡ sets (now (reel .entry)) 0 (handOn d c (now (bytes .entry)) (now (mem .entry)) (now (reel .entry)) (now (jrnl .entry)) .world .core .reel) ⌝ }
+    ensures journal { λ _. ⌜ JournalHanded d c (now (bytes .entry)) (now (mem .entry)) (now (reel .entry)) (now (jrnl .entry)) (now (jrnl .exit)) ⌝ }
+{
     let h = handed(d);
     let m = least(h.memory, mem.len());
     let r = least(h.reel, reel.len());
@@ -59,7 +76,12 @@ fn make_call(
     mem: &mut [u8; 262146],
     reel: &mut [u8; 131072],
     jrnl: &mut [u8; 1048576],
-) -> Turn {
+) -> Turn
+    ensures turn { λ r. ⌜ r ≡ callTurn d c (now (bytes .entry)) (now (mem .entry)) (now (reel .entry)) (now (jrnl .entry)) ⌝ }
+    ensures memory { λ _. ⌜ now (mem .exit) ≡ memoryKept d c (now (bytes .entry)) (now (mem .entry)) (now (reel .entry)) (now (jrnl .entry)) ⌝ }
+    ensures reel { λ _. ⌜ now (reel .exit) ≡ reelKept d c (now (bytes .entry)) (now (mem .entry)) (now (reel .entry)) (now (jrnl .entry)) ⌝ }
+    ensures journal { λ _. ⌜ JournalKept d c (now (bytes .entry)) (now (mem .entry)) (now (reel .entry)) (now (jrnl .entry)) (now (jrnl .exit)) ⌝ }
+{
     let t = hand(d, c, bytes, mem, reel, jrnl);
     let sizes = d.sizes;
     trim(sizes, handed(d), mem, reel, jrnl);
@@ -77,6 +99,10 @@ pub fn carry_out(
     jrnl: &mut [u8; 1048576],
 ) -> Turn
     requires { ⌜ n ≤ length (now «data») ⌝ }
+    ensures turn { λ r. ⌜ r ≡ turnOn d does (now («data» .entry)) n (now (mem .entry)) (now (reel .entry)) (now (jrnl .entry)) ⌝ }
+    ensures memory { λ _. ⌜ now (mem .exit) ≡ memoryOn d does (now («data» .entry)) n (now (mem .entry)) (now (reel .entry)) (now (jrnl .entry)) ⌝ }
+    ensures reel { λ _. ⌜ now (reel .exit) ≡ reelOn d does (now («data» .entry)) n (now (mem .entry)) (now (reel .entry)) (now (jrnl .entry)) ⌝ }
+    ensures journal { λ _. ⌜ JournalOn d does (now («data» .entry)) n (now (mem .entry)) (now (reel .entry)) (now (jrnl .entry)) (now (jrnl .exit)) ⌝ }
 {
     match does {
         Does::Nothing => nothing(d),

@@ -1,0 +1,4 @@
+-- The laws of what calls come to.
+pub mod Telling
+pub mod Making
+pub mod Handing
