@@ -40,7 +40,7 @@ pub fn put_labelled(out: &mut [u8], at: usize, label: &[u8], n: usize) -> usize
     put_decimal(out, next, n)
 }
 
-// The first n bytes go to standard output.
+// The first n bytes go to standard output. That they arrive is the C library's: its write promises nothing that a contract could use.
 pub fn write_out(out: &[u8], n: usize) {
     if n <= out.len() {
         io::write_all(STDOUT_FILENO, &out[0..n]);
