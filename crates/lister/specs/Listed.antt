@@ -16,7 +16,7 @@ use Rattle.lister.specs.Lines.{letterE, letterG, letterM, letterX, lines
 
 -- what the listing of an image is, by the objects that it holds
 pub data Listing (s : List ℕ) : List ℕ → Type 0 where
-  -- "a whole image": a line for each object, and the image's block count
+  -- a line for each object; "E gives the recorded end (the image's block count, 0 if empty)"
   objects : (os : List Object) (e : ℕ) → length s ≤ imageLimit → blockBytes * e ≡ length s → Holds s e os → Listing s (linesOf 0 os ++ numberLine letterE e)
   too-long : imageLimit < length s → Listing s (76 ∷ 10 ∷ [])
   not-whole : length s ≤ imageLimit → (length s % blockBytes ≡ 0 → ⊥) → Listing s (83 ∷ 10 ∷ [])
