@@ -818,12 +818,7 @@ static bool has_data(const struct command *c)
 	return c->code == READ || c->code == CHARACTERISTICS || c->code == WRITE;
 }
 
-/* How many words of its packet the command uses. */
-static uint32_t words_used(const struct command *c)
-{
-	return has_data(c) ? 4 : c->code == POSITION ? 2 : 1;
-}
-
+/* Of the words behind the header only those that the command uses are looked at. */
 static void fetch_packet(struct command *c, const uint8_t *packet)
 {
 	if (has_data(c)) {
@@ -881,7 +876,7 @@ static ts11_answer run_command(struct plan *p, const uint8_t *memory, const uint
 		return reject(p, TS11_XST0_ILC);
 	if (u->nba && c->code != CHARACTERISTICS)
 		return reject(p, 0);
-	if (u->pointer + 2 * words_used(c) > u->memory)
+	if (u->pointer + TS11_PACKET_BYTES > u->memory)
 		return end_command(p, (struct ending){.class = TS11_CLASS_UNMOVED});
 	fetch_packet(c, memory + u->pointer);
 	struct ending e = hindrance(u, c);

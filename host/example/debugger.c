@@ -1,8 +1,8 @@
 /*
  * A small host: what a debugger does with the library, in the order in which a user would do it.
  *
- * It mounts an empty reel, gives the unit a message buffer, writes a record, reads it back in reverse, and then steps back over all of
- * it. At each stop it shows the registers, the message and the reel.
+ * It mounts an empty reel, gives the unit a message buffer, writes a record, meets a packet that ends past memory, reads the record back in
+ * reverse, and then steps back over all of it. At each stop it shows the registers, the message and the reel.
  */
 #include <stdio.h>
 #include <stdlib.h>
@@ -53,15 +53,21 @@ static void store_words(size_t at, const uint16_t *words, size_t count)
 	store(at, bytes, 2 * count);
 }
 
-/* What the driver of the machine does: a packet in memory, its address into TSDB, and then the unit runs. */
-static void command(uint16_t header, uint16_t pointer, uint16_t count)
+/* What the driver of the machine does: a packet in memory, as far as memory goes, its address into TSDB, and then the unit runs. */
+static void command_at(size_t at, uint16_t header, uint16_t pointer, uint16_t count)
 {
 	const uint16_t packet[4] = { header, pointer, 0, count };
+	size_t room = (sizeof memory - at) / 2;
 	bool stepped, interrupt;
 	size_t block;
-	store_words(PACKET, packet, 4);
-	must("TSDB", ts11_write_tsdb(&state, BUFFERS, TS11_TSDB(PACKET)));
+	store_words(at, packet, room < 4 ? room : 4);
+	must("TSDB", ts11_write_tsdb(&state, BUFFERS, TS11_TSDB(at)));
 	must("advance", ts11_advance(&state, BUFFERS, &stepped, &interrupt, &block));
+}
+
+static void command(uint16_t header, uint16_t pointer, uint16_t count)
+{
+	command_at(PACKET, header, pointer, count);
 }
 
 static void show_registers(void)
@@ -69,9 +75,9 @@ static void show_registers(void)
 	uint16_t tsba, tssr;
 	must("TSBA", ts11_read_register(&state, TS11_REGISTER_TSBA, &tsba));
 	must("TSSR", ts11_read_register(&state, TS11_REGISTER_TSSR, &tssr));
-	printf("  TSBA %04x  TSSR %04x:%s%s%s%s class %d\n", tsba, tssr, tssr & TS11_TSSR_SC ? " SC" : "",
-	       tssr & TS11_TSSR_NBA ? " NBA" : "", tssr & TS11_TSSR_SSR ? " SSR" : "", tssr & TS11_TSSR_OFL ? " OFL" : "",
-	       TS11_CLASS(tssr));
+	printf("  TSBA %04x  TSSR %04x:%s%s%s%s%s class %d\n", tsba, tssr, tssr & TS11_TSSR_SC ? " SC" : "",
+	       tssr & TS11_TSSR_NXM ? " NXM" : "", tssr & TS11_TSSR_NBA ? " NBA" : "", tssr & TS11_TSSR_SSR ? " SSR" : "",
+	       tssr & TS11_TSSR_OFL ? " OFL" : "", TS11_CLASS(tssr));
 }
 
 static void show_message(void)
@@ -120,7 +126,7 @@ typedef struct stop {
 	uint8_t memory[sizeof memory], reel[sizeof reel];
 } stop;
 
-static stop stops[4];
+static stop stops[5];
 static int stop_count;
 
 static void make_stop(const char *name)
@@ -167,6 +173,10 @@ int main(void)
 	store(TEXT, "MONTH END", 9);
 	command(TS11_WRITE | TS11_ACK | TS11_CVC, TEXT, 9);
 	make_stop("a record of 9 bytes is written");
+
+	/* A rewind uses none of the words behind its header, but all four are fetched. */
+	command_at(sizeof memory - 4, TS11_REWIND | TS11_ACK, 0, 0);
+	make_stop("a rewind whose packet ends past memory is not carried out");
 
 	command(TS11_READ_PREVIOUS | TS11_ACK, BUFFER, 10);
 	make_stop("it is read back in reverse, to the high end of 10 bytes");

@@ -51,6 +51,7 @@ extern "C" {
 #define TS11_HOST_STORE_MAX 65535  /* bytes of one host store; 0 is allowed */
 #define TS11_EOT_MARGIN 64         /* the EOT marker is this many blocks before the reel's end, or at block 0 */
 #define TS11_ENTRY_HEAD 128        /* bytes of a journal entry beside the memory and reel bytes that it keeps */
+#define TS11_PACKET_BYTES 8        /* bytes of a command packet: one of them outside memory is NXM */
 #define TS11_MESSAGE_BYTES 14      /* bytes of a message, and the least message buffer */
 
 /* ---- answers ------------------------------------------------------------------------------------------------- */
@@ -224,8 +225,10 @@ ts11_answer ts11_step_back(ts11_state *state, uint8_t *memory, size_t memory_len
 
 /*
  * Word 0 is the header. Then for Read, Write and Write Characteristics: pointer low, pointer high (A17 and A16), byte
- * count; for Space and Skip: the count. Only the words that a command uses need lie in memory: four, two (Rewind too),
- * else one. Data that by the whole count would end outside memory is NXM.
+ * count; for Space and Skip: the count. A word that the command has no use for may hold anything, but all four are
+ * fetched: where one of the eight bytes lies outside memory, any command that has got so far (known, not dropped, not lost
+ * to an attention, and with a message buffer or giving one) ends with NXM, class 5, and is not carried out. Data that by the
+ * whole count would end outside memory is NXM too.
  *
  * ACK: without it, and the message buffer the CPU's, the command is dropped: SSR set, class 0, no message, nothing done.
  * CVC: acts first, even if the command is then rejected. While VCK is set every tape command is rejected with NEF.

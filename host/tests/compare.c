@@ -5,8 +5,8 @@
  *
  * Each round makes up buffers, a reel and a state, and then makes some 70 calls on both. After each call answer,
  * out-parameters, state, memory, reel and used journal must be the same, byte for byte. The first difference is told,
- * with exit status 1; so is a run in which some refusal, class, command or status bit never occurred. The same seed
- * makes the same calls.
+ * with exit status 1; so is a run in which some refusal, class, command or status bit never occurred, or one of the ways in
+ * which a packet ends past memory (some 4,000 rounds have them all). The same seed makes the same calls.
  */
 #include "plain.h"
 #include "ts11.h"
@@ -111,11 +111,16 @@ static const uint16_t commands[] = {
 #define COMMANDS (sizeof commands / sizeof commands[0])
 #define TAPE_COMMANDS 13 /* the first ones, given more often */
 
+/* A packet that ends so many bytes past memory, by 7 its header word itself; of each command, and of what is none. */
+enum { OVERHANGS = 7, HEADER_ASTRIDE = 7, OVERHANG_HEADERS = COMMANDS + 1, NO_COMMAND = 2, FLAGS = 16 };
+enum { OVERHANG_WAYS = OVERHANG_HEADERS * OVERHANGS * FLAGS };
+
 static uint64_t seed;
 static size_t round_number, round_calls;
 static size_t calls_made, idles, undone;
 static size_t answers[TS11_JOURNAL_FULL + 1], classes[TS11_CLASS_LOST + 1], carried_out[COMMANDS];
 static unsigned xst0_seen, xst3_seen;
+static size_t overhung[OVERHANG_WAYS];
 
 static uint32_t number_at(const uint8_t *at)
 {
@@ -328,18 +333,24 @@ static void count_advance(const ts11_state *before, uint32_t header)
 	}
 }
 
-static struct out try_advance(void)
+static struct out advance_both(void)
 {
 	struct out o[2] = {unset, unset};
 	ts11_state before = worlds[0].state;
-	uint32_t pointer = state_at(TS11_AT_POINTER);
-	uint32_t header = (size_t)pointer + 2 <= held.memory ? word_at(worlds[0].memory + pointer) : 0;
 	for (int i = 0; i < 2; i++) {
 		struct world *w = &worlds[i];
 		o[i].answer = units[i].advance(&w->state, w->memory, handed.memory, w->reel, handed.reel, w->journal,
 		                               handed.journal, &o[i].stepped, &o[i].interrupt, &o[i].block);
 	}
-	struct out done = alike("advance", o, &before);
+	return alike("advance", o, &before);
+}
+
+static struct out try_advance(void)
+{
+	ts11_state before = worlds[0].state;
+	uint32_t pointer = state_at(TS11_AT_POINTER);
+	uint32_t header = (size_t)pointer + 2 <= held.memory ? word_at(worlds[0].memory + pointer) : 0;
+	struct out done = advance_both();
 	if (done.stepped)
 		count_advance(&before, header);
 	else
@@ -548,6 +559,13 @@ static void damage(void)
 	memcpy(worlds[1].reel + (b - worlds[0].reel), b, TS11_BLOCK);
 }
 
+static void make_up_message_buffer(void)
+{
+	size_t length = TS11_MESSAGE_BYTES + below(held.memory - TS11_MESSAGE_BYTES + 1) / (1 + below(20));
+	put_state(TS11_AT_MESSAGE, (uint32_t)below(held.memory - length + 1) & ~1u);
+	put_state(TS11_AT_MESSAGE_LENGTH, (uint32_t)length);
+}
+
 /* A state that no call need have left, but that refusal 1 lets pass. */
 static void make_up_state(void)
 {
@@ -569,11 +587,8 @@ static void make_up_state(void)
 	put_state(TS11_AT_ONLINE, !one_in(6));
 	put_state(TS11_AT_LOCKED, one_in(6));
 	put_state(TS11_AT_NBA, nba);
-	if (!nba) {
-		size_t length = TS11_MESSAGE_BYTES + below(held.memory - TS11_MESSAGE_BYTES + 1) / (1 + below(20));
-		put_state(TS11_AT_MESSAGE, (uint32_t)below(held.memory - length + 1) & ~1u);
-		put_state(TS11_AT_MESSAGE_LENGTH, (uint32_t)length);
-	}
+	if (!nba)
+		make_up_message_buffer();
 	put_state(TS11_AT_MEMORY, (uint32_t)held.memory);
 	put_state(TS11_AT_BLOCKS, (uint32_t)blocks);
 	if (used > held.journal)
@@ -683,6 +698,107 @@ static void give_command(uint16_t header)
 	try_tsdb(TS11_TSDB(at));
 	if (try_advance().answer == TS11_BAD_BLOCK && one_in(2))
 		try_tssr(0);
+}
+
+/* ---- packets that overhang memory -------------------------------------------------------------------------------- */
+
+/* One of the ways in which a command waits whose packet ends past memory. */
+struct overhang {
+	uint16_t code; /* and mode */
+	size_t past;   /* by so many bytes */
+	bool ack, owned, nba, pending;
+};
+
+static struct overhang overhang_by_number(size_t n)
+{
+	size_t flags = n % FLAGS, past = n / FLAGS % OVERHANGS, k = n / FLAGS / OVERHANGS;
+	uint16_t code = k < COMMANDS ? commands[k] : NO_COMMAND;
+	return (struct overhang){code, past + 1, flags & 1, flags >> 1 & 1, flags >> 2 & 1, flags >> 3 & 1};
+}
+
+/* The command waits: its packet as far as memory goes, and the state; a pointer that is no multiple of 4 is made up too. */
+static void put_overhang(const struct overhang *o, bool cvc)
+{
+	size_t at = held.memory + o->past - TS11_PACKET_BYTES;
+	uint16_t header = o->code | (o->ack ? TS11_ACK : 0) | (cvc ? TS11_CVC : 0) | (one_in(2) ? TS11_IE : 0);
+	uint8_t packet[TS11_PACKET_BYTES];
+	fill_random(packet, sizeof packet);
+	packet[0] = (uint8_t)header;
+	packet[1] = (uint8_t)(header >> 8);
+	poke(at, packet, sizeof packet);
+	put_state(TS11_AT_POINTER, (uint32_t)at);
+	put_state(TS11_AT_SSR, 0);
+	put_state(TS11_AT_NXM, 0);
+	put_state(TS11_AT_NBA, o->nba);
+	put_state(TS11_AT_PENDING, o->pending);
+	put_state(TS11_AT_UNIT_OWNS, o->owned);
+	put_state(TS11_AT_VCK, (uint32_t)below(2));
+	if (!o->nba)
+		make_up_message_buffer();
+}
+
+/* Steps 1, 2, 3, 5, 6 and 7 in their order: one of them ends it. */
+static uint32_t class_of_overhang(const struct overhang *o)
+{
+	if (o->past == HEADER_ASTRIDE)
+		return TS11_CLASS_UNMOVED;
+	if (!o->ack && !o->owned)
+		return TS11_CLASS_NORMAL;
+	if (o->pending)
+		return TS11_CLASS_ATTENTION;
+	if (o->code == NO_COMMAND || (o->nba && o->code != TS11_WRITE_CHARACTERISTICS))
+		return TS11_CLASS_REJECT;
+	return TS11_CLASS_UNMOVED;
+}
+
+/* Step 4 comes after 1 to 3. */
+static bool reaches_cvc(const struct overhang *o)
+{
+	return o->past != HEADER_ASTRIDE && (o->ack || o->owned) && !o->pending;
+}
+
+static void expect_overhang(const struct overhang *o, size_t at, uint32_t wanted)
+{
+	if (state_at(at) != wanted)
+		differ("advance", "code %x, packet %zu past memory, ACK %d owned %d NBA %d attention %d: state at %zu is %u, not %u",
+		       (unsigned)o->code, o->past, o->ack, o->owned, o->nba, o->pending, at, (unsigned)state_at(at),
+		       (unsigned)wanted);
+}
+
+/* How it ended, and that nothing of the command was carried out. */
+static void expect_overhang_end(const struct overhang *o, bool cvc, const ts11_state *before)
+{
+	static const size_t kept[] = {TS11_AT_POSITION, TS11_AT_END, TS11_AT_POINTER, TS11_AT_NBA, TS11_AT_ONLINE,
+	                              TS11_AT_LOCKED, TS11_AT_RELEASE_IE, TS11_AT_EAI, TS11_AT_ESS, TS11_AT_ENB,
+	                              TS11_AT_MESSAGE, TS11_AT_MESSAGE_LENGTH};
+	for (size_t k = 0; k < sizeof kept / sizeof kept[0]; k++)
+		expect_overhang(o, kept[k], ts11_state_number(before, kept[k]));
+	expect_overhang(o, TS11_AT_CLASS, class_of_overhang(o));
+	expect_overhang(o, TS11_AT_NXM, class_of_overhang(o) == TS11_CLASS_UNMOVED);
+	expect_overhang(o, TS11_AT_SSR, 1);
+	expect_overhang(o, TS11_AT_VCK, cvc && reaches_cvc(o) ? 0 : ts11_state_number(before, TS11_AT_VCK));
+}
+
+/* Each way in its turn; one that the journal has no room for comes again. */
+static void give_overhang(void)
+{
+	static size_t given;
+	if (held.memory < TS11_MESSAGE_BYTES)
+		return;
+	struct overhang o = overhang_by_number(given);
+	bool cvc = one_in(2);
+	put_overhang(&o, cvc);
+	ts11_state before = worlds[0].state;
+	struct out done = advance_both();
+	if (done.answer == TS11_JOURNAL_FULL)
+		return;
+	if (done.answer != TS11_DONE || !done.stepped)
+		differ("advance", "a packet past memory is answered %zu", done.answer);
+	expect_overhang_end(&o, cvc, &before);
+	overhung[given]++;
+	given = (given + 1) % OVERHANG_WAYS;
+	if (one_in(2))
+		try_back();
 }
 
 static void host_store(void)
@@ -826,6 +942,8 @@ static void take_turn(void)
 		step_back();
 	if (one_in(60))
 		damage();
+	if (one_in(30))
+		give_overhang();
 	if (one_in(3))
 		odd_turn();
 	else
@@ -876,9 +994,19 @@ static bool missed(const char *what, unsigned number, size_t times)
 	return times == 0;
 }
 
+static bool overhang_missed(void)
+{
+	size_t times = 0;
+	for (size_t n = 0; n < OVERHANG_WAYS; n++)
+		times += overhung[n] == 0;
+	if (times != 0)
+		fprintf(stderr, "compare: %zu of %d ways of a packet past memory never occurred\n", times, OVERHANG_WAYS);
+	return times != 0;
+}
+
 static bool anything_missed(void)
 {
-	bool any = missed("idle advance", 0, idles);
+	bool any = missed("idle advance", 0, idles) | overhang_missed();
 	any |= missed("step back", 0, undone);
 	for (unsigned i = TS11_BAD_STATE; i <= TS11_JOURNAL_FULL; i++)
 		any |= missed("refusal", i, answers[i]);

@@ -7,7 +7,7 @@
 
 /* Where packet, message buffer, characteristics and data stand in memory. */
 enum { PACKET = 0x100, MESSAGE = 0x108, CHARACTERISTICS = 0x120, DATA = 0x400 };
-enum { PACKET_BYTES = 8, NO_MESSAGE = 0xEEEE };
+enum { NO_MESSAGE = 0xEEEE };
 
 /* How calls are made: held to all their promises, or plainly where buffers are large. */
 static struct result (*make)(struct unit *, const struct call *) = checked;
@@ -96,7 +96,7 @@ static inline struct ending advance_to_end(struct unit *u)
 /* Puts a packet into memory, with no message behind it. */
 static inline ts11_answer put_packet(struct unit *u, uint16_t header, size_t pointer, uint16_t count)
 {
-	uint8_t bytes[PACKET_BYTES + TS11_MESSAGE_BYTES];
+	uint8_t bytes[TS11_PACKET_BYTES + TS11_MESSAGE_BYTES];
 	memset(bytes, NO_MESSAGE & 255, sizeof bytes);
 	put_word(bytes, header);
 	put_word(bytes + 2, pointer & 0xFFFF);

@@ -179,6 +179,20 @@ static void test_entry_and_message_sizes(void)
 	       TS11_CLASS_REJECT);
 }
 
+/* A packet that ends where memory ends, and one that ends a byte further. */
+static void test_packet_size(void)
+{
+	size_t last = MEMORY_BYTES - TS11_PACKET_BYTES;
+	ready(0, HERE);
+	for (size_t past = 0; past < 2; past++) {
+		set_number(&u, TS11_AT_POINTER, (uint32_t)(last + past));
+		set_number(&u, TS11_AT_SSR, 0);
+		put_word(u.memory.at + last + past, TS11_GET_STATUS | TS11_ACK);
+		EXPECT("a packet to the end, and past it", TS11_CLASS(advance_to_end(&u).tssr),
+		       past ? TS11_CLASS_UNMOVED : TS11_CLASS_NORMAL);
+	}
+}
+
 static void test_eot_margin(void)
 {
 	ready(0, 0);
@@ -1157,6 +1171,7 @@ static void test_all(void)
 	test_record_limits();
 	test_host_store_limit();
 	test_entry_and_message_sizes();
+	test_packet_size();
 	test_eot_margin();
 	test_answers_to_lengths();
 	test_other_answers();

@@ -524,18 +524,56 @@ static void test_end_of_memory(size_t memory)
 	context("");
 }
 
-/* A packet whose last words are missing: only the words that a command uses must be there. */
-static void test_packet_at_the_end(size_t memory, uint16_t header, unsigned class)
+/* A packet whose last words are missing: whatever the command would use, it ends with NXM and is not carried out. */
+static void expect_not_fetched(struct unit *u, size_t at, uint16_t header)
 {
-	struct unit u = unit_of_memory(memory);
-	size_t at = (memory - 1) / 4 * 4;
 	uint8_t bytes[2];
-	context("memory %zu, header %x at its end", memory, header);
-	characteristics(&u, TS11_CVC, MESSAGE, TS11_MESSAGE_BYTES, 0);
+	context("memory %zu, header %x at %zu", u->memory.length, header, at);
+	EXPECT("no message in the buffer", put_packet(u, 0, 0, 0), TS11_DONE);
+	put_word(bytes, header | TS11_ACK | TS11_IE);
+	EXPECT("the header's store", host_store(u, at, bytes, 2).answer, TS11_DONE);
+	write_tsdb(u, TS11_TSDB(at));
+	struct ending e = advance_to_end(u);
+	expect_class("the command", e, TS11_CLASS_UNMOVED);
+	EXPECT("NXM", e.tssr & TS11_TSSR_NXM, TS11_TSSR_NXM);
+	EXPECT("the message", e.sent ? e.header : 0, TS11_END_FAILED);
+	EXPECT("the residual", e.residual, 0);
+	EXPECT("the interrupt", e.interrupt, true);
+	EXPECT("the buffer's owner", number(u, TS11_AT_UNIT_OWNS), 0);
+	EXPECT("the position", number(u, TS11_AT_POSITION), 1);
+	EXPECT("on line", number(u, TS11_AT_ONLINE), 1);
+	EXPECT("the release's IE", number(u, TS11_AT_RELEASE_IE), 0);
+	EXPECT("NBA", number(u, TS11_AT_NBA), 0);
+}
+
+/* The last packet that ends inside memory. */
+static void expect_fetched(struct unit *u, uint16_t header)
+{
+	static const uint8_t packet[TS11_PACKET_BYTES];
+	size_t at = (u->memory.length - TS11_PACKET_BYTES) / 4 * 4;
+	uint8_t bytes[2];
+	context("memory %zu, header %x at %zu", u->memory.length, header, at);
 	put_word(bytes, header | TS11_ACK);
-	EXPECT("the header's store", host_store(&u, at, bytes, 2).answer, TS11_DONE);
-	write_tsdb(&u, TS11_TSDB(at));
-	expect_class("the command", advance_to_end(&u), class);
+	EXPECT("the packet's store", host_store(u, at, packet, sizeof packet).answer, TS11_DONE);
+	EXPECT("the header's store", host_store(u, at, bytes, 2).answer, TS11_DONE);
+	write_tsdb(u, TS11_TSDB(at));
+	expect_class("the command", advance_to_end(u), TS11_CLASS_NORMAL);
+}
+
+static void test_packets_at_the_end(size_t memory)
+{
+	static const uint16_t headers[] = { TS11_READ_NEXT, TS11_WRITE_CHARACTERISTICS, TS11_WRITE, TS11_SPACE_RECORDS,
+		TS11_REWIND, TS11_WRITE_MARK, TS11_RELEASE, TS11_UNLOAD, TS11_INITIALIZE, TS11_GET_STATUS };
+	struct unit u = unit_of_memory(memory);
+	characteristics(&u, TS11_CVC, MESSAGE, TS11_MESSAGE_BYTES, 0);
+	expect_class("a record passed", command(&u, TS11_SPACE_RECORDS | TS11_ACK, 1, 0), TS11_CLASS_NORMAL);
+	ROWS(k, headers)
+		for (size_t at = memory / 4 * 4; at + TS11_PACKET_BYTES > memory; at -= 4)
+			if (at + 2 <= memory)
+				expect_not_fetched(&u, at, headers[k]);
+	expect_fetched(&u, TS11_GET_STATUS);
+	expect_fetched(&u, TS11_REWIND);
+	EXPECT("the position", number(&u, TS11_AT_POSITION), 0);
 	free_unit(&u);
 	context("");
 }
@@ -543,12 +581,10 @@ static void test_packet_at_the_end(size_t memory, uint16_t header, unsigned clas
 static void test_memory_ends(void)
 {
 	static const size_t memories[] = { 0x1002, TS11_MEMORY_MAX - 2, TS11_MEMORY_MAX };
-	ROWS(k, memories)
+	ROWS(k, memories) {
 		test_end_of_memory(memories[k]);
-	test_packet_at_the_end(TS11_MEMORY_MAX - 2, TS11_GET_STATUS, TS11_CLASS_NORMAL);
-	test_packet_at_the_end(TS11_MEMORY_MAX - 2, TS11_REWIND, TS11_CLASS_UNMOVED);
-	test_packet_at_the_end(TS11_MEMORY_MAX, TS11_REWIND, TS11_CLASS_NORMAL);
-	test_packet_at_the_end(TS11_MEMORY_MAX, TS11_READ_NEXT, TS11_CLASS_UNMOVED);
+		test_packets_at_the_end(memories[k]);
+	}
 }
 
 /* ---- records and small reels ------------------------------------------------------------------------------------- */

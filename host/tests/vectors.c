@@ -8,7 +8,7 @@
 #include "ts11.h"
 #include "unit.h"
 
-enum { LINE = 8192, WORDS = 5, BYTES_MAX = 131072 };
+enum { LINE = 8192, WORDS = 16, BYTES_MAX = 131072 };
 
 /* ---- the script's state ------------------------------------------------------------------------------------------ */
 
@@ -317,6 +317,18 @@ static void call_back(char **w)
 
 /* ---- set-up lines ------------------------------------------------------------------------------------------------ */
 
+/* The requests that the library has built in, a bit for each, and those that change no line of a script. */
+enum { OWN_RULES = 1 << 2, UNSEEN_RULES = 1 << 1 | 1 << 3 | 1 << 12 | 1 << 13 };
+
+static void set_up_rules(char **w)
+{
+	unsigned named = 0;
+	for (int k = 1; k < WORDS && w[k]; k++)
+		named |= 1u << (number_in(w[k]) < 31 ? number_in(w[k]) : 31);
+	if (((named ^ OWN_RULES) & ~(unsigned)UNSEEN_RULES) != 0)
+		give_up("other rules than the library's");
+}
+
 static void set_up_sizes(char **w)
 {
 	free_unit(&run.unit);
@@ -424,6 +436,7 @@ static const struct {
 	const char *name;
 	void (*carry_out)(char **words);
 } lines[] = {
+	{ "rules", set_up_rules },
 	{ "case", start_case },
 	{ "sizes", set_up_sizes },
 	{ "lens", set_up_lens },
@@ -462,9 +475,12 @@ static void take_line(char *line)
 	char *w[WORDS] = { 0 };
 	line[strcspn(line, "#\r\n")] = 0;
 	int n = 0;
-	for (char *t = strtok(line, " \t"); t && n < WORDS; t = strtok(NULL, " \t"))
-		w[n++] = t;
 	context("%s:%zu", run.script, run.script_line);
+	for (char *t = strtok(line, " \t"); t; t = strtok(NULL, " \t")) {
+		if (n == WORDS)
+			give_up("too many words");
+		w[n++] = t;
+	}
 	if (w[0])
 		carry_out(w);
 }

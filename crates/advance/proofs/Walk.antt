@@ -2,14 +2,15 @@
 use mathlib.Core.Path.{_≡_, refl}
 use mathlib.Core.Bool.{Bool, true, false, _||_, _&&_, not}
 use mathlib.Core.List.{List}
-use Prim.Native.Nat.{ℕ, _+_, _*_, _%_, _≤_}
+use Prim.Native.Nat.{ℕ, _+_, _%_, _≤_}
 use native.Mathlib.Omega.{arith}
 use lib.Dec.{eqb, ltb}
 use lib.ListN.{length}
 use Rattle.lists.specs.Words.{wordAt}
 use Rattle.lists.proofs.Cases.{pick-told}
 use Rattle.signals.specs.Codes.{commandOf}
-use Rattle.signals.specs.Header.{headerOf, packetOf, wordsOf}
+use Rattle.signals.specs.Header.{headerOf, packetOf}
+use Rattle.signals.specs.Numbers.{packetBytes}
 use Rattle.signals.specs.declared.counts.Residual.{Residual}
 use Rattle.signals.specs.declared.message.End.{End}
 use Rattle.signals.specs.declared.packet.Header.{Header}
@@ -93,7 +94,7 @@ module _ (u : Unit) (m s : List ℕ) (P : Plan → Type 0) (rejects : Rejects u 
     fetch-all : P (stepFetch v m s h)
     unfolding stepFetch
     fetch-all =
-        either P (ltb (length m) (v .registers .pointer + 2 * wordsOf (h .code))) _ _ (rejected-all v a (h .ie) 5 _ _ (omega arith))
+        either P (ltb (length m) (v .registers .pointer + packetBytes)) _ _ (rejected-all v a (h .ie) 5 _ _ (omega arith))
         (pointer-all (packetOf m (v .registers .pointer) (h .code)))
 
     no-buffer-all : P (stepNoBuffer v m s h)

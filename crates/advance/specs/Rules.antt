@@ -6,6 +6,7 @@ use Rattle.lists.specs.Pick.{pick}
 use Rattle.tape.specs.Numbers.{recordLimit}
 use Rattle.signals.specs.declared.codes.Command.{Command}
 use Rattle.signals.specs.declared.codes.Command.the-variants as command
+use Rattle.signals.specs.Header.{hasPointer}
 use Rattle.signals.specs.declared.packet.Header.{Header}
 use Rattle.signals.specs.declared.packet.Packet.{Packet}
 use Rattle.signals.specs.declared.counts.Residual.{Residual}
@@ -41,7 +42,7 @@ lengthWrong h count = eqb (h .code) 5 && (eqb count 0 || ltb recordLimit count)
 
 -- "Codes 1, 4, 5: data extent"
 abbrev pub hasExtent : Header → Bool
-hasExtent h = (eqb (h .code) 1 || eqb (h .code) 4) || eqb (h .code) 5
+hasExtent h = hasPointer (h .code)
 
 -- "reverse first stage at block 0 (not a rewind), NEF; a written length out of range, NEF"
 unfoldable pub notExecutable : Unit → Header → Packet → Bool

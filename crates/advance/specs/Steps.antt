@@ -6,21 +6,22 @@
 --    4  CVC clears VCK                                              stepVolume       here
 --    5  unknown code or mode                                        stepIllegal      here, with Rules
 --    6  NBA set and not Write Characteristics                       stepNoBuffer     here
---    7  the words the command uses, outside memory                  stepFetch        here
+--    7  one of the packet's eight bytes outside memory (02, [2])    stepFetch        here
 --    8  pointer bits above A17, or odd in Write Characteristics     stepPointer      here
 --    9  tape command off line or with VCK; lock; block 0; length    stepExecutable   here, with Rules
 --   10  data extent past the end of memory                          stepExtent       here, with Rules
 --   11  object doesn't fit the reel                                 writtenAt        motions/specs/Writes.antt, with noRoom
 use mathlib.Core.Bool.{Bool, false, _||_, _&&_, not}
 use mathlib.Core.List.{List}
-use Prim.Native.Nat.{ℕ, _+_, _*_, _%_}
+use Prim.Native.Nat.{ℕ, _+_, _%_}
 use lib.Dec.{eqb, ltb}
 use lib.ListN.{length}
 use Rattle.lists.specs.Pick.{pick}
 use Rattle.lists.specs.Words.{wordAt}
 use Rattle.signals.specs.Bits.{ILA, ILC, NEF, WLE}
 use Rattle.signals.specs.Codes.{commandOf}
-use Rattle.signals.specs.Header.{headerOf, packetOf, wordsOf}
+use Rattle.signals.specs.Header.{headerOf, packetOf}
+use Rattle.signals.specs.Numbers.{packetBytes}
 use Rattle.signals.specs.declared.packet.Header.{Header}
 use Rattle.signals.specs.declared.packet.Packet.{Packet}
 use Rattle.signals.specs.declared.counts.Residual.{Residual}
@@ -58,10 +59,10 @@ stepPointer u m s h p =
     pick (p .high || (eqb (h .code) 4 && eqb (p .pointer % 2) 1)) (rejected u (h .ie) 3 ILA (wholeCount h (p .count)))
     (stepExecutable u m s h p)
 
--- "7. (House) The unit fetches the words the command uses .. Outside memory: NXM, class 5."
+-- "So step 7 of document 01 reads all eight bytes for every command and answers NXM, class 5, if any lies outside." (02, [2])
 unfoldable pub stepFetch : Unit → List ℕ → List ℕ → Header → Plan
 stepFetch u m s h =
-    pick (ltb (length m) (u .registers .pointer + 2 * wordsOf (h .code))) (rejected u (h .ie) 5 0 residual.Nothing)
+    pick (ltb (length m) (u .registers .pointer + packetBytes)) (rejected u (h .ie) 5 0 residual.Nothing)
     (stepPointer u m s h (packetOf m (u .registers .pointer) (h .code)))
 
 -- "6. NBA set and not Write Characteristics: class 3."

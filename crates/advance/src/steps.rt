@@ -21,9 +21,10 @@ use signals::Residual;
 use state::Unit;
 use tape::Geometry;
 ghost use mathlib.Core.Path.{_≡_};
-ghost use Prim.Native.Nat.{_<_, _≤_};
+ghost use Prim.Native.Nat.{_+_, _<_, _≤_};
+ghost use lib.Dec.{ltb};
 ghost use Rattle.tape.specs.Numbers.{capacityLimit};
-ghost use Rattle.signals.specs.Numbers.{pointerLimit};
+ghost use Rattle.signals.specs.Numbers.{packetBytes, pointerLimit};
 ghost use Rattle.lists.specs.Pick.{pick};
 ghost use Rattle.commands.specs.Ends.{planOf};
 ghost use Rattle.advance.specs.Rules.{hasExtent, isIllegal, isTape, lengthWrong, notExecutable, reverseFirst, wholeCount, writes};
@@ -91,7 +92,7 @@ fn length_wrong(h: Header, count: u16) -> bool
 fn has_extent(h: Header) -> bool
     ensures { λ r. ⌜ r ≡ hasExtent h ⌝ }
 {
-    (h.code == 1) | (h.code == 4) | (h.code == 5)
+    signals::has_pointer(h.code)
 }
 
 fn is_illegal(c: Command) -> bool
@@ -174,13 +175,21 @@ fn step_pointer(u: Unit, mem: &[u8], reel: &[u8], h: Header, p: Packet) -> Cours
     step_executable(u, mem, reel, h, p)
 }
 
-// 7. The words that the command uses, outside memory: NXM, class 5.
+// Does the packet end past memory? All four words are fetched, whichever the command uses.
+fn overhangs(room: usize, at: usize) -> bool
+    requires { ⌜ at < pointerLimit ⌝ }
+    ensures { λ r. ⌜ r ≡ ltb room (at + packetBytes) ⌝ }
+{
+    room < at + signals::PACKET_BYTES
+}
+
+// 7. One of the packet's eight bytes outside memory: NXM, class 5.
 fn step_fetch(u: Unit, mem: &[u8], reel: &[u8], h: Header) -> Course
     requires { ⌜ (u .tape .end ≤ capacityLimit) × (u .registers .pointer < pointerLimit) ⌝ }
     ensures { λ r. ⌜ planOf r ≡ stepFetch u (now (mem .entry)) (now (reel .entry)) h ⌝ }
 {
     let at = u.registers.pointer;
-    if mem.len() < at + 2 * signals::words_of(h.code) {
+    if overhangs(mem.len(), at) {
         return reject(u, h.ie, 5, 0, Residual::Nothing);
     }
     step_pointer(u, mem, reel, h, signals::fetch(mem, at, h.code))

@@ -1,14 +1,14 @@
 -- An advance goes one of the ways, and whichever way's conditions hold is the one that it goes.
-use mathlib.Core.Bool.{true, false, _||_, _&&_, not}
+use mathlib.Core.Bool.{_||_, _&&_, not}
 use mathlib.Core.List.{List}
 use mathlib.Core.Path.{_≡_, sym, subst, _∙_}
-use Prim.Native.Nat.{ℕ, _+_, _*_, _%_}
+use Prim.Native.Nat.{ℕ, _+_, _%_}
 use borrow.Author.Tests.{le-ltb, lt-ltb, ltb-false, ltb-true}
 use lib.Dec.{eqb, ltb}
 use lib.ListN.{length}
 use Rattle.lists.proofs.Cases.{by-test}
 use Rattle.signals.specs.Codes.{commandOf}
-use Rattle.signals.specs.Header.{wordsOf}
+use Rattle.signals.specs.Numbers.{packetBytes}
 use Rattle.state.specs.declared.Unit.{Unit}
 use Rattle.commands.specs.declared.plans.Plan.{Plan}
 use Rattle.advance.specs.Rules.{hasExtent, isIllegal, isTape, notExecutable, writes}
@@ -27,7 +27,7 @@ module _ (u : Unit) (m s : List ℕ) where
 
   fetched-on : Fetched u m s → advanced u m s ≡ stepPointer (started u m s) m s (header u m s) (packet u m s)
   unfolding stepIllegal stepNoBuffer stepFetch
-  fetched-on f = begins-on (f .begins) ∙ rw (f .known, f .buffer, le-ltb (length m) (u .registers .pointer + 2 * wordsOf (header u m s .code)) (f .words))
+  fetched-on f = begins-on (f .begins) ∙ rw (f .known, f .buffer, le-ltb (length m) (u .registers .pointer + packetBytes) (f .words))
 
   runs-on : Runs u m s → advanced u m s ≡ stepExtent (started u m s) m s (header u m s) (packet u m s)
   unfolding stepPointer stepExecutable notExecutable
@@ -43,7 +43,7 @@ module _ (u : Unit) (m s : List ℕ) where
   advanced-is (lost w a b) = waits-on w ∙ rw (a, b)
   advanced-is (unknown b a) = begins-on b ∙ rw a
   advanced-is (no-buffer b a c) = begins-on b ∙ rw (a, c)
-  advanced-is (no-words b a c d) = begins-on b ∙ rw (a, c, lt-ltb (length m) (u .registers .pointer + 2 * wordsOf (header u m s .code)) d)
+  advanced-is (no-words b a c d) = begins-on b ∙ rw (a, c, lt-ltb (length m) (u .registers .pointer + packetBytes) d)
   advanced-is (bad-pointer f a) = fetched-on f ∙ rw a
   advanced-is (not-mounted f a b) = fetched-on f ∙ rw (a, b)
   advanced-is (locked f a b c) = fetched-on f ∙ rw (a, b, c)
@@ -73,7 +73,7 @@ module _ (u : Unit) (m s : List ℕ) where
       (λ a. (_, unknown b a))
       (λ a. by-test (u .registers .nba && not (eqb (header u m s .code) 4))
       (λ c. (_, no-buffer b a c))
-      (λ c. by-test (ltb (length m) (u .registers .pointer + 2 * wordsOf (header u m s .code)))
+      (λ c. by-test (ltb (length m) (u .registers .pointer + packetBytes))
       (λ d. (_, no-words b a c (ltb-true (length m) _ d)))
       (λ d. fetched-way (record { begins = b; known = a; buffer = c; words = ltb-false (length m) _ d }))))
 

@@ -1,15 +1,16 @@
--- "Advance, in order" (01), told as cases: what an advance of the state u over memory m and reel s comes to, and under exactly which
+-- "Advance, in order" (01; step 7 as 02, [2] has it), told as cases: what an advance of the state u over memory m and reel s comes to, and under exactly which
 -- condition. The conditions of a case hold all that stands before it in the paper's order, so no two cases meet.
 use mathlib.Core.Bool.{Bool, true, false, _||_, _&&_, not}
 use mathlib.Core.List.{List}
 use mathlib.Core.Path.{_≡_}
-use Prim.Native.Nat.{ℕ, _+_, _*_, _%_, _<_, _≤_}
+use Prim.Native.Nat.{ℕ, _+_, _%_, _<_, _≤_}
 use lib.Dec.{eqb, ltb}
 use lib.ListN.{length}
 use Rattle.lists.specs.Words.{wordAt}
 use Rattle.signals.specs.Bits.{ILA, ILC, NEF, WLE}
 use Rattle.signals.specs.Codes.{commandOf}
-use Rattle.signals.specs.Header.{headerOf, packetOf, wordsOf}
+use Rattle.signals.specs.Header.{headerOf, packetOf}
+use Rattle.signals.specs.Numbers.{packetBytes}
 use Rattle.signals.specs.declared.packet.Header.{Header}
 use Rattle.signals.specs.declared.packet.Packet.{Packet}
 use Rattle.signals.specs.declared.counts.Residual.{Residual}
@@ -60,12 +61,12 @@ module _ (u : Unit) (m s : List ℕ) where
     pub owns : (u .attention .«unit_owns» || header .ack) ≡ true
     pub quiet : u .attention .pending ≡ false
 
-  -- and the command is known, has a message buffer or gives one, and its words lie in memory
+  -- and the command is known, has a message buffer or gives one, and all eight bytes of its packet lie in memory, whichever it uses
   pub record Fetched : Type 0 where
     pub begins : Begins
     pub known : (not (header .plain) || isIllegal (commandOf (header .code) (header .mode))) ≡ false
     pub buffer : (u .registers .nba && not (eqb (header .code) 4)) ≡ false
-    pub words : u .registers .pointer + 2 * wordsOf (header .code) ≤ length m
+    pub words : u .registers .pointer + packetBytes ≤ length m
 
   -- and its data pointer is one, and nothing keeps it from running
   pub record Runs : Type 0 where
@@ -94,9 +95,9 @@ module _ (u : Unit) (m s : List ℕ) where
     -- 6. NBA set and not Write Characteristics: class 3
     no-buffer : Begins → (not (header .plain) || isIllegal (commandOf (header .code) (header .mode))) ≡ false
         → (u .registers .nba && not (eqb (header .code) 4)) ≡ true → Way (ends started (header .ie) 3 0 residual.Nothing)
-    -- 7. a word that the command uses outside memory: NXM, class 5
+    -- 7. one of the packet's eight bytes outside memory: NXM, class 5, whatever the command
     no-words : Begins → (not (header .plain) || isIllegal (commandOf (header .code) (header .mode))) ≡ false
-        → (u .registers .nba && not (eqb (header .code) 4)) ≡ false → length m < u .registers .pointer + 2 * wordsOf (header .code)
+        → (u .registers .nba && not (eqb (header .code) 4)) ≡ false → length m < u .registers .pointer + packetBytes
         → Way (ends started (header .ie) 5 0 residual.Nothing)
     -- 8. pointer bits above A17, or an odd pointer in Write Characteristics: ILA, class 3, the whole count
     bad-pointer : Fetched → (packet .high || (eqb (header .code) 4 && eqb (packet .pointer % 2) 1)) ≡ true

@@ -3,6 +3,7 @@ use mathlib.Core.Path.{_≡_, refl}
 use mathlib.Core.Bool.{true, false}
 use mathlib.Core.List.{[], _∷_}
 use Rattle.script.specs.declared.Fault.the-variants as fault
+use Rattle.script.specs.Rules.{ownRules}
 use Rattle.script.specs.Words.{eqs, over, spanned, placeFrom, wordEnd, wordFrom, wordStart}
 use Rattle.script.specs.Numbers.{digitOf, hexed, joined, numberIn, said, threeOf, wantedOf}
 use Rattle.state.specs.declared.act.Act.the-variants as act
@@ -17,6 +18,7 @@ use Rattle.lines.specs.Starts.{hasWord, mostWords, startOf, startWords}
 use Rattle.lines.specs.Arranging.{arranging, fieldOf, fieldWords, setLine, setTo}
 use Rattle.lines.specs.Building.{laying, madeLine, pokeLine, poking, recordLine}
 use Rattle.lines.specs.Calling.{calling, endOf, mountLine, opLine, operateBy, tsdbLine, tsdbTo}
+use Rattle.lines.specs.Rules.{heldBy, named, rulesLine, within}
 use Rattle.lines.specs.Lines.{lineBy, lineFrom, lineOf}
 
 -- a blank line
@@ -58,7 +60,7 @@ unknown : lineOf (98 ∷ 97 ∷ 99 ∷ 107 ∷ 107 ∷ []) 0 ≡ wrongLine fault
 unfolding lineOf lineFrom lineBy hasWord startOf startWords mostWords placeFrom eqs wordFrom wordStart wordEnd over spanned
 unknown = refl
 
--- the last of the words, and the last of the fields
+-- the last of the calls, and the last of the fields
 last-word : lineOf (98 ∷ 97 ∷ 99 ∷ 107 ∷ []) 0 ≡ callsLine call.StepBack given.Nothing
 unfolding lineOf lineFrom lineBy hasWord startOf startWords mostWords calling placeFrom eqs wordFrom wordStart wordEnd over spanned
 last-word = refl
@@ -75,3 +77,20 @@ wide-word = refl
 no-bytes : lineOf (82 ∷ []) 0 ≡ wrongLine fault.WordMissing
 unfolding lineOf lineFrom lineBy hasWord startOf startWords mostWords laying recordLine placeFrom eqs wordFrom wordStart wordEnd over spanned
 no-bytes = refl
+
+-- "rules 2", and with it a request that no script shows; "rules" names none, "rules 2 4" one that the program has not
+own-rules : lineOf (114 ∷ 117 ∷ 108 ∷ 101 ∷ 115 ∷ 32 ∷ 50 ∷ []) 0 ≡ plainLine does.Nothing
+unfolding lineOf lineFrom lineBy hasWord startOf startWords mostWords rulesLine ownRules within heldBy named numberIn hexed said joined digitOf placeFrom eqs wordFrom wordStart wordEnd over spanned
+own-rules = refl
+
+own-rules-and : lineOf (114 ∷ 117 ∷ 108 ∷ 101 ∷ 115 ∷ 32 ∷ 49 ∷ 51 ∷ 32 ∷ 50 ∷ []) 0 ≡ plainLine does.Nothing
+unfolding lineOf lineFrom lineBy hasWord startOf startWords mostWords rulesLine ownRules within heldBy named numberIn hexed said joined digitOf placeFrom eqs wordFrom wordStart wordEnd over spanned
+own-rules-and = refl
+
+no-rules : lineOf (114 ∷ 117 ∷ 108 ∷ 101 ∷ 115 ∷ []) 0 ≡ wrongLine fault.OtherRules
+unfolding lineOf lineFrom lineBy hasWord startOf startWords mostWords rulesLine ownRules within heldBy named numberIn hexed said joined digitOf placeFrom eqs wordFrom wordStart wordEnd over spanned
+no-rules = refl
+
+other-rules : lineOf (114 ∷ 117 ∷ 108 ∷ 101 ∷ 115 ∷ 32 ∷ 50 ∷ 32 ∷ 52 ∷ []) 0 ≡ wrongLine fault.OtherRules
+unfolding lineOf lineFrom lineBy hasWord startOf startWords mostWords rulesLine ownRules within heldBy named numberIn hexed said joined digitOf placeFrom eqs wordFrom wordStart wordEnd over spanned
+other-rules = refl

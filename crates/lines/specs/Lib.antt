@@ -5,4 +5,5 @@ pub mod Starts
 pub mod Arranging
 pub mod Building
 pub mod Calling
+pub mod Rules
 pub mod Lines

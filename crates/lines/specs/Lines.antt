@@ -11,6 +11,7 @@ use Rattle.lines.specs.Starts.{hasWord, mostWords, startOf}
 use Rattle.lines.specs.Arranging.{arranging}
 use Rattle.lines.specs.Building.{laying, poking}
 use Rattle.lines.specs.Calling.{calling}
+use Rattle.lines.specs.Rules.{rulesLine}
 
 -- by its first word's number
 unfoldable pub lineBy : List ℕ → ℕ → ℕ → Line
@@ -18,12 +19,13 @@ lineBy t k cursor =
     pick (ltb k 4) (arranging t k)
     (pick (ltb k 8) (poking t k)
     (pick (ltb k 12) (laying t k)
-    (calling t k cursor)))
+    (pick (ltb k 21) (calling t k cursor)
+    (rulesLine t))))
 
 -- a line that starts with word k of the words, or with none of them
 unfoldable pub lineFrom : List ℕ → ℕ → ℕ → Line
 lineFrom t k cursor =
-    pick (ltb 20 k) (wrongLine fault.UnknownWord)
+    pick (ltb 21 k) (wrongLine fault.UnknownWord)
     (pick (hasWord t (mostWords k)) (wrongLine fault.ExtraWord)
     (lineBy t k cursor))
 

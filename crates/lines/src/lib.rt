@@ -4,6 +4,7 @@ mod builds;
 mod calls;
 mod gives;
 mod makes;
+mod rules;
 mod texts;
 
 pub use gives::fill;

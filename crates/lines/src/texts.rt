@@ -7,6 +7,7 @@ use crate::builds::poke_lines;
 use crate::calls::call_line;
 use crate::makes::plain;
 use crate::makes::wrong;
+use crate::rules::rules_line;
 use script::Fault;
 use script::find_word;
 use script::nth;
@@ -20,7 +21,7 @@ fn first_word(text: &[u8]) -> usize
     ensures { λ r. ⌜ r ≡ startOf (now (text .entry)) ⌝ }
 {
     find_word(
-        b"case sizes lens set poke word pokereel fixsum R RN M G mount tsdb tssr reg op host hostn adv back",
+        b"case sizes lens set poke word pokereel fixsum R RN M G mount tsdb tssr reg op host hostn adv back rules",
         text,
         0,
     )
@@ -28,10 +29,10 @@ fn first_word(text: &[u8]) -> usize
 
 // How many words a line may have that starts with word k of them.
 fn most_words(k: usize) -> usize
-    requires { ⌜ k < 21 ⌝ }
+    requires { ⌜ k < 22 ⌝ }
     ensures { λ r. ⌜ r ≡ mostWords k ⌝ }
 {
-    let most: [usize; 21] = [
+    let most: [usize; 22] = [
         4096, // case
         4, // sizes
         4, // lens
@@ -53,6 +54,7 @@ fn most_words(k: usize) -> usize
         4, // hostn
         1, // adv
         1, // back
+        15, // rules
     ];
     most[k]
 }
@@ -77,14 +79,17 @@ fn line_by(text: &[u8], k: usize, cursor: usize) -> Line
     if k < 12 {
         return lay_line(text, k);
     }
-    call_line(text, k, cursor)
+    if k < 21 {
+        return call_line(text, k, cursor);
+    }
+    rules_line(text)
 }
 
 // A line that starts with word k of the list, or with none of them.
 fn line_from(text: &[u8], k: usize, cursor: usize) -> Line
     ensures { λ r. ⌜ r ≡ lineFrom (now (text .entry)) k cursor ⌝ }
 {
-    if 20 < k {
+    if 21 < k {
         return wrong(Fault::UnknownWord);
     }
     if has_word(text, most_words(k)) {

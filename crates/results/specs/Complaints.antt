@@ -1,6 +1,7 @@
 -- The line that says which line of the script can't be taken, and why.
 use mathlib.Core.List.{List, [], _∷_, _++_}
 use Prim.Native.Nat.{ℕ}
+use Rattle.script.specs.Rules.{ownRules}
 use Rattle.script.specs.Spelling.{spelling}
 use Rattle.script.specs.declared.Fault.{Fault}
 use Rattle.script.specs.declared.Fault.the-variants as fault
@@ -30,6 +31,8 @@ reasonText fault.OutsideMemory = 58 ∷ 32 ∷ 111 ∷ 117 ∷ 116 ∷ 115 ∷ 1
 reasonText fault.OutsideReel = 58 ∷ 32 ∷ 111 ∷ 117 ∷ 116 ∷ 115 ∷ 105 ∷ 100 ∷ 101 ∷ 32 ∷ 116 ∷ 104 ∷ 101 ∷ 32 ∷ 114 ∷ 101 ∷ 101 ∷ 108 ∷ 10 ∷ []
 -- ": longer than a record can be"
 reasonText fault.RecordTooLong = 58 ∷ 32 ∷ 108 ∷ 111 ∷ 110 ∷ 103 ∷ 101 ∷ 114 ∷ 32 ∷ 116 ∷ 104 ∷ 97 ∷ 110 ∷ 32 ∷ 97 ∷ 32 ∷ 114 ∷ 101 ∷ 99 ∷ 111 ∷ 114 ∷ 100 ∷ 32 ∷ 99 ∷ 97 ∷ 110 ∷ 32 ∷ 98 ∷ 101 ∷ 10 ∷ []
+-- ": other rules: this program has ", and the line that names them
+reasonText fault.OtherRules = (58 ∷ 32 ∷ 111 ∷ 116 ∷ 104 ∷ 101 ∷ 114 ∷ 32 ∷ 114 ∷ 117 ∷ 108 ∷ 101 ∷ 115 ∷ 58 ∷ 32 ∷ 116 ∷ 104 ∷ 105 ∷ 115 ∷ 32 ∷ 112 ∷ 114 ∷ 111 ∷ 103 ∷ 114 ∷ 97 ∷ 109 ∷ 32 ∷ 104 ∷ 97 ∷ 115 ∷ 32 ∷ []) ++ (ownRules ++ (10 ∷ []))
 
 -- "line ", its number, and the reason
 unfoldable pub complaintLine : ℕ → Fault → List ℕ

@@ -41,6 +41,7 @@ pub enum Fault {
     OutsideMemory,
     OutsideReel,
     RecordTooLong,
+    OtherRules,
 }
 
 pub enum Value {

@@ -1,5 +1,6 @@
 -- Demand 2, whole: "Registers, message packet, moved bytes, termination class, reel and position are those of document 01, reading forward and in
--- reverse and writing. Done plus residual equals the count asked. Memory outside the named bytes stays." What holds of an advance that is a step,
+-- reverse and writing. Done plus residual equals the count asked. Memory outside the named bytes stays." Request [2] changes step 7: "Demand 2 then means
+-- this rule." What holds of an advance that is a step,
 -- between the state, memory and reel that the call was handed and those that it left. No well formed reel is asked, but where objects are spoken of.
 use mathlib.Core.Bool.{Bool, true, false}
 use mathlib.Core.List.{List}

@@ -1,5 +1,5 @@
 -- The command packet: the header word's fields, and the words after it.
-use mathlib.Core.Bool.{Bool, true, false, _||_}
+use mathlib.Core.Bool.{Bool, false, _||_}
 use mathlib.Core.List.{List}
 use Prim.Native.Nat.{ℕ, _+_, _*_, _/_, _%_}
 use lib.Dec.{eqb, leb}
@@ -22,15 +22,15 @@ headerOf w =
       code = w % 32;
     }
 
--- "The unit fetches the words the command uses: four for codes 1, 4, 5, two for 8, else one." (step 7)
-unfoldable pub wordsOf : ℕ → ℕ
-wordsOf code = pick ((eqb code 1 || eqb code 4) || eqb code 5) 4 (pick (eqb code 8) 2 1)
+-- codes 1, 4, 5 have data in memory: the words are pointer low, pointer high, count
+abbrev pub hasPointer : ℕ → Bool
+hasPointer code = (eqb code 1 || eqb code 4) || eqb code 5
 
--- pointer low, pointer high, count; a Position has its count in the second word
+-- a Position has its count in the second word; what a command doesn't use is not looked at
 unfoldable pub packetOf : List ℕ → ℕ → ℕ → Packet
 packetOf m at code =
-    pick (eqb (wordsOf code) 4)
+    pick (hasPointer code)
     (record { pointer = wordAt m (at + 2) + 65536 * (wordAt m (at + 4) % 4); high = leb 4 (wordAt m (at + 4)); count = wordAt m (at + 6) })
-    (pick (eqb (wordsOf code) 2)
+    (pick (eqb code 8)
     (record { pointer = 0; high = false; count = wordAt m (at + 2) })
     (record { pointer = 0; high = false; count = 0 }))

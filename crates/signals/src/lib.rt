@@ -19,8 +19,11 @@ pub use message::put_message;
 pub use packet::Header;
 pub use packet::Packet;
 pub use packet::fetch;
+pub use packet::has_pointer;
 pub use packet::header_of;
-pub use packet::words_of;
+
+// A command packet: four words.
+pub const PACKET_BYTES: usize = 8;
 
 // XST0, from bit 15 on: what the command found, then the unit's condition.
 pub const TMK: u16 = 0x8000;

@@ -1,10 +1,10 @@
 // The command packet in memory.
 use lists::word;
 ghost use mathlib.Core.Path.{_≡_};
-ghost use Prim.Native.Nat.{_+_, _*_, _≤_, _<_};
+ghost use Prim.Native.Nat.{_+_, _≤_, _<_};
 ghost use lib.ListN.{length};
-ghost use Rattle.signals.specs.Header.{headerOf, packetOf, wordsOf};
-ghost use Rattle.signals.specs.Numbers.{pointerLimit};
+ghost use Rattle.signals.specs.Header.{hasPointer, headerOf, packetOf};
+ghost use Rattle.signals.specs.Numbers.{packetBytes, pointerLimit};
 
 // The header word's fields.
 pub struct Header {
@@ -34,16 +34,11 @@ pub fn header_of(w: usize) -> Header
     }
 }
 
-// How many words the command uses: four for codes 1, 4, 5, two for 8, else one.
-pub fn words_of(code: usize) -> usize
-    ensures is { λ r. ⌜ r ≡ wordsOf code ⌝ }
-    ensures low { λ r. ⌜ r ≤ 4 ⌝ }
+// Does the packet name data in memory?
+pub fn has_pointer(code: usize) -> bool
+    ensures { λ r. ⌜ r ≡ hasPointer code ⌝ }
 {
-    let four = (code == 1) | (code == 4) | (code == 5);
-    if four {
-        return 4;
-    }
-    if code == 8 { 2 } else { 1 }
+    (code == 1) | (code == 4) | (code == 5)
 }
 
 // What the words after the header say: the data pointer and the count.
@@ -55,12 +50,11 @@ pub struct Packet {
 }
 
 pub fn fetch(mem: &[u8], at: usize, code: usize) -> Packet
-    requires { ⌜ (at + 2 * wordsOf code ≤ length (now mem)) × (at < pointerLimit) ⌝ }
+    requires { ⌜ (at + packetBytes ≤ length (now mem)) × (at < pointerLimit) ⌝ }
     ensures is { λ r. ⌜ r ≡ packetOf (now (mem .entry)) at code ⌝ }
     ensures low { λ r. ⌜ r .pointer < pointerLimit ⌝ }
 {
-    let words = words_of(code);
-    if words == 4 {
+    if has_pointer(code) {
         let high = word(mem, at + 4);
         return Packet {
             pointer: word(mem, at + 2) + 65536 * (high % 4),
@@ -68,7 +62,7 @@ pub fn fetch(mem: &[u8], at: usize, code: usize) -> Packet
             count: word(mem, at + 6) as u16,
         };
     }
-    if words == 2 {
+    if code == 8 {
         return Packet {
             pointer: 0,
             high: false,

@@ -32,7 +32,18 @@ call-line-requires c κs = search needs
 
 returns-4 : tie.Need-returns-4
 unfolding lineBy
-returns-4 c = rw (le-ltb (c .before .before .before .before .before .args .k) 4 (omega arith), le-ltb (c .before .before .before .before .before .args .k) 8 (omega arith), le-ltb (c .before .before .before .before .before .args .k) 12 (omega arith)) (c .call-line .ensures)
+returns-4 c =
+    let k = c .before .before .before .before .before .before .args .k in
+    rw (le-ltb k 4 (omega arith), le-ltb k 8 (omega arith), le-ltb k 12 (omega arith), lt-ltb k 21 (c .before .if4 .taken)) (c .call-line .ensures)
+
+rules-line-requires : tie.Need-rules-line-requires
+rules-line-requires c κs = search needs
+
+returns-5 : tie.Need-returns-5
+unfolding lineBy
+returns-5 c =
+    let k = c .before .before .before .before .before .before .args .k in
+    rw (le-ltb k 4 (omega arith), le-ltb k 8 (omega arith), le-ltb k 12 (omega arith), le-ltb k 21 (omega arith)) (c .rules-line .ensures)
 
 pub line-by-spec : {M : Type 1} → statement M
 line-by-spec =
@@ -45,4 +56,6 @@ line-by-spec =
     lay-line-requires
     returns-3
     call-line-requires
-    returns-4)
+    returns-4
+    rules-line-requires
+    returns-5)

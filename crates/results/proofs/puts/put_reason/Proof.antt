@@ -1,4 +1,5 @@
 -- `put_reason` meets its contract, for each fault.
+use Rattle.script.specs.Rules.{ownRules}
 use Rattle.results.specs.Complaints.{reasonText}
 use borrow.Author.Needs.{needs}
 use Rattle.results.proofs.puts.put_reason.Statement.{statement}
@@ -112,6 +113,15 @@ slice-aggregate-put-bytes-12 c = search needs
 put-bytes-requires-12 : tie.Need-put-bytes-requires-12
 put-bytes-requires-12 c κs = search needs
 
+enum-told-13 : tie.Need-enum-told-13
+enum-told-13 c = search needs
+
+slice-aggregate-put-bytes-13 : tie.Need-slice-aggregate-put-bytes-13
+slice-aggregate-put-bytes-13 c = search needs
+
+put-bytes-requires-13 : tie.Need-put-bytes-requires-13
+put-bytes-requires-13 c κs = search needs
+
 same-length : tie.Need-same-length
 same-length c = search needs
 
@@ -196,6 +206,13 @@ returns-12 : tie.Need-returns-12
 unfolding reasonText
 returns-12 c = rw (c .before .before .before .before .before .enum-told12 .given .1) (c .before .before .put-bytes12 .ensures)
 
+same-length-13 : tie.Need-same-length-13
+same-length-13 c = search needs
+
+returns-13 : tie.Need-returns-13
+unfolding reasonText ownRules
+returns-13 c = rw (c .before .before .before .before .before .enum-told13 .given .1) (c .before .before .put-bytes13 .ensures)
+
 pub put-reason-spec : {M : Type 1} → statement M
 put-reason-spec =
     tie.close
@@ -236,6 +253,9 @@ put-reason-spec =
     enum-told-12
     slice-aggregate-put-bytes-12
     put-bytes-requires-12
+    enum-told-13
+    slice-aggregate-put-bytes-13
+    put-bytes-requires-13
     same-length
     returns
     same-length-2
@@ -259,4 +279,6 @@ put-reason-spec =
     same-length-11
     returns-11
     same-length-12
-    returns-12)
+    returns-12
+    same-length-13
+    returns-13)
