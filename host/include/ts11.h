@@ -15,6 +15,10 @@
  * each must have the bytes that its length says. Two calls may run at once if they share no buffer that either
  * writes.
  *
+ * A CALL NEEDS LITTLE STACK: at most TS11_STACK_BYTES, from its return address down, whatever the record, the buffers
+ * and the bytes in them. There is no working area: data goes from memory straight into the reel's blocks, and from
+ * them straight into memory. What the host's memset takes of the stack is not counted.
+ *
  * A CALL ANSWERS 0 OR A REFUSAL'S NUMBER. Refused, it has changed no byte of state, memory, reel or journal.
  * Where several refusals hold, the least number is given.
  *
@@ -53,6 +57,7 @@ extern "C" {
 #define TS11_ENTRY_HEAD 128        /* bytes of a journal entry beside the memory and reel bytes that it keeps */
 #define TS11_PACKET_BYTES 8        /* bytes of a command packet: one of them outside memory is NXM */
 #define TS11_MESSAGE_BYTES 14      /* bytes of a message, and the least message buffer */
+#define TS11_STACK_BYTES 2048      /* bytes of stack that any call needs at most, from its return address down */
 
 /* ---- answers ------------------------------------------------------------------------------------------------- */
 

@@ -9,7 +9,7 @@
 enum { PACKET = 0x100, MESSAGE = 0x108, CHARACTERISTICS = 0x120, DATA = 0x400 };
 enum { NO_MESSAGE = 0xEEEE };
 
-/* How calls are made: held to all their promises, or plainly where buffers are large. */
+/* What goes with a call: it is held to all its promises, or made plainly, as where buffers are large. */
 static struct result (*make)(struct unit *, const struct call *) = checked;
 
 static inline struct result mount(struct unit *u, size_t recorded_end, bool online, bool write_lock)

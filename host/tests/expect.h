@@ -11,6 +11,9 @@
 #include <stdlib.h>
 #include <string.h>
 
+#define COUNT(table) (sizeof(table) / sizeof(table)[0])
+#define ROWS(k, table) for (size_t k = 0; k < COUNT(table); k++)
+
 enum { FAILURES_SHOWN = 20 };
 
 /* The context names the row of a table or the line of a script that is being worked on, `when` the moment within it. */

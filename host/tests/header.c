@@ -7,13 +7,11 @@
 
 #include "driver.h"
 
-#define COUNT(table) (sizeof(table) / sizeof(table)[0])
-#define ROWS(k, table) for (size_t k = 0; k < COUNT(table); k++)
-
 _Static_assert(_Generic((ts11_answer)0, size_t: 1, default: 0), "an answer is a size_t");
 _Static_assert(sizeof(ts11_state) == TS11_STATE_BYTES, "a state is its bytes and nothing else");
 _Static_assert(_Generic(TS11_TSDB(0), uint16_t: 1, default: 0), "the TSDB word is a word");
 _Static_assert(_Generic(TS11_COMMAND(0, 0), uint16_t: 1, default: 0), "a packet's header is a word");
+_Static_assert(TS11_STACK_BYTES == 2048, "what hosts were told; stack.c shows that a call keeps to it");
 
 /* ---- the unit under test ----------------------------------------------------------------------------------------- */
 

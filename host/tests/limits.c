@@ -5,9 +5,6 @@
  */
 #include "driver.h"
 
-#define COUNT(table) (sizeof(table) / sizeof(table)[0])
-#define ROWS(k, table) for (size_t k = 0; k < COUNT(table); k++)
-
 #define TWO_32 ((size_t)1 << 32)
 #define REEL_MAX ((size_t)TS11_REEL_BLOCKS_MAX * TS11_BLOCK)
 

@@ -152,6 +152,9 @@ static inline ts11_answer put_call(struct unit *u, const struct call *c, struct 
 	}
 }
 
+/* How the library is entered: as any host does, or on a stack that is watched. */
+static ts11_answer (*put)(struct unit *, const struct call *, struct outs *) = put_call;
+
 static inline void expect_outs_apart(const struct outs *o, uint8_t fill)
 {
 	EXPECT("bytes beside the out-parameters are as before",
@@ -165,7 +168,7 @@ static inline struct result perform_over(struct unit *u, const struct call *c, u
 {
 	struct outs o;
 	memset(&o, fill, sizeof o);
-	struct result r = { .answer = put_call(u, c, &o) };
+	struct result r = { .answer = put(u, c, &o) };
 	expect_outs_apart(&o, fill);
 	if (c->kind == MOUNT || c->kind == ADVANCE)
 		r.block = o.block;
