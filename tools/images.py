@@ -24,10 +24,14 @@ def resum(image, k):
 def poke(image, at, byte):
     return image[:at] + bytes([byte]) + image[at + 1:]
 
+def put(image, k, block):
+    return image[:512 * k] + block + image[512 * k + 512:]
+
 def ramp(n):
     return bytes(i * 7 % 256 for i in range(n))
 
 EVERY = record(b'AB') + MARK + GAP + record(ramp(768)) + record(ramp(505)) + MARK + MARK
+ZERO = block(1, 2, 0, struct.pack('<H', 65532))                          # its 255 words add up to 65,535
 FULL = record(ramp(16384)) * 3 + record(ramp(504)) * 28 + MARK          # 128 blocks: 65,536 bytes
 
 CASES = [
@@ -36,11 +40,29 @@ CASES = [
     ('full', FULL, '\n'.join(['R 0 16384', 'R 33 16384', 'R 66 16384'] + ['R %d 504' % (99 + i) for i in range(28)] + ['M 127', 'E 128'])),
     ('long', FULL + b'\0', 'L'),
     ('ragged', EVERY + bytes(511), 'S'),
-    ('check', poke(EVERY, 512 * 4 + 100, 0), 'X 4'),                      # one data byte changed, its check left
-    ('padding', resum(poke(EVERY, 9, 1), 0), 'X 0'),                      # a byte beyond "AB" is not 0, the check is right
-    ('mark_words', resum(poke(EVERY, 512 + 4, 1), 1), 'X 1'),             # a mark with an index, the check is right
-    ('cut_off', EVERY[:512 * 4], 'X 3'),                                  # the end cuts the second record off
-    ('out_of_place', EVERY[:512 * 3] + EVERY[512 * 4:512 * 5] + EVERY, 'X 3'),  # a record that starts at piece 1
+    # each fault by itself, where an object is due and where a later piece is
+    ('kind', put(EVERY, 1, bytes(512)), 'X 1 K'),                         # a block of zeros: no kind
+    ('kind_of_a_piece', put(EVERY, 4, bytes(512)), 'X 4 K'),              # .. where a piece is due
+    ('length', put(EVERY, 0, block(1, 0, 0)), 'X 0 N'),                   # a record of no bytes
+    ('length_of_a_mark', put(EVERY, 4, block(2, 5, 0)), 'X 4 N'),         # a mark with a length, where a piece is due
+    ('index', put(EVERY, 0, block(1, 504, 1, ramp(504))), 'X 0 I'),       # piece 1 of a record that has one
+    ('mark_words', resum(poke(EVERY, 512 + 4, 1), 1), 'X 1 I'),           # a mark with an index, the check is right
+    ('padding', resum(poke(EVERY, 9, 1), 0), 'X 0 P'),                    # a byte beyond "AB" is not 0, the check is right
+    ('padding_of_a_gap', resum(poke(EVERY, 512 * 2 + 509, 1), 2), 'X 2 P'),
+    ('check', poke(EVERY, 512 * 4 + 100, 0), 'X 4 C'),                    # one data byte changed, its check left
+    ('check_of_65535', put(EVERY, 0, ZERO[:510] + b'\xff\xff'), 'X 0 C'), # a sum of 65,535 is 0 modulo 65,535
+    # two at once: the first in the order is told
+    ('kind_and_length', put(EVERY, 0, block(4, 0, 1)), 'X 0 K'),
+    ('length_and_index', put(EVERY, 0, block(2, 5, 1)), 'X 0 N'),
+    ('index_and_padding', put(EVERY, 0, block(3, 0, 1, b'A')), 'X 0 I'),
+    ('padding_and_check', poke(EVERY, 9, 1), 'X 0 P'),
+    # sound, and out of place; and what is damaged besides is told as that
+    ('cut_off', EVERY[:512 * 4], 'X 3 I'),                                # the end cuts the second record off
+    ('cut_off_damaged', poke(EVERY[:512 * 4], 512 * 3 + 100, 0), 'X 3 C'),
+    ('out_of_place', EVERY[:512 * 3] + EVERY[512 * 4:512 * 5] + EVERY, 'X 3 I'),  # a record that starts at piece 1
+    ('mark_for_a_piece', put(EVERY, 4, MARK), 'X 4 I'),
+    ('mark_for_a_piece_damaged', put(EVERY, 4, poke(MARK, 511, 1)), 'X 4 C'),
+    ('piece_of_another', put(EVERY, 4, record(ramp(769))[512:]), 'X 4 I'),
 ]
 
 def write(name, data):

@@ -25,14 +25,15 @@ static bool counting = false;
 /* One implementation of the calls that are measured. */
 typedef struct side {
 	const char *name;
-	ts11_answer (*mount)(ts11_state *, size_t, const uint8_t *, size_t, size_t, size_t, bool, bool, size_t *);
+	ts11_answer (*mount)(ts11_state *, size_t, const uint8_t *, size_t, size_t, size_t, bool, bool, size_t *,
+	                     uint8_t *);
 	ts11_answer (*write_tsdb)(ts11_state *, uint8_t *, size_t, uint8_t *, size_t, uint8_t *, size_t, uint16_t);
 	ts11_answer (*write_tssr)(ts11_state *, uint8_t *, size_t, uint8_t *, size_t, uint8_t *, size_t, uint16_t);
 	ts11_answer (*operate)(ts11_state *, uint8_t *, size_t, uint8_t *, size_t, uint8_t *, size_t, bool, bool);
 	ts11_answer (*host_store)(ts11_state *, uint8_t *, size_t, const uint8_t *, size_t, uint8_t *, size_t, size_t,
 	                          const uint8_t *, size_t);
 	ts11_answer (*advance)(ts11_state *, uint8_t *, size_t, uint8_t *, size_t, uint8_t *, size_t, bool *, bool *,
-	                       size_t *);
+	                       size_t *, uint8_t *);
 	ts11_answer (*step_back)(ts11_state *, uint8_t *, size_t, uint8_t *, size_t, const uint8_t *, size_t);
 } side;
 
@@ -47,7 +48,8 @@ static const side PLAIN = { "plain C",     plain_mount,      plain_write_tsdb, p
 	UNUSED ts11_state *s, UNUSED uint8_t *m, UNUSED size_t ml, UNUSED uint8_t *r, UNUSED size_t rl, UNUSED uint8_t *j, \
 	        UNUSED size_t jl
 static ts11_answer no_mount(UNUSED ts11_state *s, UNUSED size_t m, UNUSED const uint8_t *r, UNUSED size_t rl,
-                            UNUSED size_t j, UNUSED size_t e, UNUSED bool on, UNUSED bool lock, UNUSED size_t *k)
+                            UNUSED size_t j, UNUSED size_t e, UNUSED bool on, UNUSED bool lock, UNUSED size_t *k,
+                            UNUSED uint8_t *f)
 {
 	return TS11_DONE;
 }
@@ -71,7 +73,7 @@ static ts11_answer no_store(UNUSED ts11_state *s, UNUSED uint8_t *m, UNUSED size
 
 static bool no_step = true; /* what an advance that does nothing tells */
 
-static ts11_answer no_advance(BUFFERS, bool *stepped, UNUSED bool *interrupt, UNUSED size_t *k)
+static ts11_answer no_advance(BUFFERS, bool *stepped, UNUSED bool *interrupt, UNUSED size_t *k, UNUSED uint8_t *f)
 {
 	*stepped = no_step;
 	return TS11_DONE;
@@ -131,8 +133,9 @@ static void freed(host *h)
 static void mount(host *h, size_t end)
 {
 	size_t block;
+	uint8_t fault;
 	size_t a = h->with->mount(&h->state, h->memory_length, h->reel, h->reel_length, h->journal_length, end, true, false,
-	                          &block);
+	                          &block, &fault);
 	if (a != TS11_DONE)
 		wrong("mount", h, a);
 }
@@ -179,8 +182,9 @@ static void advance_to(host *h, bool step)
 {
 	bool stepped, interrupt;
 	size_t block;
+	uint8_t fault;
 	size_t a = h->with->advance(&h->state, h->memory, h->memory_length, h->reel, h->reel_length, h->journal,
-	                            h->journal_length, &stepped, &interrupt, &block);
+	                            h->journal_length, &stepped, &interrupt, &block, &fault);
 	if (a != TS11_DONE || stepped != step)
 		wrong("advance", h, a);
 }

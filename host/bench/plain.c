@@ -145,6 +145,27 @@ static bool block_is(const uint8_t *block, uint32_t kind, uint32_t length, uint3
 	return word_at(block + TS11_BLOCK_CHECK) == check_of(block);
 }
 
+/* What is wrong with a block that was not the one wanted: its own fault, or if it has none, its place. */
+static uint8_t fault_of(const uint8_t *block)
+{
+	uint32_t kind = word_at(block + TS11_BLOCK_KIND);
+	uint32_t length = word_at(block + TS11_BLOCK_LENGTH);
+	uint32_t index = word_at(block + TS11_BLOCK_INDEX);
+	bool piece = kind == TS11_KIND_RECORD;
+	if (!piece && kind != TS11_KIND_MARK && kind != TS11_KIND_GAP)
+		return TS11_FAULT_KIND;
+	if (piece ? length == 0 || length > TS11_RECORD_MAX : length != 0)
+		return TS11_FAULT_LENGTH;
+	if (piece ? index >= pieces_of(length) : index != 0)
+		return TS11_FAULT_INDEX;
+	uint32_t used = piece ? piece_bytes(length, index) : 0;
+	if (memcmp(block + TS11_BLOCK_BYTES + used, no_bytes, TS11_BLOCK_DATA - used) != 0)
+		return TS11_FAULT_PADDING;
+	if (word_at(block + TS11_BLOCK_CHECK) != check_of(block))
+		return TS11_FAULT_CHECK;
+	return TS11_FAULT_INDEX;
+}
+
 /* Everything but the data: the words before it, zeros behind it, the check word. */
 static void frame_block(uint8_t *block, uint32_t kind, uint32_t length, uint32_t index, uint32_t used)
 {
@@ -458,6 +479,12 @@ struct command {
 	uint32_t count;
 };
 
+/* Where refusal 7 tells the block at fault, and what is wrong with it. */
+struct bad {
+	size_t *block;
+	uint8_t *fault;
+};
+
 /* What an advance is about to store. */
 struct plan {
 	struct unit next;     /* the state after it */
@@ -468,6 +495,7 @@ struct plan {
 	uint32_t record_from; /* .. and the first of its bytes that is moved */
 	uint32_t kind;        /* of the object that is written */
 	bool gap_first;       /* .. and whether a retry's gap goes before it */
+	struct bad bad;       /* where a block at fault is told */
 	uint16_t message[TS11_MESSAGE_BYTES / 2];
 };
 
@@ -541,9 +569,11 @@ static ts11_answer reject(struct plan *p, uint32_t found)
 	return end_command(p, (struct ending){.class = TS11_CLASS_REJECT, .xst0 = found});
 }
 
-static ts11_answer bad_block(const struct met *m, size_t *block)
+/* Refusal 7. What is wrong is looked for only here, so that a sound block costs nothing more. */
+static ts11_answer bad_block(const uint8_t *reel, const struct met *m, const struct bad *bad)
 {
-	*block = m->at;
+	*bad->block = m->at;
+	*bad->fault = fault_of(reel + reel_bytes(m->at));
 	return TS11_BAD_BLOCK;
 }
 
@@ -569,11 +599,11 @@ static void run_out(struct ending *e, bool reverse)
 }
 
 /* A first stage of a Read that finds no record ends it, with the residual as if nothing moved. */
-static ts11_answer stop_read(struct plan *p, const struct met *m, bool reverse, size_t *block)
+static ts11_answer stop_read(struct plan *p, const uint8_t *reel, const struct met *m, bool reverse)
 {
 	struct ending e = {.class = TS11_CLASS_STATUS, .xst3 = direction(reverse), .residual = p->command.count};
 	if (m->what == MET_FAULT)
-		return bad_block(m, block);
+		return bad_block(reel, m, &p->bad);
 	p->next.position = m->beyond;
 	if (m->what == MET_MARK)
 		e.xst0 = TS11_XST0_TMK | TS11_XST0_RLS;
@@ -598,13 +628,13 @@ static void place_data(struct plan *p, const struct met *m, bool reverse)
 }
 
 /* A reread goes back over the record that it found, in a second stage: that is the read, or with OPP the space. */
-static ts11_answer read_tape(struct plan *p, const uint8_t *reel, bool reverse, bool reread, size_t *block)
+static ts11_answer read_tape(struct plan *p, const uint8_t *reel, bool reverse, bool reread)
 {
 	struct unit *u = &p->next;
 	uint32_t count = p->command.count;
 	struct met m = seek(reel, reverse, u->position, u->end);
 	if (m.what != MET_RECORD)
-		return stop_read(p, &m, reverse, block);
+		return stop_read(p, reel, &m, reverse);
 	bool read_reverse = reverse;
 	if (reread) {
 		read_reverse = p->command.header & TS11_OPP ? reverse : !reverse;
@@ -642,7 +672,7 @@ static bool mark_ends(struct ending *e, bool marks, bool second)
 }
 
 /* Position, modes 0 to 3. With ENB a mark met first from block 0 counts as the second in a row. */
-static ts11_answer space(struct plan *p, const uint8_t *reel, bool reverse, bool marks, size_t *block)
+static ts11_answer space(struct plan *p, const uint8_t *reel, bool reverse, bool marks)
 {
 	struct unit *u = &p->next;
 	struct ending e = {.residual = p->command.count};
@@ -650,7 +680,7 @@ static ts11_answer space(struct plan *p, const uint8_t *reel, bool reverse, bool
 	while (e.residual != 0) {
 		struct met m = seek(reel, reverse, u->position, u->end);
 		if (m.what == MET_FAULT)
-			return bad_block(&m, block);
+			return bad_block(reel, &m, &p->bad);
 		u->position = m.beyond;
 		e.xst3 = direction(reverse);
 		if (m.what == MET_NOTHING) {
@@ -668,7 +698,7 @@ static ts11_answer space(struct plan *p, const uint8_t *reel, bool reverse, bool
 }
 
 /* Write and Format: where the tape stands, or for a retry, behind a gap, where the last record or mark stood. */
-static ts11_answer write_object(struct plan *p, const uint8_t *reel, uint32_t kind, bool retry, size_t *block)
+static ts11_answer write_object(struct plan *p, const uint8_t *reel, uint32_t kind, bool retry)
 {
 	struct unit *u = &p->next;
 	uint32_t at = u->position;
@@ -676,7 +706,7 @@ static ts11_answer write_object(struct plan *p, const uint8_t *reel, uint32_t ki
 	if (retry) {
 		struct met m = seek(reel, true, u->position, u->end);
 		if (m.what == MET_FAULT)
-			return bad_block(&m, block);
+			return bad_block(reel, &m, &p->bad);
 		if (m.what == MET_NOTHING) {
 			struct ending e = {.xst3 = direction(true)};
 			u->position = m.beyond;
@@ -740,24 +770,24 @@ static ts11_answer rewind_tape(struct plan *p, bool unload)
 	return end_command(p, (struct ending){.class = TS11_CLASS_NORMAL});
 }
 
-static ts11_answer carry_out(struct plan *p, const uint8_t *memory, const uint8_t *reel, size_t *block)
+static ts11_answer carry_out(struct plan *p, const uint8_t *memory, const uint8_t *reel)
 {
 	switch (p->command.what) {
-	case TS11_READ_NEXT: return read_tape(p, reel, false, false, block);
-	case TS11_READ_PREVIOUS: return read_tape(p, reel, true, false, block);
-	case TS11_REREAD_PREVIOUS: return read_tape(p, reel, true, true, block);
-	case TS11_REREAD_NEXT: return read_tape(p, reel, false, true, block);
+	case TS11_READ_NEXT: return read_tape(p, reel, false, false);
+	case TS11_READ_PREVIOUS: return read_tape(p, reel, true, false);
+	case TS11_REREAD_PREVIOUS: return read_tape(p, reel, true, true);
+	case TS11_REREAD_NEXT: return read_tape(p, reel, false, true);
 	case TS11_WRITE_CHARACTERISTICS: return write_characteristics(p, memory);
-	case TS11_WRITE: return write_object(p, reel, TS11_KIND_RECORD, false, block);
-	case TS11_WRITE_RETRY: return write_object(p, reel, TS11_KIND_RECORD, true, block);
-	case TS11_SPACE_RECORDS: return space(p, reel, false, false, block);
-	case TS11_SPACE_RECORDS_REVERSE: return space(p, reel, true, false, block);
-	case TS11_SKIP_MARKS: return space(p, reel, false, true, block);
-	case TS11_SKIP_MARKS_REVERSE: return space(p, reel, true, true, block);
+	case TS11_WRITE: return write_object(p, reel, TS11_KIND_RECORD, false);
+	case TS11_WRITE_RETRY: return write_object(p, reel, TS11_KIND_RECORD, true);
+	case TS11_SPACE_RECORDS: return space(p, reel, false, false);
+	case TS11_SPACE_RECORDS_REVERSE: return space(p, reel, true, false);
+	case TS11_SKIP_MARKS: return space(p, reel, false, true);
+	case TS11_SKIP_MARKS_REVERSE: return space(p, reel, true, true);
 	case TS11_REWIND: return rewind_tape(p, false);
-	case TS11_WRITE_MARK: return write_object(p, reel, TS11_KIND_MARK, false, block);
-	case TS11_ERASE: return write_object(p, reel, TS11_KIND_GAP, false, block);
-	case TS11_WRITE_MARK_RETRY: return write_object(p, reel, TS11_KIND_MARK, true, block);
+	case TS11_WRITE_MARK: return write_object(p, reel, TS11_KIND_MARK, false);
+	case TS11_ERASE: return write_object(p, reel, TS11_KIND_GAP, false);
+	case TS11_WRITE_MARK_RETRY: return write_object(p, reel, TS11_KIND_MARK, true);
 	case TS11_RELEASE: return release(p);
 	case TS11_UNLOAD: return rewind_tape(p, true);
 	default: return end_command(p, (struct ending){.class = TS11_CLASS_NORMAL}); /* the rest take no action */
@@ -868,7 +898,7 @@ static struct ending hindrance(const struct unit *u, const struct command *c)
 }
 
 /* Steps 5 to 10, and the command. */
-static ts11_answer run_command(struct plan *p, const uint8_t *memory, const uint8_t *reel, size_t *block)
+static ts11_answer run_command(struct plan *p, const uint8_t *memory, const uint8_t *reel)
 {
 	struct unit *u = &p->next;
 	struct command *c = &p->command;
@@ -882,11 +912,11 @@ static ts11_answer run_command(struct plan *p, const uint8_t *memory, const uint
 	struct ending e = hindrance(u, c);
 	if (e.class != TS11_CLASS_NORMAL)
 		return end_command(p, e);
-	return carry_out(p, memory, reel, block);
+	return carry_out(p, memory, reel);
 }
 
 /* Steps 1 to 4: header outside memory, ACK and no ACK, attention, CVC. */
-static ts11_answer plan_command(struct plan *p, const uint8_t *memory, const uint8_t *reel, size_t *block)
+static ts11_answer plan_command(struct plan *p, const uint8_t *memory, const uint8_t *reel)
 {
 	struct unit *u = &p->next;
 	if (u->pointer + 2 > u->memory) {
@@ -908,7 +938,7 @@ static ts11_answer plan_command(struct plan *p, const uint8_t *memory, const uin
 		return attend(p, (header & TS11_IE) != 0);
 	if (header & TS11_CVC)
 		u->vck = 0;
-	return run_command(p, memory, reel, block);
+	return run_command(p, memory, reel);
 }
 
 /* Blocks first, then data, and the message over it. */
@@ -945,10 +975,12 @@ static void initialize(struct unit *u)
 }
 
 ts11_answer plain_mount(ts11_state *state, size_t memory_length, const uint8_t *reel, size_t reel_length,
-                        size_t journal_length, size_t recorded_end, bool online, bool write_lock, size_t *block)
+                        size_t journal_length, size_t recorded_end, bool online, bool write_lock, size_t *block,
+                        uint8_t *fault)
 {
 	size_t blocks = reel_length / TS11_BLOCK;
 	*block = 0;
+	*fault = 0;
 	if (memory_wrong(memory_length))
 		return TS11_BAD_MEMORY;
 	if (reel_length % TS11_BLOCK != 0 || blocks_wrong(blocks) || recorded_end > blocks)
@@ -957,7 +989,7 @@ ts11_answer plain_mount(ts11_state *state, size_t memory_length, const uint8_t *
 		return TS11_BAD_JOURNAL;
 	struct met m = sweep(reel, (uint32_t)recorded_end);
 	if (m.what == MET_FAULT)
-		return bad_block(&m, block);
+		return bad_block(reel, &m, &(struct bad){block, fault});
 	struct session s = {.journal = (uint32_t)journal_length};
 	initialize(&s.unit);
 	s.unit.end = (uint32_t)recorded_end;
@@ -1081,20 +1113,22 @@ ts11_answer plain_host_store(ts11_state *state, uint8_t *memory, size_t memory_l
 }
 
 ts11_answer plain_advance(ts11_state *state, uint8_t *memory, size_t memory_length, uint8_t *reel, size_t reel_length,
-                          uint8_t *journal, size_t journal_length, bool *stepped, bool *interrupt, size_t *block)
+                          uint8_t *journal, size_t journal_length, bool *stepped, bool *interrupt, size_t *block,
+                          uint8_t *fault)
 {
 	struct session s;
 	ts11_answer answer = open_session(&s, state, memory_length, reel_length, journal_length);
 	*stepped = *interrupt = false;
 	*block = 0;
+	*fault = 0;
 	if (answer != TS11_DONE)
 		return answer;
 	bool waits = !s.unit.ssr;
 	bool attends = s.unit.pending && s.unit.unit_owns;
 	if (!waits && !attends)
 		return TS11_DONE;
-	struct plan p = {.next = s.unit, .entry.unit = s.unit};
-	answer = waits ? plan_command(&p, memory, reel, block) : attend(&p, s.unit.release_ie);
+	struct plan p = {.next = s.unit, .entry.unit = s.unit, .bad = {block, fault}};
+	answer = waits ? plan_command(&p, memory, reel) : attend(&p, s.unit.release_ie);
 	if (answer == TS11_DONE)
 		answer = add_entry(&s, journal, &p.entry, memory, reel);
 	if (answer != TS11_DONE)

@@ -15,7 +15,8 @@ extern "C" {
 #endif
 
 ts11_answer plain_mount(ts11_state *state, size_t memory_length, const uint8_t *reel, size_t reel_length,
-                        size_t journal_length, size_t recorded_end, bool online, bool write_lock, size_t *block);
+                        size_t journal_length, size_t recorded_end, bool online, bool write_lock, size_t *block,
+                        uint8_t *fault);
 
 ts11_answer plain_write_tsdb(ts11_state *state, uint8_t *memory, size_t memory_length, uint8_t *reel,
                              size_t reel_length, uint8_t *journal, size_t journal_length, uint16_t word);
@@ -33,7 +34,8 @@ ts11_answer plain_host_store(ts11_state *state, uint8_t *memory, size_t memory_l
                              const uint8_t *bytes, size_t length);
 
 ts11_answer plain_advance(ts11_state *state, uint8_t *memory, size_t memory_length, uint8_t *reel, size_t reel_length,
-                          uint8_t *journal, size_t journal_length, bool *stepped, bool *interrupt, size_t *block);
+                          uint8_t *journal, size_t journal_length, bool *stepped, bool *interrupt, size_t *block,
+                          uint8_t *fault);
 
 ts11_answer plain_step_back(ts11_state *state, uint8_t *memory, size_t memory_length, uint8_t *reel, size_t reel_length,
                             const uint8_t *journal, size_t journal_length);

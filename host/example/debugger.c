@@ -2,7 +2,8 @@
  * A small host: what a debugger does with the library, in the order in which a user would do it.
  *
  * It mounts an empty reel, gives the unit a message buffer, writes a record, meets a packet that ends past memory, reads the record back in
- * reverse, and then steps back over all of it. At each stop it shows the registers, the message and the reel.
+ * reverse, meets a damaged block and mends it, and then steps back over all of it. At each stop it shows the registers, the message and the
+ * reel. At the end it mounts what is whole of a damaged reel.
  */
 #include <stdio.h>
 #include <stdlib.h>
@@ -53,16 +54,44 @@ static void store_words(size_t at, const uint16_t *words, size_t count)
 	store(at, bytes, 2 * count);
 }
 
-/* What the driver of the machine does: a packet in memory, as far as memory goes, its address into TSDB, and then the unit runs. */
-static void command_at(size_t at, uint16_t header, uint16_t pointer, uint16_t count)
+/* What is wrong with a block that a call had to read. */
+static const char *in_words(uint8_t fault)
+{
+	switch (fault) {
+	case TS11_FAULT_KIND: return "its kind is none of the three";
+	case TS11_FAULT_LENGTH: return "its length is none that it can have";
+	case TS11_FAULT_INDEX: return "its index, or its place, is not the one that is due";
+	case TS11_FAULT_PADDING: return "a byte behind its data is not 0";
+	case TS11_FAULT_CHECK: return "its check word is not the sum of its words";
+	default: return "nothing";
+	}
+}
+
+static ts11_answer advance(void)
+{
+	bool stepped, interrupt;
+	size_t block;
+	uint8_t fault;
+	ts11_answer answer = ts11_advance(&state, BUFFERS, &stepped, &interrupt, &block, &fault);
+	if (answer == TS11_BAD_BLOCK)
+		printf("  refusal 7, block %zu: %s\n", block, in_words(fault));
+	return answer;
+}
+
+/* What the driver of the machine does: a packet in memory, as far as memory goes, and its address into TSDB. */
+static void give_at(size_t at, uint16_t header, uint16_t pointer, uint16_t count)
 {
 	const uint16_t packet[4] = { header, pointer, 0, count };
 	size_t room = (sizeof memory - at) / 2;
-	bool stepped, interrupt;
-	size_t block;
 	store_words(at, packet, room < 4 ? room : 4);
 	must("TSDB", ts11_write_tsdb(&state, BUFFERS, TS11_TSDB(at)));
-	must("advance", ts11_advance(&state, BUFFERS, &stepped, &interrupt, &block));
+}
+
+/* .. and then the unit runs. */
+static void command_at(size_t at, uint16_t header, uint16_t pointer, uint16_t count)
+{
+	give_at(at, header, pointer, count);
+	must("advance", advance());
 }
 
 static void command(uint16_t header, uint16_t pointer, uint16_t count)
@@ -126,7 +155,7 @@ typedef struct stop {
 	uint8_t memory[sizeof memory], reel[sizeof reel];
 } stop;
 
-static stop stops[5];
+static stop stops[6];
 static int stop_count;
 
 static void make_stop(const char *name)
@@ -157,17 +186,66 @@ static int back_to(const stop *s)
 	return steps;
 }
 
-int main(void)
+/* Mounts as much of the reel as is whole, from block 0 on, and tells what was in the way. */
+static void mount(size_t end)
+{
+	ts11_answer answer;
+	size_t block;
+	uint8_t fault;
+	while ((answer = ts11_mount(&state, sizeof memory, reel, sizeof reel, sizeof journal, end, true, false, &block,
+	                            &fault)) == TS11_BAD_BLOCK) {
+		printf("  recorded end %zu: refusal 7, block %zu: %s\n", end, block, in_words(fault));
+		end = block; /* all before it is right, but this end may cut a record off; then its first block comes next */
+	}
+	must("mount", answer);
+}
+
+static void give_message_buffer(void)
 {
 	const uint16_t characteristics[4] = { MESSAGE, 0, TS11_MESSAGE_BYTES, 0 };
-	size_t block;
-	int steps = 0;
-
-	must("mount", ts11_mount(&state, sizeof memory, reel, sizeof reel, sizeof journal, 0, true, false, &block));
-	make_stop("an empty reel is mounted, on line");
-
 	store_words(CHARACTERISTICS, characteristics, 4);
 	command(TS11_WRITE_CHARACTERISTICS | TS11_ACK, CHARACTERISTICS, 8);
+}
+
+/* The reel's bytes are the host's, and may come to harm while a command waits. It is refused, and waits on until they are mended. */
+static void read_damaged(void)
+{
+	give_at(PACKET, TS11_READ_NEXT | TS11_ACK, BUFFER, 10);
+	ts11_state before = state;
+	reel[TS11_BLOCK_BYTES] ^= 1;
+	printf("a byte of the record is changed under a read that waits\n");
+	if (advance() != TS11_BAD_BLOCK || memcmp(&state, &before, sizeof state) != 0) {
+		printf("it is not refused, or the state is not what it was\n");
+		exit(1);
+	}
+	show_registers();
+	reel[TS11_BLOCK_BYTES] ^= 1;
+	must("advance", advance());
+}
+
+/* A reel from an archive: of its four blocks the third has come to harm. */
+static void mount_damaged(void)
+{
+	give_message_buffer();
+	command(TS11_WRITE | TS11_ACK | TS11_CVC, TEXT, 9);
+	command(TS11_WRITE | TS11_ACK, TEXT, 600);
+	command(TS11_WRITE_MARK | TS11_ACK, 0, 0);
+	printf("a reel of two records and a mark\n");
+	show_reel();
+	reel[2 * TS11_BLOCK + TS11_BLOCK_BYTES] ^= 1;
+	printf("a byte of it is changed, and what is whole is mounted\n");
+	mount(ts11_state_number(&state, TS11_AT_END));
+	show_reel();
+}
+
+int main(void)
+{
+	int steps = 0;
+
+	mount(0);
+	make_stop("an empty reel is mounted, on line");
+
+	give_message_buffer();
 	make_stop("the unit has a message buffer");
 
 	store(TEXT, "MONTH END", 9);
@@ -181,10 +259,15 @@ int main(void)
 	command(TS11_READ_PREVIOUS | TS11_ACK, BUFFER, 10);
 	make_stop("it is read back in reverse, to the high end of 10 bytes");
 
+	read_damaged();
+	make_stop("the byte is put right, and the same read is carried out");
+
 	for (int i = stop_count - 2; i >= 0; i--)
 		steps += back_to(&stops[i]);
 	if (ts11_step_back(&state, BUFFERS) != TS11_NO_ENTRY)
 		return 1;
 	printf("%d steps undone, and state, memory and reel were at each stop what they had been\n", steps);
+
+	mount_damaged();
 	return 0;
 }

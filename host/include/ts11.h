@@ -67,8 +67,8 @@ typedef size_t ts11_answer;
 /*
  * 1: a number of the state is out of range or out of step with another (position above the end, used journal above the
  *    journal, message buffer not allowed), or the bytes are no state's at all.
- * 7: the number of the first block at fault goes to *block. It is damaged, or is not the piece that is due, or begins a
- *    record that the recorded end cuts off. A command goes on waiting: mend the reel, and advance again.
+ * 7: the number of the first block at fault goes to *block, and what is wrong with it, one of the faults below, to
+ *    *fault. A command goes on waiting: mend the reel, and advance again.
  */
 #define TS11_DONE 0
 #define TS11_BAD_STATE 1    /* the state: see above */
@@ -80,6 +80,18 @@ typedef size_t ts11_answer;
 #define TS11_BAD_BLOCK 7    /* a block that must be read is damaged or out of place: see above */
 #define TS11_BAD_ENTRY 8    /* the newest entry's numbers don't fit, or it keeps a state that 1 refuses */
 #define TS11_JOURNAL_FULL 9 /* free journal less than the step's entry */
+
+/*
+ * The faults, as letters of ASCII. The block is looked at by itself, in the order below, and the first thing wrong with
+ * it is told: it is damaged, and another copy of the reel is wanted. A sound block has the fault index where it is out
+ * of place: it is not the piece that is due, or its record is cut off, by the recorded end or by block 0. What is wrong
+ * then may be this block, one beside it, or the recorded end.
+ */
+#define TS11_FAULT_KIND 'K'    /* the kind is none of the three */
+#define TS11_FAULT_LENGTH 'N'  /* the record's length is 0 or over 16,384; in a mark or gap it is not 0 */
+#define TS11_FAULT_INDEX 'I'   /* the record has no such piece; in a mark or gap the index is not 0; or out of place */
+#define TS11_FAULT_PADDING 'P' /* a data byte that is not used is not 0 */
+#define TS11_FAULT_CHECK 'C'   /* the check word is not the sum of the words before it */
 
 /* ---- the state ----------------------------------------------------------------------------------------------- */
 
@@ -132,11 +144,15 @@ static inline uint32_t ts11_state_number(const ts11_state *state, size_t at)
 /*
  * Mounts a reel: reads every block below the recorded end, sets position 0, the two switches, the lengths, and all
  * else as ts11_write_tssr does, and empties the journal. The state that it replaces is not looked at. memory_length
- * and journal_length are those of the buffers that later calls will be handed. Refusals 2, 3, 4, and 7 with *block;
- * else *block is 0. Not a step.
+ * and journal_length are those of the buffers that later calls will be handed. Refusals 2, 3, 4, and 7 with *block and
+ * *fault; else both are 0. Not a step.
+ *
+ * What stands before a block at fault is not lost: with *block as the recorded end the same reel's mount is answered 0,
+ * or 7 with the first block of the record that this end cuts off; with that block as the recorded end, 0.
  */
 ts11_answer ts11_mount(ts11_state *state, size_t memory_length, const uint8_t *reel, size_t reel_length,
-                       size_t journal_length, size_t recorded_end, bool online, bool write_lock, size_t *block);
+                       size_t journal_length, size_t recorded_end, bool online, bool write_lock, size_t *block,
+                       uint8_t *fault);
 
 /*
  * The CPU writes a word to TSDB: the address of a command packet, see TS11_TSDB. It clears RMR, NXM, class and SSR,
@@ -178,11 +194,12 @@ ts11_answer ts11_host_store(ts11_state *state, uint8_t *memory, size_t memory_le
  * The unit goes on by one move: it carries out the command that waits, whole. Or, where an attention is pending and
  * the unit owns the message buffer (since a release, or by the ACK of the command that waits), it sends that
  * instead, and a command that waits is lost. *stepped is false if there was nothing to do (idle; answer 0, nothing
- * changed), *interrupt true if the unit interrupts the CPU. Refusals 1 to 4, 7 with *block, 9; refused, *stepped
- * and *interrupt are false. *block is 0 unless the answer is 7. A step, if *stepped.
+ * changed), *interrupt true if the unit interrupts the CPU. Refusals 1 to 4, 7 with *block and *fault, 9; refused,
+ * *stepped and *interrupt are false. *block and *fault are 0 unless the answer is 7. A step, if *stepped.
  */
 ts11_answer ts11_advance(ts11_state *state, uint8_t *memory, size_t memory_length, uint8_t *reel, size_t reel_length,
-                         uint8_t *journal, size_t journal_length, bool *stepped, bool *interrupt, size_t *block);
+                         uint8_t *journal, size_t journal_length, bool *stepped, bool *interrupt, size_t *block,
+                         uint8_t *fault);
 
 /* Undoes the newest step that still stands. Its cost is that of the bytes it brings back. Refusals 1 to 4, 6, 8. */
 ts11_answer ts11_step_back(ts11_state *state, uint8_t *memory, size_t memory_length, uint8_t *reel, size_t reel_length,

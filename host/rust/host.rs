@@ -1,7 +1,7 @@
-//! A host in Rust: a record written and read back, and every step undone.
+//! A host in Rust: a record written and read back, what a block at fault gives, and every step undone.
 mod ts11;
 
-use ts11::{Advanced, Buffers, Refused, Register, State, Switch};
+use ts11::{Advanced, BadBlock, Buffers, Fault, Refused, Register, State, Switch};
 
 const PACKET: usize = 0x100;
 const MESSAGE: usize = 0x200;
@@ -21,10 +21,30 @@ fn words(words: &[u16]) -> Vec<u8> {
     words.iter().flat_map(|w| w.to_le_bytes()).collect()
 }
 
-fn command(state: &mut State, b: &mut Buffers, header: u16, pointer: usize, count: u16) -> Advanced {
+/// A command that waits.
+fn give(state: &mut State, b: &mut Buffers, header: u16, pointer: usize, count: u16) {
     state.host_store(b, PACKET, &words(&[header | ACK, pointer as u16, 0, count])).unwrap();
     state.write_tsdb(b, PACKET as u16).unwrap();
+}
+
+fn command(state: &mut State, b: &mut Buffers, header: u16, pointer: usize, count: u16) -> Advanced {
+    give(state, b, header, pointer, count);
     state.advance(b).unwrap()
+}
+
+/// Refusal 7 for block 0.
+fn bad(fault: Fault) -> Refused {
+    Refused { number: 7, block: Some(BadBlock { number: 0, fault }) }
+}
+
+/// One byte of block 0 is another: a mount and the command that waits are refused for it, and nothing changes.
+fn expect_refused(state: &mut State, b: &mut Buffers, at: usize, byte: u8, fault: Fault) {
+    let (before, right, mut other) = (*state, b.reel[at], State::NONE);
+    b.reel[at] = byte;
+    assert_eq!(other.mount(b, 1, true, false), Err(bad(fault)));
+    assert_eq!(state.advance(b), Err(bad(fault)));
+    assert_eq!((*state, other), (before, State::NONE));
+    b.reel[at] = right;
 }
 
 fn main() {
@@ -32,7 +52,8 @@ fn main() {
     let mut b = Buffers { memory: &mut memory, reel: &mut reel, journal: &mut journal };
     let mut state = State::NONE;
     assert_eq!(state.read_register(Register::Tssr), Err(1));
-    assert_eq!(state.mount(&b, 1, true, false), Err(Refused { number: 7, block: 0 }));
+    assert_eq!(state.mount(&b, 1, true, false), Err(bad(Fault::Kind)));
+    assert_eq!(state.mount(&b, 129, true, false), Err(Refused { number: 3, block: None }));
     assert_eq!(state, State::NONE);
     state.mount(&b, 0, true, false).unwrap();
     assert_eq!(state.read_register(Register::Tssr), Ok(0x0480));
@@ -42,7 +63,13 @@ fn main() {
     command(&mut state, &mut b, WRITE_CHARACTERISTICS | CVC, DATA, 8);
     state.host_store(&mut b, DATA, b"MONTH END").unwrap();
     command(&mut state, &mut b, WRITE, DATA, 9);
-    command(&mut state, &mut b, READ_PREVIOUS, BACK, 10);
+    give(&mut state, &mut b, READ_PREVIOUS, BACK, 10);
+    expect_refused(&mut state, &mut b, 0, 4, Fault::Kind);
+    expect_refused(&mut state, &mut b, 2, 0, Fault::Length);
+    expect_refused(&mut state, &mut b, 4, 1, Fault::Index);
+    expect_refused(&mut state, &mut b, 509, 1, Fault::Padding);
+    expect_refused(&mut state, &mut b, 6, b'm', Fault::Check);
+    state.advance(&mut b).unwrap();
     assert_eq!(&b.memory[BACK..BACK + 10], b"\0MONTH END");
     assert_eq!(state.read_register(Register::Tssr), Ok(0x8084));
     assert_eq!(state.read_register(Register::Tsba), Ok(PACKET as u16));
@@ -58,5 +85,5 @@ fn main() {
     }
     assert_eq!(state.step_back(&mut b), Err(6));
     assert!(state == first && b.memory[..] == memory_then[..] && b.reel[..] == reel_then[..]);
-    println!("Rust: {steps} steps undone, and state, memory and reel are what they were");
+    println!("Rust: 5 faults told, {steps} steps undone, and state, memory and reel are what they were");
 }

@@ -24,11 +24,42 @@ pub struct Advanced {
     pub interrupt: bool,
 }
 
-/// A refusal, and with 7 the block at fault.
+/// What is wrong with a block, in the order in which it is looked at. A sound block that is out of place has the fault `Index`.
+#[derive(Clone, Copy, PartialEq, Eq, Debug)]
+pub enum Fault {
+    Kind,
+    Length,
+    Index,
+    Padding,
+    Check,
+}
+
+impl Fault {
+    /// By its letter; the library gives one of the five with refusal 7, and 0 with every other answer.
+    fn by(letter: u8) -> Option<Fault> {
+        match letter {
+            b'K' => Some(Fault::Kind),
+            b'N' => Some(Fault::Length),
+            b'I' => Some(Fault::Index),
+            b'P' => Some(Fault::Padding),
+            b'C' => Some(Fault::Check),
+            _ => None,
+        }
+    }
+}
+
+/// A block at fault.
+#[derive(Clone, Copy, PartialEq, Eq, Debug)]
+pub struct BadBlock {
+    pub number: usize,
+    pub fault: Fault,
+}
+
+/// A refusal of a mount or an advance, and with 7 the block at fault.
 #[derive(Clone, Copy, PartialEq, Eq, Debug)]
 pub struct Refused {
     pub number: Refusal,
-    pub block: usize,
+    pub block: Option<BadBlock>,
 }
 
 #[derive(Clone, Copy, PartialEq, Eq, Debug)]
@@ -58,6 +89,7 @@ pub mod exported {
             online: bool,
             write_lock: bool,
             block: *mut usize,
+            fault: *mut u8,
         ) -> usize;
         pub fn ts11_write_tsdb(
             state: *mut State,
@@ -114,6 +146,7 @@ pub mod exported {
             stepped: *mut bool,
             interrupt: *mut bool,
             block: *mut usize,
+            fault: *mut u8,
         ) -> usize;
         pub fn ts11_step_back(
             state: *mut State,
@@ -133,6 +166,12 @@ fn answered(number: usize) -> Result<(), Refusal> {
     } else {
         Err(number)
     }
+}
+
+/// The same of a call that may be refused with 7.
+fn answered_with(number: usize, block: usize, letter: u8) -> Result<(), Refused> {
+    let block = Fault::by(letter).map(|fault| BadBlock { number: block, fault });
+    answered(number).map_err(|number| Refused { number, block })
 }
 
 /// A step on the state and all three buffers, with its further arguments.
@@ -163,7 +202,7 @@ impl State {
     }
 
     pub fn mount(&mut self, b: &Buffers, recorded_end: usize, online: bool, write_lock: bool) -> Result<(), Refused> {
-        let mut block = 0;
+        let (mut block, mut fault) = (0, 0);
         let number = unsafe {
             exported::ts11_mount(
                 self,
@@ -175,9 +214,10 @@ impl State {
                 online,
                 write_lock,
                 &mut block,
+                &mut fault,
             )
         };
-        answered(number).map_err(|number| Refused { number, block })
+        answered_with(number, block, fault)
     }
 
     pub fn write_tsdb(&mut self, b: &mut Buffers, word: u16) -> Result<(), Refusal> {
@@ -203,9 +243,9 @@ impl State {
     }
 
     pub fn advance(&mut self, b: &mut Buffers) -> Result<Advanced, Refused> {
-        let (mut stepped, mut interrupt, mut block) = (false, false, 0);
-        let number = step!(ts11_advance, self, b, &mut stepped, &mut interrupt, &mut block);
-        answered(number).map_err(|number| Refused { number, block })?;
+        let (mut stepped, mut interrupt, mut block, mut fault) = (false, false, 0, 0);
+        let number = step!(ts11_advance, self, b, &mut stepped, &mut interrupt, &mut block, &mut fault);
+        answered_with(number, block, fault)?;
         Ok(Advanced { stepped, interrupt })
     }
 

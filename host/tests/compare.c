@@ -5,8 +5,9 @@
  *
  * Each round makes up buffers, a reel and a state, and then makes some 70 calls on both. After each call answer,
  * out-parameters, state, memory, reel and used journal must be the same, byte for byte. The first difference is told,
- * with exit status 1; so is a run in which some refusal, class, command or status bit never occurred, or one of the ways in
- * which a packet ends past memory (some 4,000 rounds have them all). The same seed makes the same calls.
+ * with exit status 1; so is a run in which some refusal, class, command or status bit never occurred, or some fault in a
+ * mount, forward or in reverse, or one of the ways in which a packet ends past memory (some 4,000 rounds have them all).
+ * The same seed makes the same calls.
  */
 #include "plain.h"
 #include "ts11.h"
@@ -73,15 +74,19 @@ static struct lengths handed; /* the lengths that calls are handed: the same, bu
 struct out {
 	ts11_answer answer;
 	size_t block;
+	uint8_t fault;
 	bool stepped, interrupt;
 	uint16_t word;
 };
 
 /* Out-parameters as they are before a call, so that one left alone is seen. */
-static const struct out unset = {.answer = 99, .block = 12345, .stepped = true, .interrupt = true, .word = 0x5A5A};
+static const struct out unset = {
+	.answer = 99, .block = 12345, .fault = 0x5A, .stepped = true, .interrupt = true, .word = 0x5A5A,
+};
 
 struct calls {
-	ts11_answer (*mount)(ts11_state *, size_t, const uint8_t *, size_t, size_t, size_t, bool, bool, size_t *);
+	ts11_answer (*mount)(ts11_state *, size_t, const uint8_t *, size_t, size_t, size_t, bool, bool, size_t *,
+	                     uint8_t *);
 	ts11_answer (*write_tsdb)(ts11_state *, uint8_t *, size_t, uint8_t *, size_t, uint8_t *, size_t, uint16_t);
 	ts11_answer (*write_tssr)(ts11_state *, uint8_t *, size_t, uint8_t *, size_t, uint8_t *, size_t, uint16_t);
 	ts11_answer (*operate)(ts11_state *, uint8_t *, size_t, uint8_t *, size_t, uint8_t *, size_t, bool, bool);
@@ -89,7 +94,7 @@ struct calls {
 	ts11_answer (*host_store)(ts11_state *, uint8_t *, size_t, const uint8_t *, size_t, uint8_t *, size_t, size_t,
 	                          const uint8_t *, size_t);
 	ts11_answer (*advance)(ts11_state *, uint8_t *, size_t, uint8_t *, size_t, uint8_t *, size_t, bool *, bool *,
-	                       size_t *);
+	                       size_t *, uint8_t *);
 	ts11_answer (*step_back)(ts11_state *, uint8_t *, size_t, uint8_t *, size_t, const uint8_t *, size_t);
 };
 
@@ -121,6 +126,14 @@ static size_t calls_made, idles, undone;
 static size_t answers[TS11_JOURNAL_FULL + 1], classes[TS11_CLASS_LOST + 1], carried_out[COMMANDS];
 static unsigned xst0_seen, xst3_seen;
 static size_t overhung[OVERHANG_WAYS];
+
+/* Who met a block at fault, and the fault: of the block itself, or last, of its place. */
+enum meeting { BY_MOUNT, FORWARD, REVERSE, MEETINGS };
+static const char *const meeting_names[MEETINGS] = {"mount", "forward", "reverse"};
+static const uint8_t faults[] = {TS11_FAULT_KIND,    TS11_FAULT_LENGTH, TS11_FAULT_INDEX,
+                                 TS11_FAULT_PADDING, TS11_FAULT_CHECK,  TS11_FAULT_INDEX};
+enum { FAULTS = sizeof faults, OWN_INDEX = 2, OUT_OF_PLACE = FAULTS - 1 };
+static size_t met_at_fault[MEETINGS][FAULTS];
 
 static uint32_t number_at(const uint8_t *at)
 {
@@ -219,6 +232,8 @@ static void alike_out(const char *call, const struct out *a, const struct out *b
 		differ(call, "answer: library %zu, plain %zu", a->answer, b->answer);
 	if (a->block != b->block)
 		differ(call, "block: library %zu, plain %zu", a->block, b->block);
+	if (a->fault != b->fault)
+		differ(call, "fault of block %zu: library %u, plain %u", a->block, a->fault, b->fault);
 	if (a->stepped != b->stepped)
 		differ(call, "stepped: library %d, plain %d", a->stepped, b->stepped);
 	if (a->interrupt != b->interrupt)
@@ -246,6 +261,30 @@ static struct out alike(const char *call, const struct out o[2], const ts11_stat
 	return o[0];
 }
 
+/* Is the index wrong by itself? The kind and the length are right. */
+static bool index_is_wrong(const uint8_t *block)
+{
+	uint32_t n = word_at(block + TS11_BLOCK_LENGTH), i = word_at(block + TS11_BLOCK_INDEX);
+	return word_at(block + TS11_BLOCK_KIND) == TS11_KIND_RECORD ? i * TS11_BLOCK_DATA >= n : i != 0;
+}
+
+/* Counts a block at fault; any other answer is told with no fault. */
+static void count_fault(const char *call, const struct out *o, enum meeting meeting)
+{
+	size_t k = 0;
+	if (o->answer != TS11_BAD_BLOCK && (o->block != 0 || o->fault != 0))
+		differ(call, "answer %zu, and yet block %zu, fault %u", o->answer, o->block, o->fault);
+	if (o->answer != TS11_BAD_BLOCK)
+		return;
+	while (k < FAULTS && faults[k] != o->fault)
+		k++;
+	if (k == FAULTS)
+		differ(call, "fault %u", o->fault);
+	if (k == OWN_INDEX && !index_is_wrong(worlds[0].reel + o->block * TS11_BLOCK))
+		k = OUT_OF_PLACE;
+	met_at_fault[meeting][k]++;
+}
+
 /* ---- the eight calls, on both ------------------------------------------------------------------------------------ */
 
 static struct out try_mount(size_t end, bool online, bool locked)
@@ -255,9 +294,11 @@ static struct out try_mount(size_t end, bool online, bool locked)
 	for (int i = 0; i < 2; i++) {
 		struct world *w = &worlds[i];
 		o[i].answer = units[i].mount(&w->state, handed.memory, w->reel, handed.reel, handed.journal, end, online,
-		                             locked, &o[i].block);
+		                             locked, &o[i].block, &o[i].fault);
 	}
-	return alike("mount", o, &before);
+	struct out done = alike("mount", o, &before);
+	count_fault("mount", &done, BY_MOUNT);
+	return done;
 }
 
 static struct out try_tsdb(uint16_t word)
@@ -340,9 +381,25 @@ static struct out advance_both(void)
 	for (int i = 0; i < 2; i++) {
 		struct world *w = &worlds[i];
 		o[i].answer = units[i].advance(&w->state, w->memory, handed.memory, w->reel, handed.reel, w->journal,
-		                               handed.journal, &o[i].stepped, &o[i].interrupt, &o[i].block);
+		                               handed.journal, &o[i].stepped, &o[i].interrupt, &o[i].block, &o[i].fault);
 	}
 	return alike("advance", o, &before);
+}
+
+/* The way that a command reads its first blocks; a reread reads the same ones again on its way back. */
+static enum meeting way_of(uint32_t header)
+{
+	switch (header & 0x0F1F) {
+	case TS11_READ_PREVIOUS:
+	case TS11_REREAD_PREVIOUS:
+	case TS11_WRITE_RETRY:
+	case TS11_SPACE_RECORDS_REVERSE:
+	case TS11_SKIP_MARKS_REVERSE:
+	case TS11_WRITE_MARK_RETRY:
+		return REVERSE;
+	default:
+		return FORWARD;
+	}
 }
 
 static struct out try_advance(void)
@@ -351,6 +408,7 @@ static struct out try_advance(void)
 	uint32_t pointer = state_at(TS11_AT_POINTER);
 	uint32_t header = (size_t)pointer + 2 <= held.memory ? word_at(worlds[0].memory + pointer) : 0;
 	struct out done = advance_both();
+	count_fault("advance", &done, way_of(header));
 	if (done.stepped)
 		count_advance(&before, header);
 	else
@@ -441,14 +499,18 @@ static size_t pick_journal(void)
 	}
 }
 
+static void put_word(uint8_t *at, size_t word)
+{
+	at[0] = (uint8_t)word;
+	at[1] = (uint8_t)(word >> 8);
+}
+
 static void set_check(uint8_t *block)
 {
 	uint32_t sum = 0;
 	for (size_t i = 0; i < TS11_BLOCK_CHECK; i += 2)
 		sum += word_at(block + i);
-	sum %= 65535;
-	block[TS11_BLOCK_CHECK] = (uint8_t)sum;
-	block[TS11_BLOCK_CHECK + 1] = (uint8_t)(sum >> 8);
+	put_word(block + TS11_BLOCK_CHECK, sum % 65535);
 }
 
 static void put_block(size_t k, unsigned kind, size_t n, size_t i)
@@ -457,8 +519,7 @@ static void put_block(size_t k, unsigned kind, size_t n, size_t i)
 	size_t left = n - i * TS11_BLOCK_DATA;
 	memset(b, 0, TS11_BLOCK);
 	b[TS11_BLOCK_KIND] = (uint8_t)kind;
-	b[TS11_BLOCK_LENGTH] = (uint8_t)n;
-	b[TS11_BLOCK_LENGTH + 1] = (uint8_t)(n >> 8);
+	put_word(b + TS11_BLOCK_LENGTH, n);
 	b[TS11_BLOCK_INDEX] = (uint8_t)i;
 	fill_random(b + TS11_BLOCK_BYTES, left < TS11_BLOCK_DATA ? left : TS11_BLOCK_DATA);
 	set_check(b);
@@ -533,12 +594,39 @@ static void check_wrongly(uint8_t *b)
 {
 	set_check(b);
 	uint32_t w = (word_at(b + TS11_BLOCK_BYTES) + 65535 - word_at(b + TS11_BLOCK_CHECK)) % 65535;
-	b[TS11_BLOCK_BYTES] = (uint8_t)w;
-	b[TS11_BLOCK_BYTES + 1] = (uint8_t)(w >> 8);
-	b[TS11_BLOCK_CHECK] = b[TS11_BLOCK_CHECK + 1] = 0xFF;
+	put_word(b + TS11_BLOCK_BYTES, w);
+	put_word(b + TS11_BLOCK_CHECK, 0xFFFF);
 }
 
-/* One block of what is built comes to harm, with its check word made right again in half the cases. */
+/* A length about the limit, or about a whole number of blocks. */
+static void harm_length(uint8_t *b)
+{
+	static const size_t corners[] = {0, 1, 504, 505, 1008, 1009, 16384, 16385, 65535};
+	put_word(b + TS11_BLOCK_LENGTH, corners[below(sizeof corners / sizeof corners[0])]);
+}
+
+/* An index about the record's last. */
+static void harm_index(uint8_t *b)
+{
+	size_t pieces = (word_at(b + TS11_BLOCK_LENGTH) + TS11_BLOCK_DATA - 1) / TS11_BLOCK_DATA;
+	put_word(b + TS11_BLOCK_INDEX, pieces + below(4) - 2);
+}
+
+static void harm(uint8_t *b)
+{
+	switch (below(8)) {
+	case 0: b[below(TS11_BLOCK)] ^= (uint8_t)(1 << below(8)); break;
+	case 1: b[below(TS11_BLOCK_BYTES)] = (uint8_t)below(one_in(2) ? 4 : 256); break;
+	case 2: b[TS11_BLOCK_CHECK - 1] = (uint8_t)below(256); break;
+	case 3: memmove(b, built_block(), TS11_BLOCK); break;
+	case 4: b[TS11_BLOCK_BYTES + below(TS11_BLOCK_DATA)] ^= (uint8_t)(1 + below(255)); break;
+	case 5: harm_length(b); break;
+	case 6: harm_index(b); break;
+	default: check_wrongly(b); break;
+	}
+}
+
+/* One block of what is built comes to harm, or to two; in half the cases its check word is made right again. */
 static void damage(void)
 {
 	if (built_end == built_from)
@@ -546,14 +634,9 @@ static void damage(void)
 	if (one_in(8))
 		build_too_long();
 	uint8_t *b = built_block();
-	switch (below(6)) {
-	case 0: b[below(TS11_BLOCK)] ^= (uint8_t)(1 << below(8)); break;
-	case 1: b[below(TS11_BLOCK_BYTES)] = (uint8_t)below(one_in(2) ? 4 : 256); break;
-	case 2: b[TS11_BLOCK_CHECK - 1] = (uint8_t)below(256); break;
-	case 3: memmove(b, built_block(), TS11_BLOCK); break;
-	case 4: b[TS11_BLOCK_BYTES + below(TS11_BLOCK_DATA)] ^= (uint8_t)(1 + below(255)); break;
-	default: check_wrongly(b); break;
-	}
+	harm(b);
+	if (one_in(3))
+		harm(b);
 	if (one_in(2))
 		set_check(b);
 	memcpy(worlds[1].reel + (b - worlds[0].reel), b, TS11_BLOCK);
@@ -1004,9 +1087,22 @@ static bool overhang_missed(void)
 	return times != 0;
 }
 
+static bool fault_missed(void)
+{
+	bool any = false;
+	for (int i = 0; i < MEETINGS; i++)
+		for (int k = 0; k < FAULTS; k++)
+			if (met_at_fault[i][k] == 0) {
+				fprintf(stderr, "compare: %s: fault %c%s never occurred\n", meeting_names[i], faults[k],
+				        k == OUT_OF_PLACE ? ", a sound block out of place," : "");
+				any = true;
+			}
+	return any;
+}
+
 static bool anything_missed(void)
 {
-	bool any = missed("idle advance", 0, idles) | overhang_missed();
+	bool any = missed("idle advance", 0, idles) | overhang_missed() | fault_missed();
 	any |= missed("step back", 0, undone);
 	for (unsigned i = TS11_BAD_STATE; i <= TS11_JOURNAL_FULL; i++)
 		any |= missed("refusal", i, answers[i]);
@@ -1038,6 +1134,12 @@ int main(int argc, char **argv)
 	printf("; classes 0 to 6:");
 	for (size_t i = 0; i <= TS11_CLASS_LOST; i++)
 		printf(" %zu", classes[i]);
+	printf("; faults K N I P C and out of place");
+	for (int i = 0; i < MEETINGS; i++) {
+		printf(", %s:", meeting_names[i]);
+		for (int k = 0; k < FAULTS; k++)
+			printf(" %zu", met_at_fault[i][k]);
+	}
 	printf(")\n");
 	return 0;
 }

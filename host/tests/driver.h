@@ -68,6 +68,7 @@ struct ending {
 	ts11_answer answer;
 	bool stepped, interrupt;
 	size_t block, entry;
+	uint8_t fault;
 	uint16_t tssr;
 	bool sent; /* a message went to MESSAGE */
 	uint16_t header, residual, xst0, xst3;
@@ -83,6 +84,7 @@ static inline struct ending advance_to_end(struct unit *u)
 		.stepped = r.stepped,
 		.interrupt = r.interrupt,
 		.block = r.block,
+		.fault = r.fault,
 		.entry = used(u) - before,
 		.tssr = tssr(u),
 		.sent = word_at(message) != NO_MESSAGE,

@@ -110,10 +110,13 @@ static void test_mount_limits(void)
 		struct buffer state = make_buffer(TS11_STATE_BYTES, GUARD), reel = make_buffer(rows[k].reel, 0);
 		ts11_state *s = (ts11_state *)state.at;
 		size_t block = 1;
+		uint8_t fault = 1;
 		context("%s", rows[k].name);
-		EXPECT("mount", ts11_mount(s, rows[k].memory, reel.at, rows[k].reel, rows[k].journal, 0, true, false, &block),
+		EXPECT("mount",
+		       ts11_mount(s, rows[k].memory, reel.at, rows[k].reel, rows[k].journal, 0, true, false, &block, &fault),
 		       rows[k].answer);
 		EXPECT("*block", block, 0);
+		EXPECT("*fault", fault, 0);
 		if (rows[k].answer == TS11_DONE)
 			EXPECT("blocks", ts11_state_number(s, TS11_AT_BLOCKS), rows[k].reel / TS11_BLOCK);
 		free_buffer(&reel);
@@ -247,6 +250,111 @@ static void test_other_answers(void)
 	u = make_unit(MEMORY_BYTES, TS11_BLOCK, TS11_ENTRY_HEAD - 1, GUARD);
 	EXPECT("a mount with a small journal", mount(&u, 0, true, false).answer, TS11_DONE);
 	EXPECT("an entry with no room", write_tsdb(&u, 0).answer, TS11_JOURNAL_FULL);
+}
+
+/* ---- faults ------------------------------------------------------------------------------------------------------ */
+
+/* One thing is wrong with a block: this word. */
+static const struct harm {
+	const char *name;
+	size_t at;
+	unsigned word;
+	uint8_t fault;
+} harms[] = {
+	{ "kind", TS11_BLOCK_KIND, TS11_KIND_GAP + 1, TS11_FAULT_KIND },
+	{ "length", TS11_BLOCK_LENGTH, 0, TS11_FAULT_LENGTH },
+	{ "index", TS11_BLOCK_INDEX, 1, TS11_FAULT_INDEX },
+	{ "padding", TS11_BLOCK_BYTES + TS11_BLOCK_DATA - 2, 1, TS11_FAULT_PADDING },
+	{ "check", TS11_BLOCK_CHECK, 0, TS11_FAULT_CHECK },
+};
+
+static void harm_block(uint8_t *block, const struct harm *h)
+{
+	put_word(block + h->at, h->word);
+	if (h->at != TS11_BLOCK_CHECK)
+		seal(block);
+}
+
+static void expect_fault(ts11_answer answer, size_t block, uint8_t fault, const struct harm *h)
+{
+	EXPECT("answer", answer, TS11_BAD_BLOCK);
+	EXPECT("*block", block, HERE);
+	EXPECT("*fault", fault, h->fault);
+}
+
+/* The command waits; where the reel is mended, it is carried out. */
+static void expect_fault_read(const struct harm *h, bool reverse)
+{
+	uint8_t whole[TS11_BLOCK];
+	ready(0, HERE + reverse);
+	uint8_t *block = u.reel.at + HERE * TS11_BLOCK;
+	memcpy(whole, block, TS11_BLOCK);
+	harm_block(block, h);
+	struct ending e = command(&u, (reverse ? TS11_READ_PREVIOUS : TS11_READ_NEXT) | TS11_ACK, DATA, 9);
+	expect_fault(e.answer, e.block, e.fault, h);
+	EXPECT("SSR: the command goes on waiting", number(&u, TS11_AT_SSR), 0);
+	memcpy(block, whole, TS11_BLOCK);
+	EXPECT("the reel mended", advance(&u).answer, TS11_DONE);
+	EXPECT_BYTES("its record", u.memory.at + DATA, (const uint8_t *)"abcdefghi", 9);
+}
+
+static void test_faults(void)
+{
+	ROWS(k, harms) {
+		context("fault %s", harms[k].name);
+		mounted();
+		harm_block(u.reel.at + HERE * TS11_BLOCK, &harms[k]);
+		struct result r = mount(&u, TAPE_END, true, false);
+		expect_fault(r.answer, r.block, r.fault, &harms[k]);
+		expect_fault_read(&harms[k], false);
+		expect_fault_read(&harms[k], true);
+	}
+	context("");
+}
+
+/* Whatever stood in *block and *fault before. */
+static void expect_no_fault(const char *what, struct unit *v, enum kind kind, ts11_answer wanted)
+{
+	static const uint8_t before[] = { 0, 1, TS11_FAULT_CHECK, 0xFF };
+	struct call c = { .kind = kind, .recorded_end = TAPE_END };
+	ROWS(k, before) {
+		ts11_state kept = *state_of(v);
+		struct outs o;
+		memset(&o, before[k], sizeof o);
+		context("%s, over the byte %u", what, before[k]);
+		EXPECT("answer", put(v, &c, &o), wanted);
+		EXPECT("*block", o.block, 0);
+		EXPECT("*fault", o.fault, 0);
+		*state_of(v) = kept;
+	}
+	context("");
+}
+
+static void test_no_faults(void)
+{
+	struct unit memory, reel, journal;
+	ready(0, HERE);
+	memory = handed(1, 0, 0);
+	reel = handed(0, 1, 0);
+	journal = handed(0, 0, 1);
+	expect_no_fault("an idle advance", &u, ADVANCE, TS11_DONE);
+	put_packet(&u, TS11_READ_NEXT | TS11_ACK, DATA, 9);
+	write_tsdb(&u, TS11_TSDB(PACKET));
+	expect_no_fault("a step", &u, ADVANCE, TS11_DONE);
+	expect_no_fault("an advance with another memory", &memory, ADVANCE, TS11_BAD_MEMORY);
+	expect_no_fault("an advance with another reel", &reel, ADVANCE, TS11_BAD_REEL);
+	expect_no_fault("an advance with another journal", &journal, ADVANCE, TS11_BAD_JOURNAL);
+	set_number(&u, TS11_AT_USED, JOURNAL_BYTES);
+	expect_no_fault("an advance without room", &u, ADVANCE, TS11_JOURNAL_FULL);
+	set_number(&u, TS11_AT_USED, JOURNAL_BYTES + 1);
+	expect_no_fault("an advance from a number out of range", &u, ADVANCE, TS11_BAD_STATE);
+	set_number(&u, TS11_AT_RMR, 2);
+	expect_no_fault("an advance from no state's bytes", &u, ADVANCE, TS11_BAD_STATE);
+	expect_no_fault("a mount", &u, MOUNT, TS11_DONE);
+	expect_no_fault("a mount with an odd memory", &memory, MOUNT, TS11_BAD_MEMORY);
+	expect_no_fault("a mount with no whole reel", &reel, MOUNT, TS11_BAD_REEL);
+	journal.journal.length = TS11_JOURNAL_MAX + 1;
+	expect_no_fault("a mount with too long a journal", &journal, MOUNT, TS11_BAD_JOURNAL);
 }
 
 /* ---- the state: fields driven ------------------------------------------------------------------------------------ */
@@ -1173,6 +1281,8 @@ static void test_all(void)
 	test_eot_margin();
 	test_answers_to_lengths();
 	test_other_answers();
+	test_faults();
+	test_no_faults();
 	drive_switches();
 	drive_registers();
 	drive_characteristics();

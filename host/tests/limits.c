@@ -1,6 +1,7 @@
 /*
- * limits: lengths and numbers at every limit and just outside it, and one session with memory, reel and journal of full
- * size. Every buffer is an allocation of exactly its length. A refused call must have changed nothing.
+ * limits: lengths and numbers at every limit and just outside it, blocks with every fault, and one session with memory,
+ * reel and journal of full size. Every buffer is an allocation of exactly its length. A refused call must have changed
+ * nothing.
  * Compile with -I host/include and link with libts11.a.
  */
 #include "driver.h"
@@ -45,14 +46,17 @@ static void expect_mount(const struct lengths *l, size_t gaps, ts11_answer wante
 	struct unit u = make_unit(0, l->reel, 0, 0);
 	struct copy state = { 0 }, reel = { 0 };
 	size_t block = 1;
+	uint8_t fault = 1;
 	memset(u.state.at, 0xD5, u.state.length);
 	lay_gaps(u.reel.at, gaps);
 	take_copy(&state, u.state.at, u.state.length);
 	take_copy(&reel, u.reel.at, u.reel.length);
 	EXPECT("answer",
-	       ts11_mount(state_of(&u), l->memory, u.reel.at, l->reel, l->journal, l->recorded_end, true, false, &block),
+	       ts11_mount(state_of(&u), l->memory, u.reel.at, l->reel, l->journal, l->recorded_end, true, false, &block,
+	                  &fault),
 	       wanted);
 	EXPECT("*block", block, 0);
+	EXPECT("*fault", fault, wanted == TS11_BAD_BLOCK ? TS11_FAULT_KIND : 0);
 	EXPECT_BYTES("the reel", u.reel.at, reel.bytes, reel.length);
 	if (wanted == TS11_DONE)
 		expect_mounted(state_of(&u), l);
@@ -584,6 +588,319 @@ static void test_memory_ends(void)
 	}
 }
 
+/* ---- blocks at fault --------------------------------------------------------------------------------------------- */
+
+/* M 0, R 1 1100, M 4, R 5 600, G 7, M 8; what lies above is zeros. */
+enum { HARMED_BLOCKS = 12, HARMED_END = 9, LONG = 1100, SHORT = 600 };
+
+static struct unit harmed;
+static struct picture unharmed; /* with a message buffer, at block 0 */
+
+static uint8_t *harmed_block(size_t block)
+{
+	return harmed.reel.at + block * TS11_BLOCK;
+}
+
+static void make_harmed(void)
+{
+	harmed = make_unit(4 * SMALL_JOURNAL, HARMED_BLOCKS * TS11_BLOCK, 4 * SMALL_JOURNAL, GUARD);
+	uint8_t *reel = harmed.reel.at;
+	size_t at = lay_record(reel, lay_mark(reel, 0), host, LONG);
+	at = lay_record(reel, lay_mark(reel, at), host, SHORT);
+	EXPECT("the tape's end", lay_mark(reel, lay_gap(reel, at)), HARMED_END);
+	EXPECT("the mount", mount(&harmed, HARMED_END, true, false).answer, TS11_DONE);
+	characteristics(&harmed, TS11_CVC, MESSAGE, TS11_MESSAGE_BYTES, 0);
+	take_picture(&unharmed, &harmed);
+}
+
+static void free_harmed(void)
+{
+	free_picture(&unharmed);
+	free_unit(&harmed);
+}
+
+/* Every command that reads blocks that way in its first stage, or its only one. */
+static const uint16_t forward_commands[] = { TS11_READ_NEXT, TS11_REREAD_NEXT, TS11_REREAD_NEXT | TS11_OPP,
+	                                         TS11_SPACE_RECORDS, TS11_SKIP_MARKS };
+static const uint16_t reverse_commands[] = { TS11_READ_PREVIOUS,
+	                                         TS11_REREAD_PREVIOUS,
+	                                         TS11_REREAD_PREVIOUS | TS11_OPP,
+	                                         TS11_WRITE_RETRY,
+	                                         TS11_SPACE_RECORDS_REVERSE,
+	                                         TS11_SKIP_MARKS_REVERSE,
+	                                         TS11_WRITE_MARK_RETRY };
+
+/* A command from a position on the reel as it stands. */
+static struct ending run_harmed(uint16_t header, size_t position, size_t end)
+{
+	bool spaces = (header & 0x1F) == (TS11_SPACE_RECORDS & 0x1F);
+	memcpy(harmed.state.at, unharmed.state.bytes, TS11_STATE_BYTES);
+	set_number(&harmed, TS11_AT_POSITION, (uint32_t)position);
+	set_number(&harmed, TS11_AT_END, (uint32_t)end);
+	return command(&harmed, header | TS11_ACK, spaces ? 1 : DATA, 5);
+}
+
+static void expect_command_fault(uint16_t header, size_t position, size_t end, size_t block, uint8_t fault)
+{
+	char row[sizeof expectations.context];
+	snprintf(row, sizeof row, "%s", expectations.context);
+	context("%.120s, command %x", row, header);
+	struct ending e = run_harmed(header, position, end);
+	EXPECT("answer", e.answer, TS11_BAD_BLOCK);
+	EXPECT("*block", e.block, block);
+	EXPECT("*fault", e.fault, fault);
+	EXPECT("the command waits", number(&harmed, TS11_AT_SSR), 0);
+	context("%s", row);
+}
+
+static void expect_forward_faults(size_t position, size_t end, size_t block, uint8_t fault)
+{
+	ROWS(k, forward_commands)
+		expect_command_fault(forward_commands[k], position, end, block, fault);
+}
+
+static void expect_reverse_faults(size_t position, size_t end, size_t block, uint8_t fault)
+{
+	ROWS(k, reverse_commands)
+		expect_command_fault(reverse_commands[k], position, end, block, fault);
+}
+
+/* What stands before the block at fault can be mounted: up to it, or up to the record that it was to be a piece of. */
+static void expect_rest_mounted(size_t block)
+{
+	struct result r = mount(&harmed, block, true, false);
+	if (r.answer == TS11_BAD_BLOCK) {
+		EXPECT("a lower block", r.block < block, true);
+		EXPECT("its fault", r.fault, TS11_FAULT_INDEX);
+		r = mount(&harmed, r.block, true, false);
+	}
+	EXPECT("the mount of the rest", r.answer, TS11_DONE);
+}
+
+static void expect_mount_fault(size_t end, size_t block, uint8_t fault)
+{
+	struct result r = mount(&harmed, end, true, false);
+	EXPECT("mount: answer", r.answer, TS11_BAD_BLOCK);
+	EXPECT("mount: *block", r.block, block);
+	EXPECT("mount: *fault", r.fault, fault);
+	expect_rest_mounted(block);
+}
+
+/*
+ * What is done to a block besides: a byte put behind its data, the first or the last there; with its check word made, a
+ * data byte flipped, or that word; ALL_ONES makes the sum 0 and the word 65,535, which is 0 modulo 65,535 too.
+ */
+enum { WRONG_CHECK = 1, FIRST_PADDING = 2, LAST_PADDING = 4, FLIPPED = 8, ALL_ONES = 16 };
+
+/* In place of one block of the tape stands this one, with as many data bytes as it uses. */
+struct placed {
+	const char *name;
+	size_t at;
+	unsigned kind;
+	size_t length, index;
+	unsigned harm;
+	size_t from, to;          /* where a command begins that meets it forward, in reverse */
+	uint8_t forward, reverse; /* the fault that this meets; 0: no command is tried */
+	size_t end;               /* the recorded end; 0: the tape's */
+};
+
+enum { K = TS11_FAULT_KIND, N = TS11_FAULT_LENGTH, I = TS11_FAULT_INDEX, P = TS11_FAULT_PADDING, C = TS11_FAULT_CHECK };
+enum { PIECE = TS11_KIND_RECORD, MARK = TS11_KIND_MARK, GAP = TS11_KIND_GAP };
+
+static const struct placed placed[] = {
+	{ "zeros for an object", 4, 0, 0, 0, 0, 4, 5, K, K, 0 },
+	{ "zeros for a record's first piece", 1, 0, 0, 0, 0, 1, 4, K, K, 0 },
+	{ "zeros for a piece", 2, 0, 0, 0, 0, 1, 4, K, K, 0 },
+	{ "a kind that is none, for an object", 4, 4, 0, 0, 0, 4, 5, K, K, 0 },
+	{ "a kind that is none, for a piece", 2, 4, LONG, 1, 0, 1, 4, K, K, 0 },
+	{ "a kind that is a piece's in its low byte", 3, 0x101, LONG, 2, 0, 1, 4, K, K, 0 },
+	{ "a kind that is a mark's in its high byte", 4, 0x200, 0, 0, 0, 4, 5, K, K, 0 },
+	{ "a kind of all ones", 7, 0xFFFF, 0, 0, 0, 7, 8, K, K, 0 },
+	{ "a mark with a length, for a piece", 2, MARK, 5, 0, 0, 1, 4, N, N, 0 },
+	{ "a mark with a length", 4, MARK, 1, 0, 0, 4, 5, N, N, 0 },
+	{ "a gap with a length", 7, GAP, 256, 0, 0, 7, 8, N, N, 0 },
+	{ "a sound mark for a piece", 2, MARK, 0, 0, 0, 1, 4, I, I, 0 },
+	{ "a sound gap for a piece", 2, GAP, 0, 0, 0, 1, 4, I, I, 0 },
+	{ "a piece of another record", 2, PIECE, SHORT, 1, 0, 1, 4, I, I, 0 },
+	{ "a whole record for a piece", 2, PIECE, 5, 0, 0, 1, 4, I, I, 0 },
+	{ "the first piece once more", 2, PIECE, LONG, 0, 0, 1, 4, I, I, 0 },
+	{ "the last piece before its turn", 2, PIECE, LONG, 2, 0, 1, 4, I, I, 0 },
+	{ "a mark with a wrong check, for a piece", 2, MARK, 0, 0, WRONG_CHECK, 1, 4, C, C, 0 },
+	{ "a gap with a wrong check, for a piece", 2, GAP, 0, 0, WRONG_CHECK, 1, 4, C, C, 0 },
+	{ "another record's piece with a wrong check", 2, PIECE, SHORT, 1, WRONG_CHECK, 1, 4, C, C, 0 },
+	{ "another record's piece with a byte behind it", 2, PIECE, SHORT, 1, LAST_PADDING, 1, 4, P, P, 0 },
+	{ "a mark with data, for a piece", 2, MARK, 0, 0, FIRST_PADDING | WRONG_CHECK, 1, 4, P, P, 0 },
+	{ "a record that the end cuts off", 1, PIECE, LONG, 0, 0, 1, 0, I, 0, 3 },
+	{ "the same with a wrong check", 1, PIECE, LONG, 0, WRONG_CHECK, 1, 0, C, 0, 3 },
+	{ "a record of which the end leaves a piece", 1, PIECE, LONG, 0, 0, 1, 2, I, I, 2 },
+	{ "a piece before the end that is not the last", 2, PIECE, LONG, 1, 0, 0, 3, 0, I, 3 },
+	{ "the same with a wrong check", 2, PIECE, LONG, 1, WRONG_CHECK, 0, 3, 0, C, 3 },
+	{ "a record of all the blocks and one more", 0, PIECE, HARMED_BLOCKS * 504 + 1, 0, 0, 0, 0, I, 0, HARMED_BLOCKS },
+	{ "the same with a wrong check", 0, PIECE, HARMED_BLOCKS * 504 + 1, 0, WRONG_CHECK, 0, 0, C, 0, HARMED_BLOCKS },
+	{ "the longest record, cut off", 1, PIECE, TS11_RECORD_MAX, 0, 0, 1, 2, I, I, 0 },
+	{ "the same with a wrong check", 1, PIECE, TS11_RECORD_MAX, 0, WRONG_CHECK, 1, 2, C, C, 0 },
+	{ "a record that reaches below block 0", 0, PIECE, LONG, 2, 0, 0, 1, I, I, 0 },
+	{ "the same with a wrong check", 0, PIECE, LONG, 2, WRONG_CHECK, 0, 1, C, C, 0 },
+	{ "the same with a byte behind it", 0, PIECE, LONG, 2, FIRST_PADDING, 0, 1, P, P, 0 },
+	{ "a record that reaches a block below block 0", 1, PIECE, LONG, 2, 0, 1, 2, I, I, 0 },
+	{ "the second piece for an object", 4, PIECE, LONG, 1, 0, 4, 5, I, I, 0 },
+	{ "the same with a wrong check", 4, PIECE, LONG, 1, WRONG_CHECK, 4, 5, C, C, 0 },
+	{ "an index past the last, for an object", 4, PIECE, LONG, 3, 0, 4, 5, I, I, 0 },
+	{ "the same with a wrong check", 4, PIECE, LONG, 3, WRONG_CHECK, 4, 5, I, I, 0 },
+	{ "an index past the last, for a piece", 2, PIECE, LONG, 3, WRONG_CHECK, 1, 4, I, I, 0 },
+	{ "an index past the last of a full block", 4, PIECE, 504, 1, WRONG_CHECK, 4, 5, I, I, 0 },
+	{ "a byte more, and the index is the last", 4, PIECE, 505, 1, WRONG_CHECK, 4, 5, C, C, 0 },
+	{ "an index of all ones", 3, PIECE, LONG, 0xFFFF, 0, 1, 4, I, I, 0 },
+	{ "a mark with an index", 4, MARK, 0, 1, WRONG_CHECK, 4, 5, I, I, 0 },
+	{ "a gap with an index", 7, GAP, 0, 256, FIRST_PADDING, 7, 8, I, I, 0 },
+	{ "a length over the limit, for an object", 4, PIECE, TS11_RECORD_MAX + 1, 0, 0, 4, 5, N, N, 0 },
+	{ "a length over the limit, for a piece", 2, PIECE, TS11_RECORD_MAX + 1, 1, 0, 1, 4, N, N, 0 },
+	{ "a length of all ones", 3, PIECE, 0xFFFF, 2, 0, 1, 4, N, N, 0 },
+	{ "a length of 0, for an object", 4, PIECE, 0, 0, 0, 4, 5, N, N, 0 },
+	{ "a length of 0, for a piece", 2, PIECE, 0, 1, 0, 1, 4, N, N, 0 },
+	{ "a data byte flipped in a first piece", 1, PIECE, LONG, 0, FLIPPED, 1, 4, C, C, 0 },
+	{ "a data byte flipped in a full piece", 2, PIECE, LONG, 1, FLIPPED, 1, 4, C, C, 0 },
+	{ "a data byte flipped in the last piece", 3, PIECE, LONG, 2, FLIPPED, 1, 4, C, C, 0 },
+	{ "the first byte behind the data", 3, PIECE, LONG, 2, FIRST_PADDING, 1, 4, P, P, 0 },
+	{ "the last byte behind the data", 3, PIECE, LONG, 2, LAST_PADDING, 1, 4, P, P, 0 },
+	{ "a byte behind the data, and a wrong check", 3, PIECE, LONG, 2, LAST_PADDING | WRONG_CHECK, 1, 4, P, P, 0 },
+	{ "a byte behind an odd length, in its word", 4, PIECE, 3, 0, FIRST_PADDING, 4, 5, P, P, 0 },
+	{ "a mark's first data byte", 4, MARK, 0, 0, FIRST_PADDING, 4, 5, P, P, 0 },
+	{ "a gap's last data byte", 7, GAP, 0, 0, LAST_PADDING, 7, 8, P, P, 0 },
+	{ "a sum of 0, and the check all ones", 2, PIECE, LONG, 1, ALL_ONES, 1, 4, C, C, 0 },
+};
+
+static size_t used_by(const struct placed *p)
+{
+	if (p->kind != PIECE || p->length == 0 || p->index >= pieces(p->length))
+		return 0;
+	size_t left = p->length - p->index * TS11_BLOCK_DATA;
+	return left < TS11_BLOCK_DATA ? left : TS11_BLOCK_DATA;
+}
+
+static void place(const struct placed *p)
+{
+	uint8_t *block = harmed_block(p->at);
+	size_t n = used_by(p);
+	put_back(&harmed, &unharmed);
+	lay_block(block, p->kind, p->length, p->index, host, n);
+	if (p->harm & FIRST_PADDING)
+		block[TS11_BLOCK_BYTES + n] = 1;
+	if (p->harm & LAST_PADDING)
+		block[TS11_BLOCK_CHECK - 1] = 0x80;
+	if (p->harm & ALL_ONES) {
+		unsigned word = word_at(block + TS11_BLOCK_BYTES) + 65535u - check_of(block);
+		put_word(block + TS11_BLOCK_BYTES, word % 65535);
+	}
+	seal(block);
+	if (p->harm & FLIPPED)
+		block[TS11_BLOCK_BYTES + n / 2] ^= 4;
+	if (p->harm & WRONG_CHECK)
+		block[TS11_BLOCK_CHECK] ^= 1;
+	if (p->harm & ALL_ONES) {
+		EXPECT("the sum", word_at(block + TS11_BLOCK_CHECK), 0);
+		put_word(block + TS11_BLOCK_CHECK, 0xFFFF);
+	}
+}
+
+/* A mount meets it as a command forward does. */
+static void test_placed(void)
+{
+	ROWS(k, placed) {
+		const struct placed *p = &placed[k];
+		size_t end = p->end ? p->end : HARMED_END;
+		context("%s, block %zu", p->name, p->at);
+		place(p);
+		if (p->forward) {
+			expect_forward_faults(p->from, end, p->at, p->forward);
+			expect_mount_fault(end, p->at, p->forward);
+		}
+		if (p->reverse)
+			expect_reverse_faults(p->to, end, p->at, p->reverse);
+	}
+	context("");
+}
+
+/* The tape's blocks, and the positions before and behind their objects. A full one has no byte behind its data. */
+static const struct {
+	size_t at, from, to;
+	bool full;
+} tape_blocks[HARMED_END] = {
+	{ 0, 0, 1, false }, { 1, 1, 4, true },  { 2, 1, 4, true },  { 3, 1, 4, false }, { 4, 4, 5, false },
+	{ 5, 5, 7, true },  { 6, 5, 7, false }, { 7, 7, 8, false }, { 8, 8, 9, false },
+};
+
+/* In the order in which a block is looked at. */
+static const uint8_t faults[] = { K, N, I, P, C };
+enum { FAULTS = COUNT(faults), PADDING_BIT = 1 << 3 };
+
+/* Makes each thing of a set wrong, whatever the rest of the block is. */
+static void harm_block(uint8_t *block, unsigned set)
+{
+	if (set & 1)
+		put_word(block + TS11_BLOCK_KIND, GAP + 1);
+	if (set & 2)
+		put_word(block + TS11_BLOCK_LENGTH, 0xFFFF);
+	if (set & 4)
+		put_word(block + TS11_BLOCK_INDEX, 0xFFFF);
+	if (set & PADDING_BIT)
+		block[TS11_BLOCK_CHECK - 1] = 1;
+	seal(block);
+	if (set & 16)
+		block[TS11_BLOCK_CHECK] ^= 1;
+}
+
+static uint8_t first_of(unsigned set)
+{
+	size_t k = 0;
+	while (!(set >> k & 1))
+		k++;
+	return faults[k];
+}
+
+/* Of all things that are wrong with a block the first in their order is told, for every set of them. */
+static void test_fault_order(void)
+{
+	ROWS(k, tape_blocks)
+		for (unsigned set = 1; set < 1 << FAULTS; set++) {
+			if (tape_blocks[k].full && set & PADDING_BIT)
+				continue;
+			context("block %zu, set %02x of the faults", tape_blocks[k].at, set);
+			put_back(&harmed, &unharmed);
+			harm_block(harmed_block(tape_blocks[k].at), set);
+			expect_forward_faults(tape_blocks[k].from, HARMED_END, tape_blocks[k].at, first_of(set));
+			expect_reverse_faults(tape_blocks[k].to, HARMED_END, tape_blocks[k].at, first_of(set));
+			expect_mount_fault(HARMED_END, tape_blocks[k].at, first_of(set));
+		}
+	context("");
+}
+
+/* From the same places no command meets a fault where nothing is wrong. */
+static void test_unharmed(void)
+{
+	ROWS(k, tape_blocks) {
+		context("block %zu as it should be", tape_blocks[k].at);
+		ROWS(c, forward_commands) {
+			put_back(&harmed, &unharmed);
+			EXPECT("forward", run_harmed(forward_commands[c], tape_blocks[k].from, HARMED_END).answer, TS11_DONE);
+		}
+		ROWS(c, reverse_commands) {
+			put_back(&harmed, &unharmed);
+			EXPECT("in reverse", run_harmed(reverse_commands[c], tape_blocks[k].to, HARMED_END).answer, TS11_DONE);
+		}
+	}
+	context("");
+}
+
+static void test_blocks_at_fault(void)
+{
+	make_harmed();
+	test_unharmed();
+	test_placed();
+	test_fault_order();
+	free_harmed();
+}
+
 /* ---- records and small reels ------------------------------------------------------------------------------------- */
 
 /* Written, then read back in both directions. */
@@ -1001,11 +1318,12 @@ int main(void)
 	test_empty_buffers();
 	test_least_memory();
 	test_memory_ends();
+	test_blocks_at_fault();
 	test_records();
 	test_small_reel(1);
 	test_small_reel(TS11_EOT_MARGIN);
 	test_small_reel(TS11_EOT_MARGIN + 2);
 	size_t steps = test_full_size();
-	snprintf(done, sizeof done, "every limit, and %zu steps of full size stepped back", steps);
+	snprintf(done, sizeof done, "every limit and fault, and %zu steps of full size stepped back", steps);
 	return summary("limits", done);
 }

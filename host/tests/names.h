@@ -32,6 +32,7 @@ enum name {
 	ONLINE_,
 	WRITE_LOCK_,
 	BLOCK_,
+	FAULT_,
 	WORD_,
 	WHICH_SWITCH_,
 	ON_,
@@ -52,6 +53,7 @@ enum name {
 #define online (*online)[ONLINE_]
 #define write_lock (*write_lock)[WRITE_LOCK_]
 #define block (*block)[BLOCK_]
+#define fault (*fault)[FAULT_]
 #define word (*word)[WORD_]
 #define which_switch (*which_switch)[WHICH_SWITCH_]
 #define on (*on)[ON_]
@@ -73,6 +75,7 @@ enum name {
 #undef online
 #undef write_lock
 #undef block
+#undef fault
 #undef word
 #undef which_switch
 #undef on
@@ -89,7 +92,7 @@ enum name {
 
 size_t ts11_mount(ts11_state *, size_t (*)[MEMORY_LENGTH_], const uint8_t *(*)[REEL_], size_t (*)[REEL_LENGTH_],
                   size_t (*)[JOURNAL_LENGTH_], size_t (*)[RECORDED_END_], bool (*)[ONLINE_], bool (*)[WRITE_LOCK_],
-                  size_t *(*)[BLOCK_]);
+                  size_t *(*)[BLOCK_], uint8_t *(*)[FAULT_]);
 size_t ts11_write_tsdb(NAMED_BUFFERS, uint16_t (*)[WORD_]);
 size_t ts11_write_tssr(NAMED_BUFFERS, uint16_t (*)[WORD_]);
 size_t ts11_operate(NAMED_BUFFERS, bool (*)[WHICH_SWITCH_], bool (*)[ON_]);
@@ -97,7 +100,8 @@ size_t ts11_read_register(const ts11_state *, bool (*)[WHICH_REGISTER_], uint16_
 size_t ts11_host_store(ts11_state *, uint8_t *(*)[MEMORY_], size_t (*)[MEMORY_LENGTH_], const uint8_t *(*)[REEL_],
                        size_t (*)[REEL_LENGTH_], uint8_t *(*)[JOURNAL_], size_t (*)[JOURNAL_LENGTH_],
                        size_t (*)[ADDRESS_], const uint8_t *, size_t (*)[LENGTH_]);
-size_t ts11_advance(NAMED_BUFFERS, bool *(*)[STEPPED_], bool *(*)[INTERRUPT_], size_t *(*)[BLOCK_]);
+size_t ts11_advance(NAMED_BUFFERS, bool *(*)[STEPPED_], bool *(*)[INTERRUPT_], size_t *(*)[BLOCK_],
+                    uint8_t *(*)[FAULT_]);
 size_t ts11_step_back(ts11_state *, uint8_t *(*)[MEMORY_], size_t (*)[MEMORY_LENGTH_], uint8_t *(*)[REEL_],
                       size_t (*)[REEL_LENGTH_], const uint8_t *(*)[JOURNAL_], size_t (*)[JOURNAL_LENGTH_]);
 uint32_t ts11_state_number(const ts11_state *, size_t);

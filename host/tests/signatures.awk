@@ -9,6 +9,7 @@ BEGIN {
 	set("&mut [u8]", "uint8_t *, size_t", "*mut u8, usize")
 	set("&[u8]", "const uint8_t *, size_t", "*const u8, usize")
 	set("&mut usize", "size_t *", "*mut usize")
+	set("&mut u8", "uint8_t *", "*mut u8")
 	set("&mut bool", "bool *", "*mut bool")
 	set("&mut u16", "uint16_t *", "*mut u16")
 	set("usize", "size_t", "usize")

@@ -2,7 +2,8 @@
 """spoils.py HEADER DIRECTORY [all]: copies of ts11.h with one thing spoiled in each.
 
 Each is DIRECTORY/N/ts11.h, with what is spoiled in DIRECTORY/N/what: the value of a constant, a number in a macro or in
-the inline function, a type, or a prototype's parameters. With `all`, constants are also spoiled in each of 18 bits.
+the inline function, a type, or a prototype's parameters. With `all`, numbers are also spoiled in each of 18 bits,
+and letters are every letter.
 """
 import itertools
 import os
@@ -10,6 +11,7 @@ import re
 import sys
 
 NUMBER = re.compile(r"\b(0x[0-9A-Fa-f]+|\d+)\b")
+LETTER = re.compile(r"'([A-Z])'")
 
 
 def other_numbers(text, every_bit):
@@ -28,6 +30,14 @@ def spoiled_numbers(text, every_bit):
             yield text[: m.start()] + value + text[m.end() :]
 
 
+def other_letters(letter, used, every_letter):
+    """The letters of the other constants, the neighbours, the small letter, none; or every letter."""
+    letters = used + [chr(ord(letter) - 1), chr(ord(letter) + 1), letter.lower()]
+    if every_letter:
+        letters += "ABCDEFGHIJKLMNOPQRSTUVWXYZ"
+    return [f"'{other}'" for other in dict.fromkeys(letters) if other != letter] + ["0"]
+
+
 def word_of(value):
     """The word that a code and a mode give: where it stays the same, nothing is spoiled."""
     m = re.fullmatch(r"TS11_COMMAND\((\d+), (\d+)\)", value)
@@ -37,8 +47,11 @@ def word_of(value):
 def spoiled_constants(header, every_bit):
     for m in re.finditer(r"^#define (TS11_\w+)(\([^)]*\))? (.*?)[ \t]*(/\*.*)?$", header, re.M):
         name, parameters, value = m.group(1), m.group(2), m.group(3)
+        letter = LETTER.fullmatch(value)
         if value in ("false", "true"):
             values = ["true" if value == "false" else "false"]
+        elif letter:
+            values = other_letters(letter.group(1), LETTER.findall(header), every_bit)
         else:
             values = spoiled_numbers(value, every_bit and not parameters)
         for v in values:
@@ -86,7 +99,13 @@ def spoiled_lists(parameters):
     for i in range(n):
         yield f"{parts[i][1]} dropped", parameters[:i] + parameters[i + 1 :]
     for i, (t, name) in enumerate(parts):
-        for old, new in (("size_t", "uint16_t"), ("bool", "int"), ("uint16_t", "uint32_t"), ("const ", "")):
+        for old, new in (
+            ("size_t", "uint16_t"),
+            ("bool", "int"),
+            ("uint16_t", "uint32_t"),
+            ("uint8_t", "uint16_t"),
+            ("const ", ""),
+        ):
             if old in t:
                 yield f"{name} {old} -> {new}", parameters[:i] + [t.replace(old, new) + name] + parameters[i + 1 :]
 

@@ -9,13 +9,13 @@
 /* ---- a painted stack --------------------------------------------------------------------------------------------- */
 
 /* Room for scratch as long as a few records. */
-enum { WORDS = 8 * TS11_RECORD_MAX / sizeof(uint64_t), IN_REGISTERS = 6, ARGUMENTS = 10 };
+enum { WORDS = 8 * TS11_RECORD_MAX / sizeof(uint64_t), IN_REGISTERS = 6, ARGUMENTS = 11 };
 
 static _Alignas(16) uint64_t painted[WORDS + ARGUMENTS - IN_REGISTERS];
 
 typedef void function(void);
 
-/* Calls f on another stack, with ten arguments, of which f may take fewer: those past the sixth stand there already. */
+/* Calls f on another stack, with eleven arguments or, by f, fewer: those past the sixth stand there already. */
 uint64_t call_on(uint64_t *stack, function *f, const uint64_t *arguments);
 __asm__(".text\n"
         "call_on:\n"
@@ -70,7 +70,8 @@ static ts11_answer put_painted(struct unit *u, const struct call *c, struct outs
 	uint64_t mn = u->memory.length, rn = u->reel.length, jn = u->journal.length;
 	switch (c->kind) {
 	case MOUNT:
-		return CALL(ts11_mount, s, mn, r, rn, jn, c->recorded_end, c->online, c->write_lock, AT(&o->block));
+		return CALL(ts11_mount, s, mn, r, rn, jn, c->recorded_end, c->online, c->write_lock, AT(&o->block),
+		            AT(&o->fault));
 	case WRITE_TSDB:
 		return CALL(ts11_write_tsdb, s, m, mn, r, rn, j, jn, c->word);
 	case WRITE_TSSR:
@@ -82,7 +83,8 @@ static ts11_answer put_painted(struct unit *u, const struct call *c, struct outs
 	case HOST_STORE:
 		return CALL(ts11_host_store, s, m, mn, r, rn, j, jn, c->address, AT(c->bytes), c->length);
 	case ADVANCE:
-		return CALL(ts11_advance, s, m, mn, r, rn, j, jn, AT(&o->stepped), AT(&o->interrupt), AT(&o->block));
+		return CALL(ts11_advance, s, m, mn, r, rn, j, jn, AT(&o->stepped), AT(&o->interrupt), AT(&o->block),
+		            AT(&o->fault));
 	default:
 		return CALL(ts11_step_back, s, m, mn, r, rn, j, jn);
 	}
@@ -119,13 +121,13 @@ static void note(struct use *use)
 }
 
 static struct use calls[] = {
-	[MOUNT] = USE("ts11_mount", 336),
+	[MOUNT] = USE("ts11_mount", 352),
 	[WRITE_TSDB] = USE("ts11_write_tsdb", 168),
 	[WRITE_TSSR] = USE("ts11_write_tssr", 80),
 	[OPERATE] = USE("ts11_operate", 160),
 	[READ_REGISTER] = USE("ts11_read_register", 64),
 	[HOST_STORE] = USE("ts11_host_store", 192),
-	[ADVANCE] = USE("ts11_advance", 1472),
+	[ADVANCE] = USE("ts11_advance", 1248),
 	[STEP_BACK] = USE("ts11_step_back", 288),
 };
 
@@ -144,28 +146,28 @@ static struct {
 	uint16_t header;
 	bool behind;
 } commands[] = {
-	{ USE("read next", 992), TS11_READ_NEXT, false },
-	{ USE("read previous", 992), TS11_READ_PREVIOUS, true },
-	{ USE("reread next", 1472), TS11_REREAD_NEXT, false },
-	{ USE("reread previous", 1472), TS11_REREAD_PREVIOUS, true },
-	{ USE("reread next, OPP", 1312), TS11_REREAD_NEXT | TS11_OPP, false },
-	{ USE("reread previous, OPP", 1312), TS11_REREAD_PREVIOUS | TS11_OPP, true },
-	{ USE("write", 784), TS11_WRITE, true },
-	{ USE("write retry", 1216), TS11_WRITE_RETRY, true },
-	{ USE("write characteristics", 784), TS11_WRITE_CHARACTERISTICS, false },
-	{ USE("space records", 1152), TS11_SPACE_RECORDS, false },
-	{ USE("space records reverse", 1152), TS11_SPACE_RECORDS_REVERSE, true },
-	{ USE("skip marks", 1152), TS11_SKIP_MARKS, false },
-	{ USE("skip marks reverse", 1152), TS11_SKIP_MARKS_REVERSE, true },
-	{ USE("rewind", 784), TS11_REWIND, true },
-	{ USE("write mark", 784), TS11_WRITE_MARK, true },
-	{ USE("erase", 784), TS11_ERASE, true },
-	{ USE("write mark retry", 1216), TS11_WRITE_MARK_RETRY, true },
-	{ USE("release", 784), TS11_RELEASE, false },
-	{ USE("unload", 784), TS11_UNLOAD, true },
-	{ USE("clean", 784), TS11_CLEAN, false },
-	{ USE("initialize", 784), TS11_INITIALIZE, false },
-	{ USE("get status", 784), TS11_GET_STATUS, false },
+	{ USE("read next", 1024), TS11_READ_NEXT, false },
+	{ USE("read previous", 1024), TS11_READ_PREVIOUS, true },
+	{ USE("reread next", 1200), TS11_REREAD_NEXT, false },
+	{ USE("reread previous", 1200), TS11_REREAD_PREVIOUS, true },
+	{ USE("reread next, OPP", 1200), TS11_REREAD_NEXT | TS11_OPP, false },
+	{ USE("reread previous, OPP", 1200), TS11_REREAD_PREVIOUS | TS11_OPP, true },
+	{ USE("write", 800), TS11_WRITE, true },
+	{ USE("write retry", 1248), TS11_WRITE_RETRY, true },
+	{ USE("write characteristics", 800), TS11_WRITE_CHARACTERISTICS, false },
+	{ USE("space records", 1184), TS11_SPACE_RECORDS, false },
+	{ USE("space records reverse", 1184), TS11_SPACE_RECORDS_REVERSE, true },
+	{ USE("skip marks", 1184), TS11_SKIP_MARKS, false },
+	{ USE("skip marks reverse", 1184), TS11_SKIP_MARKS_REVERSE, true },
+	{ USE("rewind", 800), TS11_REWIND, true },
+	{ USE("write mark", 800), TS11_WRITE_MARK, true },
+	{ USE("erase", 800), TS11_ERASE, true },
+	{ USE("write mark retry", 1248), TS11_WRITE_MARK_RETRY, true },
+	{ USE("release", 800), TS11_RELEASE, false },
+	{ USE("unload", 800), TS11_UNLOAD, true },
+	{ USE("clean", 800), TS11_CLEAN, false },
+	{ USE("initialize", 800), TS11_INITIALIZE, false },
+	{ USE("get status", 800), TS11_GET_STATUS, false },
 };
 
 static bool reads(uint16_t header)

@@ -112,6 +112,7 @@ struct result {
 	bool stepped, interrupt;
 	uint16_t word;
 	size_t block;
+	uint8_t fault;
 };
 
 /* The out-parameters, apart from each other. */
@@ -124,6 +125,8 @@ struct outs {
 	uint16_t word;
 	uint8_t fourth[16];
 	size_t block;
+	uint8_t fifth[16];
+	uint8_t fault;
 	uint8_t last[16];
 };
 
@@ -134,7 +137,7 @@ static inline ts11_answer put_call(struct unit *u, const struct call *c, struct 
 	size_t mn = u->memory.length, rn = u->reel.length, jn = u->journal.length;
 	switch (c->kind) {
 	case MOUNT:
-		return ts11_mount(s, mn, r, rn, jn, c->recorded_end, c->online, c->write_lock, &o->block);
+		return ts11_mount(s, mn, r, rn, jn, c->recorded_end, c->online, c->write_lock, &o->block, &o->fault);
 	case WRITE_TSDB:
 		return ts11_write_tsdb(s, m, mn, r, rn, j, jn, c->word);
 	case WRITE_TSSR:
@@ -146,7 +149,7 @@ static inline ts11_answer put_call(struct unit *u, const struct call *c, struct 
 	case HOST_STORE:
 		return ts11_host_store(s, m, mn, r, rn, j, jn, c->address, c->bytes, c->length);
 	case ADVANCE:
-		return ts11_advance(s, m, mn, r, rn, j, jn, &o->stepped, &o->interrupt, &o->block);
+		return ts11_advance(s, m, mn, r, rn, j, jn, &o->stepped, &o->interrupt, &o->block, &o->fault);
 	default:
 		return ts11_step_back(s, m, mn, r, rn, j, jn);
 	}
@@ -159,7 +162,7 @@ static inline void expect_outs_apart(const struct outs *o, uint8_t fill)
 {
 	EXPECT("bytes beside the out-parameters are as before",
 	       all_are(o->first, 16, fill) && all_are(o->second, 16, fill) && all_are(o->third, 16, fill) &&
-	           all_are(o->fourth, 16, fill) && all_are(o->last, 16, fill),
+	           all_are(o->fourth, 16, fill) && all_are(o->fifth, 16, fill) && all_are(o->last, 16, fill),
 	       true);
 }
 
@@ -170,8 +173,10 @@ static inline struct result perform_over(struct unit *u, const struct call *c, u
 	memset(&o, fill, sizeof o);
 	struct result r = { .answer = put(u, c, &o) };
 	expect_outs_apart(&o, fill);
-	if (c->kind == MOUNT || c->kind == ADVANCE)
+	if (c->kind == MOUNT || c->kind == ADVANCE) {
 		r.block = o.block;
+		r.fault = o.fault;
+	}
 	if (c->kind == READ_REGISTER)
 		r.word = o.word;
 	if (c->kind == ADVANCE) {
@@ -273,10 +278,20 @@ static inline void expect_guarded(const struct unit *u)
 	EXPECT("bytes beside the journal are as before", guarded(&u->journal), true);
 }
 
+static inline bool is_fault(uint8_t letter)
+{
+	return letter == TS11_FAULT_KIND || letter == TS11_FAULT_LENGTH || letter == TS11_FAULT_INDEX ||
+	       letter == TS11_FAULT_PADDING || letter == TS11_FAULT_CHECK;
+}
+
 static inline void expect_outs(const struct call *c, const struct result *r)
 {
-	if (r->answer != TS11_BAD_BLOCK)
+	if (r->answer != TS11_BAD_BLOCK) {
 		EXPECT("*block without refusal 7", r->block, 0);
+		EXPECT("*fault without refusal 7", r->fault, 0);
+	} else {
+		EXPECT("*fault is one of the five", is_fault(r->fault), true);
+	}
 	if (r->answer != TS11_DONE)
 		EXPECT("*stepped, *interrupt and *word refused", r->stepped || r->interrupt || r->word, false);
 	if (c->kind == ADVANCE && !r->stepped)
@@ -290,6 +305,7 @@ static inline void expect_same_result(const struct result *got, const struct res
 	EXPECT("done again: *interrupt", got->interrupt, wanted->interrupt);
 	EXPECT("done again: *word", got->word, wanted->word);
 	EXPECT("done again: *block", got->block, wanted->block);
+	EXPECT("done again: *fault", got->fault, wanted->fault);
 }
 
 /* What stands in the journal above the used part is nobody's: other bytes there must make no difference. */

@@ -145,7 +145,7 @@ static int print_answer(char *out, size_t room, const struct call *c, const stru
 	if (c->kind == READ_REGISTER)
 		return snprintf(out, room, "%zu word=%04x", r->answer, r->word);
 	if (r->answer == TS11_BAD_BLOCK)
-		return snprintf(out, room, "%zu block=%zu", r->answer, r->block);
+		return snprintf(out, room, "%zu block=%zu fault=%c", r->answer, r->block, r->fault);
 	if (c->kind == ADVANCE && r->answer == TS11_DONE && !r->stepped)
 		return snprintf(out, room, "idle");
 	if (!is_step(c, r))
@@ -318,7 +318,7 @@ static void call_back(char **w)
 /* ---- set-up lines ------------------------------------------------------------------------------------------------ */
 
 /* The requests that the library has built in, a bit for each, and those that change no line of a script. */
-enum { OWN_RULES = 1 << 2, UNSEEN_RULES = 1 << 1 | 1 << 3 | 1 << 12 | 1 << 13 };
+enum { OWN_RULES = 1 << 2 | 1 << 4, UNSEEN_RULES = 1 << 1 | 1 << 3 | 1 << 12 | 1 << 13 };
 
 static void set_up_rules(char **w)
 {

@@ -103,4 +103,4 @@ module _ (u : Unit) (l : Legal u) where
       }
 
   pub motion-sound : (ie : Bool) (y : Motion) → ((x : Ending) → y ≡ motion.Ended x → EndingFits (u .lengths) x) → SoundPlan u (motionPlan u ie y)
-  motion-sound ie y f = motion-either u ie (SoundPlan u) y (λ x e. told-sound ie x (f x e)) (λ k e. still-sound _)
+  motion-sound ie y f = motion-either u ie (SoundPlan u) y (λ x e. told-sound ie x (f x e)) (λ why k e. still-sound _)

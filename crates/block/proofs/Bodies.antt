@@ -1,18 +1,18 @@
 -- Padding and check from one reading of the words: the shared byte, the two sums and the check word decide both.
 use mathlib.Core.Bool.{_&&_, _||_}
-use mathlib.Core.List.{List, [], append-nil}
-use mathlib.Core.Path.{_≡_, sym, ap, _∙_}
+use mathlib.Core.List.{List}
+use mathlib.Core.Path.{_≡_}
 use Prim.Native.Nat.{ℕ, _+_, _-_, _*_, _%_, _≤_}
 use native.Mathlib.Omega.{arith}
 use lib.Dec.{eqb}
 use lib.ListN.{length, take, drop, getD}
-use lib.Seq.{drop-at, length-take-le}
 use Rattle.lists.specs.Words.{wordAt, wordSum}
 use Rattle.block.proofs.Checked.{check-in-two, second-lent}
-use Rattle.block.proofs.Padding.{padding-sum, wordsWith}
+use Rattle.block.proofs.Padding.{full-padding, padding-sum, wordsWith}
 use Rattle.tape.specs.Numbers.{checkModulus, dataBytes, headBytes, summedBytes, summedWords}
 use Rattle.tape.specs.Layout.{checkOf}
-use Rattle.tape.specs.Reading.{bodyRight, checkRight, paddingRight, zeros}
+use Rattle.tape.specs.Reading.{checkRight, paddingRight, zeros}
+use Rattle.block.specs.Halves.{bodyRight}
 
 -- two sums of words, each as far as the check asks for it
 sums-same : (h r x y : ℕ) → h % checkModulus ≡ x % checkModulus → r % checkModulus ≡ y % checkModulus → (h + r) % checkModulus ≡ (x + y) % checkModulus
@@ -30,12 +30,6 @@ module _ (b : List ℕ) (used shared head rest check : ℕ) (long : summedBytes 
   body-read p q r z s =
       rw (sums-same head rest first second q r, z)
       (cc (padding-sum b used long low, check-in-two b (wordsWith used) long (omega arith), second-lent b (wordsWith used) long (omega arith)))
-
--- a block whose data bytes are all in use has no padding
-full-padding : (b : List ℕ) → summedBytes ≤ length b → drop summedBytes (take summedBytes b) ≡ []
-full-padding b long =
-    ap (drop summedBytes) (sym (append-nil (take summedBytes b)))
-    ∙ drop-at (take summedBytes b) [] summedBytes (length-take-le summedBytes b long)
 
 pub full-read : (b : List ℕ) (sum check : ℕ) → summedBytes ≤ length b → check ≡ wordAt b summedBytes → sum % checkModulus ≡ wordSum (take summedBytes b) % checkModulus → eqb check (sum % checkModulus) ≡ bodyRight b dataBytes
 unfolding bodyRight paddingRight checkRight checkOf zeros

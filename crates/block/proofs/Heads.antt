@@ -7,11 +7,17 @@ use borrow.Author.Tests.{ltb-true}
 use lib.Dec.{leb, ltb}
 use Rattle.tape.specs.Numbers.{dataBytes, piecesOf, recordLimit}
 use Rattle.tape.specs.Layout.{pieceKind}
-use Rattle.tape.specs.Reading.{headRight}
+use Rattle.tape.specs.Reading.{indexRight, kindRight, lengthRight}
+use Rattle.block.specs.Halves.{headRight}
 
 right-of : (a b : Bool) → (a && b) ≡ true → b ≡ true
 right-of true b h = h
 right-of false b h = absurd (false≢true h)
+
+-- a head whose three words are right
+pub head-whole : (k n i : ℕ) → kindRight k ≡ true → lengthRight k n ≡ true → indexRight k n i ≡ true → headRight k n i ≡ true
+unfolding headRight
+head-whole k n i a b c = rw (a, b, c)
 
 pub head-piece : (k n i : ℕ) → k ≡ pieceKind → headRight k n i ≡ true → dataBytes * i < n
 unfolding headRight

@@ -1,2 +1,3 @@
--- How the check's sum is taken: eight bytes at a time.
+-- How the code takes the check's sum, and the two halves of a block that it looks at.
 pub mod Sums
+pub mod Halves

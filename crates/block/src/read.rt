@@ -3,13 +3,15 @@ use crate::sum::check_sum;
 use lists::wide;
 use lists::word;
 use tape::Block;
+use tape::BlockFault;
 use tape::Geometry;
 ghost use mathlib.Core.Bool.{true};
 ghost use mathlib.Core.Path.{_≡_};
 ghost use Prim.Native.Nat.{_≤_};
 ghost use lib.ListN.{length};
 ghost use Rattle.tape.specs.Numbers.{blockBytes, dataBytes};
-ghost use Rattle.tape.specs.Reading.{bodyRight, classAt, classOf, headRight, indexRight, kindOf, kindRight, lengthRight, usedOf};
+ghost use Rattle.tape.specs.Reading.{classAt, classOf, indexRight, kindOf, kindRight, lengthRight, paddingRight, usedOf};
+ghost use Rattle.block.specs.Halves.{bodyRight, wrongIn, headRight};
 
 fn kind_right(k: usize) -> bool
     ensures { λ r. ⌜ r ≡ kindRight k ⌝ }
@@ -74,6 +76,21 @@ fn padded_right(b: &[u8], used: usize) -> bool
     (shared & (rest == 0)) & (word(b, Geometry::SUMMED) == (head + rest) % Geometry::CHECK_MODULUS)
 }
 
+// Padding alone.
+fn padding_right(b: &[u8], used: usize) -> bool
+    requires { ⌜ (length (now b) ≡ blockBytes) × (used ≤ dataBytes) ⌝ }
+    ensures { λ r. ⌜ r ≡ paddingRight (now (b .entry)) used ⌝ }
+{
+    let mut i = Geometry::HEAD + used;
+    while i < Geometry::SUMMED {
+        if b[i] != 0 {
+            return false;
+        }
+        i += 1;
+    }
+    true
+}
+
 // All data bytes are in use, so there is no padding. Its own function, since the sum then runs over a fixed number of words.
 fn full_right(b: &[u8]) -> bool
     requires { ⌜ length (now b) ≡ blockBytes ⌝ }
@@ -104,6 +121,30 @@ fn kind_of(k: usize, n: usize, i: usize) -> Block
     Block::Gap
 }
 
+// The first thing that is wrong with a block that isn't right; the check, if nothing else is. Only a block known to be wrong comes here, and all of it is
+// read again: so a sound one costs nothing more.
+fn wrong_in(b: &[u8]) -> BlockFault
+    requires { ⌜ length (now b) ≡ blockBytes ⌝ }
+    ensures { λ r. ⌜ r ≡ wrongIn (now (b .entry)) ⌝ }
+{
+    let k = word(b, 0);
+    let n = word(b, 2);
+    let i = word(b, 4);
+    if !kind_right(k) {
+        return BlockFault::Kind;
+    }
+    if !length_right(k, n) {
+        return BlockFault::Length;
+    }
+    if !index_right(k, n, i) {
+        return BlockFault::Index;
+    }
+    if !padding_right(b, used_of(k, n, i)) {
+        return BlockFault::Padding;
+    }
+    BlockFault::Check
+}
+
 fn class_of(b: &[u8]) -> Block
     requires { ⌜ length (now b) ≡ blockBytes ⌝ }
     ensures { λ r. ⌜ r ≡ classOf (now (b .entry)) ⌝ }
@@ -112,20 +153,20 @@ fn class_of(b: &[u8]) -> Block
     let n = word(b, 2);
     let i = word(b, 4);
     if !head_right(k, n, i) {
-        return Block::Damaged;
+        return Block::Damaged(wrong_in(b));
     }
     if !body_right(b, used_of(k, n, i)) {
-        return Block::Damaged;
+        return Block::Damaged(wrong_in(b));
     }
     kind_of(k, n, i)
 }
 
-// Block k of a reel; one that the slice does not hold whole is damaged, so that every number is some answer.
+// Block k of a reel; one that the slice does not hold whole has no place on it, so that every number is some answer.
 pub fn read_block(reel: &[u8], k: usize) -> Block
     ensures { λ r. ⌜ r ≡ classAt (now (reel .entry)) k ⌝ }
 {
     if reel.len() / Geometry::BLOCK <= k {
-        return Block::Damaged;
+        return Block::Damaged(BlockFault::Index);
     }
     let at = Geometry::BLOCK * k;
     let end = at + Geometry::BLOCK;

@@ -42,14 +42,14 @@ abbrev pub DoneOrBad : Answer → Type 0
 DoneOrBad (answer.Done i) = Always
 DoneOrBad answer.Idle = ⊥
 DoneOrBad (answer.Refused n) = ⊥
-DoneOrBad (answer.BadBlock k) = Always
+DoneOrBad (answer.BadBlock why k) = Always
 
 abbrev pub Stands : Characteristics → ℕ → (Plan → Type 0) → Type 0
 Stands c memory P = (v : Unit) → Buffered c memory v → (a : Answer) → DoneOrBad a → P (still v a)
 
 module _ (u : Unit) (m : List ℕ) (P : Plan → Type 0) (tells : ToldAll (u .characteristics) (length m) P) (stands : Stands (u .characteristics) (length m) P) where
   moves : (ie : Bool) (y : Motion) → P (motionPlan u ie y)
-  moves ie y = motion-either u ie P y (λ x e. tells u (inl refl) ie x) (λ k e. stands u (inl refl) (answer.BadBlock k) tt)
+  moves ie y = motion-either u ie P y (λ x e. tells u (inl refl) ie x) (λ why k e. stands u (inl refl) (answer.BadBlock why k) tt)
 
   characterizes : (p : Packet) (ie : Bool) → P (characterized u m p ie)
   unfolding characterized refusedCharacteristics takenCharacteristics

@@ -3,6 +3,7 @@ use mathlib.Core.Bool.{Bool, true, false}
 use mathlib.Core.Path.{_≡_, refl}
 use Prim.Native.Nat.{ℕ, _≤_}
 use borrow.Author.Tests.{not-true}
+use Rattle.tape.specs.declared.BlockFault.{BlockFault}
 use Rattle.state.specs.Checks.{lastClass}
 use Rattle.state.specs.Legal.{Legal}
 use Rattle.state.specs.declared.Attention.{Attention}
@@ -69,10 +70,10 @@ unfolding told toldUnit ended
 told-sends u ie x = not-true (u .registers .nba)
 
 -- what holds of every end that is told and of every fault holds of every motion
-pub motion-either : (u : Unit) (ie : Bool) (P : Plan → Type 0) (y : Motion) → ((x : Ending) → y ≡ motion.Ended x → P (told u ie x)) → ((k : ℕ) → y ≡ motion.Fault k → P (still u (answer.BadBlock k))) → P (motionPlan u ie y)
+pub motion-either : (u : Unit) (ie : Bool) (P : Plan → Type 0) (y : Motion) → ((x : Ending) → y ≡ motion.Ended x → P (told u ie x)) → ((why : BlockFault) (k : ℕ) → y ≡ motion.Fault why k → P (still u (answer.BadBlock why k))) → P (motionPlan u ie y)
 unfolding motionPlan
 motion-either u ie P (motion.Ended x) p q = p x refl
-motion-either u ie P (motion.Fault k) p q = q k refl
+motion-either u ie P (motion.Fault why k) p q = q why k refl
 
 pub record StoresNothing (p : Plan) : Type 0 where
   pub moved : p .moved ≡ noMove

@@ -123,7 +123,7 @@ untold u class interrupts = still (ended u class) (answer.Done interrupts)
 -- what a motion of the tape comes to; a block at fault refuses with 7, and a plan that is refused is not carried out
 unfoldable pub motionPlan : Unit → Bool → Motion → Plan
 motionPlan u ie (motion.Ended x) = told u ie x
-motionPlan u ie (motion.Fault k) = still u (answer.BadBlock k)
+motionPlan u ie (motion.Fault why k) = still u (answer.BadBlock why k)
 
 -- told or not, as a plan
 unfoldable pub planBy : Unit → Bool → How → Plan

@@ -106,7 +106,7 @@ fn plan_motion(u: Unit, ie: bool, m: Motion) -> Plan
 {
     match m {
         Motion::Ended(x) => tell(u, ie, x),
-        Motion::Fault(k) => still_plan(u, Answer::BadBlock(k)),
+        Motion::Fault(fault, k) => still_plan(u, Answer::BadBlock(fault, k)),
     }
 }
 

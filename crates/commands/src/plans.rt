@@ -3,6 +3,7 @@ use motions::Laid;
 use motions::Motion;
 use motions::Moved;
 use state::Unit;
+use tape::BlockFault;
 
 // The answers of the calls; a definition in specs/ gives each its number.
 pub enum Answer {
@@ -11,8 +12,8 @@ pub enum Answer {
     Idle,
     // A refusal's number.
     Refused(usize),
-    // Refusal 7, and the block it names.
-    BadBlock(usize),
+    // Refusal 7: what is wrong with the block that it names, and the block.
+    BadBlock(BlockFault, usize),
 }
 
 // Whether an advance tells how it ended.

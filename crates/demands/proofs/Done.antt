@@ -27,6 +27,7 @@ use Rattle.tape.proofs.Outcomes as outcomes
 use Rattle.tape.proofs.Passes.{PiecesAt}
 use Rattle.tape.proofs.Recorded.{record-length}
 use Rattle.tape.proofs.Within.{gap-within}
+use Rattle.tape.specs.declared.BlockFault.{BlockFault}
 use Rattle.signals.specs.Bits.{BOT, EOT, IE, ILA, MOT, NEF, ONL, OPI, REV, RIB, RLL, RLS, VCK, WLE, WLK}
 use Rattle.signals.specs.Codes.{commandOf, positionMode, readMode}
 use Rattle.signals.specs.Message.{flagOf, messageBytes, messageOf, messaged, statusByte, wordsBytes, xst0Of}
@@ -155,7 +156,7 @@ module _ (v : Unit) (ie : Bool) (x : Ending) (m s : List ℕ) (sends : told v ie
 piece-held : (s : List ℕ) (k n i : ℕ) → classAt s k ≡ block.Piece n i → blockBytes * (k + 1) ≤ length s
 unfolding classAt
 piece-held s k n i y =
-    let held = pick-first (ltb k (length s / blockBytes)) (classOf (blockAt s k)) block.Damaged (block.Piece n i) y (λ h. clash cc) .0 in
+    let held = pick-first (ltb k (length s / blockBytes)) (classOf (blockAt s k)) _ (block.Piece n i) y (λ h. clash cc) .0 in
     omega (arith, ltb-true k (length s / blockBytes) held)
 
 -- the first block of a record that was passed, and of one that was passed back
@@ -186,7 +187,7 @@ module _ (s : List ℕ) where
   Stood reverse q (met.Mark t) = Always
   Stood reverse q (met.Gap t) = Always
   Stood reverse q met.Nothing = Always
-  Stood reverse q (met.Bad k) = Always
+  Stood reverse q (met.Bad why k) = Always
 
   stood-by : (reverse : Bool) (q e : ℕ) (x : Met) → Outcome s reverse q e x → Stood reverse q x
   stood-by reverse q e x (outcomes.at-end z y) = rw y tt
@@ -271,8 +272,8 @@ module _ (u : Unit) (m s : List ℕ) where
   first-met inside = meets s (u .tape .end) (way u m s) Here here-behind (u .tape .position) (at-once, inside)
 
   -- block k is met in the first object ahead that is no gap
-  abbrev pub FirstBad : ℕ → Type 0
-  FirstBad k = (q : ℕ) × Gapped u m s q × (passed s (way u m s) q (u .tape .end) ≡ met.Bad k)
+  abbrev pub FirstBad : BlockFault → ℕ → Type 0
+  FirstBad why k = (q : ℕ) × Gapped u m s q × (passed s (way u m s) q (u .tape .end) ≡ met.Bad why k)
 
   -- how the motion of a Read comes out
   abbrev ReadComes : Motion → Type 0
@@ -292,7 +293,7 @@ module _ (u : Unit) (m s : List ℕ) where
   stage-by (sought-as.Record n t) l c (q, (g, h), y) = record { from = q; ran = c; gapped = g; below = h; met-as = y }
   stage-by (sought-as.Mark t) l c (q, (g, h), y) = rests-as _ _ (at-mark c g y) (refl, omega arith) refl
   stage-by (sought-as.Nothing q) l c ((g, h), z) = nothing-as (way u m s) q (at-end c g (z l))
-  stage-by (sought-as.Bad k) l c (q, (g, h), y) = (q, g, y)
+  stage-by (sought-as.Bad why k) l c (q, (g, h), y) = (q, g, y)
 
   -- a record that is moved: read either way, from its first block p on
   moves-as : (reverse : Bool) (n b p : ℕ) (t : Tape) (rev : Bool) → asks .pointer + asks .count .0 ≤ length m → reads u m s ≡ reverse → firstBlock reverse n b ≡ p → Standing s n p
@@ -386,10 +387,10 @@ module _ (u : Unit) (m s : List ℕ) where
   fetched-ran f (carried r a) = run (r, a)
 
   -- a motion that sends ended: a fault sends nothing
-  pub motion-sends : (P : Plan → Type 0) (Q : Ending → Type 0) (F : ℕ → Type 0) (v : Unit) (ie : Bool) → ((x : Ending) → Q x → Sends (told v ie x) → P (told v ie x)) → (y : Motion) → Comes Q F y → Sends (motionPlan v ie y) → P (motionPlan v ie y)
+  pub motion-sends : (P : Plan → Type 0) (Q : Ending → Type 0) (F : BlockFault → ℕ → Type 0) (v : Unit) (ie : Bool) → ((x : Ending) → Q x → Sends (told v ie x) → P (told v ie x)) → (y : Motion) → Comes Q F y → Sends (motionPlan v ie y) → P (motionPlan v ie y)
   unfolding motionPlan still
   motion-sends P Q F v ie tells (motion.Ended x) k t = tells x k t
-  motion-sends P Q F v ie tells (motion.Fault b) k t = absurd (clash (cc (t .0)))
+  motion-sends P Q F v ie tells (motion.Fault why b) k t = absurd (clash (cc (t .0)))
 
   -- of a plan, what `ReadDone` says of the advance
   record ReadTold (x : Plan) : Type 0 where
@@ -555,7 +556,7 @@ module _ (s : List ℕ) (e : ℕ) (r : Rule) (p : ℕ) (count : Count) where
       let past : (less : ℕ) → pick (ofMarks (y .left)) 1 0 + less ≡ howMany (y .left) → CountPast t less = λ less d. past-mark s e (r .reverse) p (howMany count) (ofMarks count) _ less q t a g (rw k at d) in
       mark-turns (SpanHas RulePast) r y t (λ n w. past _ (mark-stops-number n w)) (λ n w b. past _ (mark-number n w some)) (λ n w b. past _ (mark-number n w some))
   turn-past y (sought-as.Nothing t) k before some (a, z) = a
-  turn-past y (sought-as.Bad n) k before some a = before
+  turn-past y (sought-as.Bad why n) k before some a = before
 
   -- so where a space ends
   spaced-past : (x : Span) → Counts (ofMarks count) x → RulePast x → RulePast (spaced s r e x .span)
@@ -570,7 +571,7 @@ module _ (s : List ℕ) (e : ℕ) (r : Rule) (p : ℕ) (count : Count) where
   EndPast x = CountPast (x .tape .position) (residualWord (x .end .residual))
 
   abbrev MotionPast : Motion → Type 0
-  MotionPast = Comes EndPast (λ k. Always)
+  MotionPast = Comes EndPast (λ why k. Always)
 
   space-past : (x : Span) (stop : Stop) → RulePast x → MotionPast (spaceMotionBy r x e stop)
   unfolding spaceMotionBy
@@ -578,7 +579,7 @@ module _ (s : List ℕ) (e : ℕ) (r : Rule) (p : ℕ) (count : Count) where
   space-past x stop-as.Mark (o, c) = (o, rw (left-told r x stop-as.Mark) c)
   space-past x stop-as.LogicalEnd (o, c) = (o, rw (left-told r x stop-as.LogicalEnd) c)
   space-past x stop-as.Nothing (o, c) = (o, rw (left-told r x stop-as.Nothing) c)
-  space-past x (stop-as.Bad k) a = tt
+  space-past x (stop-as.Bad why k) a = tt
 
 -- "A Position count of 0 moves nothing"; any other reads over objects from where the tape stands
 position-past : (s : List ℕ) (t : Tape) (r : Rule) (count : Count) (enb : Bool) → MotionPast s (t .end) r (t .position) count (positioned s t r count enb)
@@ -626,7 +627,7 @@ module _ (u : Unit) (m s : List ℕ) where
       → SpaceTold reverse count (positionedBy (started u m s) s (header u m s) count reverse)
   unfolding positionedBy
   position-told reverse count =
-      motion-sends u m s (SpaceTold reverse count) _ (λ k. Always) (started u m s) (header u m s .ie) (space-told reverse count (started u m s) (header u m s .ie)) _
+      motion-sends u m s (SpaceTold reverse count) _ (λ why k. Always) (started u m s) (header u m s .ie) (space-told reverse count (started u m s) (header u m s .ie)) _
       (position-past s (u .tape) (record { reverse = reverse; ess = u .characteristics .ess }) count (u .characteristics .enb))
 
   space-ran : header u m s .code ≡ 8 → header u m s .mode < 4 → {x : Plan} → Ran u m s x → Sends u m s x → SpaceTold (reverseFirst (header u m s)) (countAsked u m s) x

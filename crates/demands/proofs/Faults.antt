@@ -1,7 +1,7 @@
 -- Which block a refusal with 7 names: the first at fault that is met, and in which way it is at fault.
 use mathlib.Core.Bool.{Bool, true, false, _&&_, and-eq-true-iff, not}
 use mathlib.Core.List.{List}
-use mathlib.Core.Path.{_≡_, refl, sym, subst, _∙_}
+use mathlib.Core.Path.{_≡_, refl, sym, ap, subst, _∙_}
 use Prim.Native.Nat.{ℕ, zero, suc, _+_, _-_, _<_, _≤_}
 use native.Mathlib.Omega.{arith}
 use borrow.Author.Tests.{eq-eqb, eqb-false, eqb-true, le-leb, leb-true, ne-eqb}
@@ -9,9 +9,12 @@ use lib.Dec.{eqb, leb}
 use Rattle.lists.specs.Pick.{Always}
 use Rattle.lists.proofs.Cases.{by-test, pick-told}
 use Rattle.tape.specs.Numbers.{piecesOf}
-use Rattle.tape.specs.Pass.{ahead, beyond, firstMet, isPiece, lowest, metBy, orderMet, passed, piecesMet, recordMet}
+use Rattle.tape.specs.Pass.{ahead, badAt, beyond, faultOf, firstMet, isPiece, lowest, metBy, orderMet, passed, piecesMet, recordMet}
 use Rattle.tape.specs.Reading.{classAt}
 use Rattle.tape.specs.Sweep.{sweptBelow, sweptFrom, sweptOn}
+use Rattle.tape.specs.Wrong.{WrongAt}
+use Rattle.tape.specs.declared.BlockFault.{BlockFault}
+use Rattle.tape.specs.declared.BlockFault.the-variants as fault
 use Rattle.tape.specs.declared.Block.{Block}
 use Rattle.tape.specs.declared.Block.the-variants as block
 use Rattle.tape.specs.declared.Met.{Met}
@@ -19,6 +22,7 @@ use Rattle.tape.specs.declared.Met.the-variants as met
 use Rattle.tape.specs.declared.Swept.{Swept}
 use Rattle.tape.specs.declared.Swept.the-variants as swept
 use Rattle.tape.proofs.Accepted.{clash}
+use Rattle.tape.proofs.Faulted.{wrong-at, wrong-told}
 use Rattle.tape.proofs.Outcomes.{Outcome, at-end, at-fault, outcome, over-gap, over-mark, over-record}
 use Rattle.tape.proofs.Passes.{PiecesAt, first-order, order-below, pieces-whole}
 use Rattle.tape.proofs.ReadBlocks.{piece-read}
@@ -36,7 +40,7 @@ piece-true (block.Piece n′ i′) n i h =
     cc (eqb-true n′ n (t .0), eqb-true i′ i (t .1))
 piece-true block.Mark n i h = cc
 piece-true block.Gap n i h = cc
-piece-true block.Damaged n i h = cc
+piece-true (block.Damaged f) n i h = cc
 
 piece-is : (b : Block) (n i : ℕ) → b ≡ block.Piece n i → isPiece b n i ≡ true
 unfolding isPiece
@@ -67,7 +71,7 @@ module _ (s : List ℕ) (e : ℕ) (reverse : Bool) (q : ℕ) where
 
   -- a pass that names a block names the first at fault
   abbrev Faulty : Met → Type 0
-  Faulty (met.Bad k) = FaultAt s e reverse q k
+  Faulty (met.Bad why k) = FaultAt s e reverse q k
   Faulty (met.Record n q′) = Always
   Faulty (met.Mark q′) = Always
   Faulty (met.Gap q′) = Always
@@ -108,7 +112,7 @@ module _ (s : List ℕ) (e : ℕ) (reverse : Bool) (q : ℕ) where
   block-faulty (block.Piece n i) h c = record-faulty n i h c
   block-faulty block.Mark h c = tt
   block-faulty block.Gap h c = tt
-  block-faulty block.Damaged h c = damaged h c
+  block-faulty (block.Damaged f) h c = damaged h c
 
   -- and so the pass over it
   pass-faulty : Faulty (passed s reverse q e)
@@ -117,9 +121,29 @@ module _ (s : List ℕ) (e : ℕ) (reverse : Bool) (q : ℕ) where
       let n : ℕ = ahead reverse q e in
       pick-told Faulty (eqb n 0) _ _ (λ t. tt) (λ t. block-faulty (classAt s (firstMet reverse q)) (one-at-least n (eqb-false n 0 t)) refl)
 
+module _ (s : List ℕ) (e : ℕ) (reverse : Bool) (q : ℕ) where
+  -- what a pass tells of a block that it names is what is wrong with that block
+  abbrev Wrongly : Met → Type 0
+  Wrongly (met.Bad why k) = WrongAt s k why
+  Wrongly (met.Record n t) = Always
+  Wrongly (met.Mark t) = Always
+  Wrongly (met.Gap t) = Always
+  Wrongly met.Nothing = Always
+
+  wrongly : (x : Met) → Outcome s reverse q e x → Wrongly x
+  wrongly x (at-end z y) = rw y tt
+  wrongly x (over-record n some most fits all y) = rw y tt
+  wrongly x (over-mark f c y) = rw y tt
+  wrongly x (over-gap f c y) = rw y tt
+  wrongly x (at-fault k y) = rw y (wrong-at s k)
+
 -- "the first at fault is named"
-pub bad-first : (s : List ℕ) (e : ℕ) (reverse : Bool) (q k : ℕ) → passed s reverse q e ≡ met.Bad k → FaultAt s e reverse q k
-bad-first s e reverse q k y = rw y at (pass-faulty s e reverse q)
+pub bad-first : (s : List ℕ) (e : ℕ) (reverse : Bool) (q : ℕ) (why : BlockFault) (k : ℕ) → passed s reverse q e ≡ met.Bad why k → FaultAt s e reverse q k
+bad-first s e reverse q why k y = rw y at (pass-faulty s e reverse q)
+
+-- and says what is wrong with it
+pub bad-wrong : (s : List ℕ) (e : ℕ) (reverse : Bool) (q : ℕ) (why : BlockFault) (k : ℕ) → passed s reverse q e ≡ met.Bad why k → WrongAt s k why
+bad-wrong s e reverse q why k y = rw y at (wrongly s e reverse q (passed s reverse q e) (outcome s reverse q e))
 
 -- the blocks ahead lie below the end
 first-below : (reverse : Bool) (q e : ℕ) → q ≤ e → 1 ≤ ahead reverse q e → firstMet reverse q < e
@@ -179,7 +203,7 @@ module _ (s : List ℕ) (e : ℕ) (reverse : Bool) (q : ℕ) (h : q ≤ e) where
   Back (met.Mark t) = Always
   Back (met.Gap t) = Always
   Back met.Nothing = Always
-  Back (met.Bad k) = Always
+  Back (met.Bad why k) = Always
 
   back-by : (x : Met) → Outcome s reverse q e x → Back x
   back-by x (at-end z y) = rw y tt
@@ -205,13 +229,13 @@ module _ (s : List ℕ) (e : ℕ) (reverse : Bool) (q : ℕ) (h : q ≤ e) where
 
 module _ (s : List ℕ) (e : ℕ) (reverse : Bool) (q : ℕ) where
   -- a piece that is not met first, or of a record that is cut off
-  record-cut : (n i : ℕ) → (i ≡ orderMet reverse (piecesOf n) 0 → piecesOf n ≤ ahead reverse q e → ⊥) → recordMet s reverse q e n i ≡ met.Bad (firstMet reverse q)
+  record-cut : (n i : ℕ) → (i ≡ orderMet reverse (piecesOf n) 0 → piecesOf n ≤ ahead reverse q e → ⊥) → recordMet s reverse q e n i ≡ met.Bad fault.Index (firstMet reverse q)
   unfolding recordMet
   record-cut n i f =
       let m : ℕ = piecesOf n in
       let first : Bool = eqb i (orderMet reverse m 0) in
       let whole : Bool = leb m (ahead reverse q e) in
-      pick-told (λ x. x ≡ met.Bad (firstMet reverse q)) (first && whole) _ _
+      pick-told (λ x. x ≡ met.Bad fault.Index (firstMet reverse q)) (first && whole) _ _
       (λ t.
       let both = and-eq-true-iff first whole .0 t in
       absurd (f (eqb-true i (orderMet reverse m 0) (both .0)) (leb-true m (ahead reverse q e) (both .1))))
@@ -219,7 +243,7 @@ module _ (s : List ℕ) (e : ℕ) (reverse : Bool) (q : ℕ) where
 
   -- the pieces before number j are the ones due and number j is not: from number i on it is the one named
   pieces-bad : (n j i c : ℕ) (x : Met) → i ≤ j → j < i + c → ((i : ℕ) → i < j → Due s e reverse q n i) → (Due s e reverse q n j → ⊥)
-      → piecesMet s reverse n (lowest reverse q (piecesOf n)) (piecesOf n) i c x ≡ met.Bad (metAt s e reverse q (piecesOf n) j)
+      → piecesMet s reverse n (lowest reverse q (piecesOf n)) (piecesOf n) i c x ≡ badAt s (metAt s e reverse q (piecesOf n) j)
   unfolding piecesMet
   pieces-bad n j i zero x h l f g = absurd (omega arith)
   pieces-bad n j i (suc c) x h l f g =
@@ -231,10 +255,10 @@ module _ (s : List ℕ) (e : ℕ) (reverse : Bool) (q : ℕ) where
       rw (piece-is _ n (orderMet reverse m i) (f i less)) (pieces-bad n j (suc i) c x less (omega arith) f g))
 
 -- and the other way: a block at fault in one of the three ways is the one that the pass names
-pub first-bad : (s : List ℕ) (e : ℕ) (reverse : Bool) (q k : ℕ) → FaultAt s e reverse q k → passed s reverse q e ≡ met.Bad k
-unfolding metBy recordMet
-first-bad s e reverse q k (damaged h c) = pass-by s e reverse q block.Damaged h c
-first-bad s e reverse q k (out-of-place {n = n} {i = i} h c f) = pass-by s e reverse q (block.Piece n i) h c ∙ record-cut s e reverse q n i f
+pub first-bad : (s : List ℕ) (e : ℕ) (reverse : Bool) (q k : ℕ) → FaultAt s e reverse q k → passed s reverse q e ≡ badAt s k
+unfolding metBy recordMet faultOf
+first-bad s e reverse q k (damaged {f = f} h c) = pass-by s e reverse q (block.Damaged f) h c ∙ rw c
+first-bad s e reverse q k (out-of-place {n = n} {i = i} h c f) = pass-by s e reverse q (block.Piece n i) h c ∙ record-cut s e reverse q n i f ∙ rw c
 first-bad s e reverse q k (not-due {n = n} {j = j} fits one l f g) =
     let m : ℕ = piecesOf n in
     let i : ℕ = orderMet reverse m 0 in
@@ -245,10 +269,10 @@ first-bad s e reverse q k (not-due {n = n} {j = j} fits one l f g) =
 -- read this way on the reel s, recorded up to e
 module _ (s : List ℕ) (e : ℕ) (reverse : Bool) where
   -- a pass that names a block, behind what was read over
-  pub first-here : {p q k : ℕ} → p ≤ e → ReadOver s e reverse p q → passed s reverse q e ≡ met.Bad k → FirstFault s e reverse p k
-  first-here {q = q} {k = k} h o y =
-      let f : FaultAt s e reverse q k = bad-first s e reverse q k y in
-      record { from = q; before = o; fault = f; below = bad-below s e reverse q k (over-below s e reverse h o) f }
+  pub first-here : {p q : ℕ} {why : BlockFault} {k : ℕ} → p ≤ e → ReadOver s e reverse p q → passed s reverse q e ≡ met.Bad why k → FirstFault s e reverse p why k
+  first-here {q = q} {why = why} {k = k} h o y =
+      let f : FaultAt s e reverse q k = bad-first s e reverse q why k y in
+      record { from = q; before = o; fault = f; below = bad-below s e reverse q k (over-below s e reverse h o) f; wrong = bad-wrong s e reverse q why k y }
 
   -- where a pass over a whole object led
   abbrev Leads : Met → ℕ → Type 0
@@ -256,46 +280,47 @@ module _ (s : List ℕ) (e : ℕ) (reverse : Bool) where
   Leads (met.Mark q) t = q ≡ t
   Leads (met.Gap q) t = q ≡ t
   Leads met.Nothing t = ⊥
-  Leads (met.Bad k) t = ⊥
+  Leads (met.Bad why k) t = ⊥
 
   one-way : (x : Met) {t t₂ : ℕ} → Leads x t → Leads x t₂ → t ≡ t₂
   one-way (met.Record n q) a b = sym a ∙ b
   one-way (met.Mark q) a b = sym a ∙ b
   one-way (met.Gap q) a b = sym a ∙ b
   one-way met.Nothing a b = absurd a
-  one-way (met.Bad k) a b = absurd a
+  one-way (met.Bad why k) a b = absurd a
 
   -- block k is the one named ahead of a position: by the pass from there, or further on, from where that pass leads
-  data NamedAhead (k : ℕ) : ℕ → Type 0 where
-    at-once : {q : ℕ} → passed s reverse q e ≡ met.Bad k → NamedAhead k q
-    further : {q t : ℕ} → Leads (passed s reverse q e) t → NamedAhead k t → NamedAhead k q
+  data NamedAhead (why : BlockFault) (k : ℕ) : ℕ → Type 0 where
+    at-once : {q : ℕ} → passed s reverse q e ≡ met.Bad why k → NamedAhead why k q
+    further : {q t : ℕ} → Leads (passed s reverse q e) t → NamedAhead why k t → NamedAhead why k q
 
   -- behind what was read over too, an object at a time
-  named-behind : {p q k : ℕ} → ReadOver s e reverse p q → NamedAhead k q → NamedAhead k p
+  named-behind : {p q : ℕ} {why : BlockFault} {k : ℕ} → ReadOver s e reverse p q → NamedAhead why k q → NamedAhead why k p
   named-behind nothing-yet a = a
   named-behind (then-record o y) a = named-behind o (further (rw y refl) a)
   named-behind (then-mark o y) a = named-behind o (further (rw y refl) a)
   named-behind (then-gap o y) a = named-behind o (further (rw y refl) a)
 
-  first-named : {p k : ℕ} → FirstFault s e reverse p k → NamedAhead k p
-  first-named {k = k} f = named-behind (f .before) (at-once (first-bad s e reverse (f .from) k (f .fault)))
+  first-named : {p : ℕ} {why : BlockFault} {k : ℕ} → FirstFault s e reverse p why k → NamedAhead why k p
+  first-named {why = why} {k = k} f =
+      named-behind (f .before) (at-once (first-bad s e reverse (f .from) k (f .fault) ∙ ap (λ (g : BlockFault). met.Bad g k) (wrong-told s k why (f .wrong))))
 
   -- a pass from one position has one outcome
-  one-named : {q k k₂ : ℕ} → NamedAhead k q → NamedAhead k₂ q → k ≡ k₂
-  one-named (at-once y) (at-once z) = cc (y, z)
+  one-named : {q : ℕ} {why why₂ : BlockFault} {k k₂ : ℕ} → NamedAhead why k q → NamedAhead why₂ k₂ q → (why ≡ why₂) × (k ≡ k₂)
+  one-named (at-once y) (at-once z) = (cc (y, z), cc (y, z))
   one-named (at-once y) (further l b) = absurd (rw y at l)
   one-named (further l a) (at-once z) = absurd (rw z at l)
-  one-named {q = q} {k₂ = k₂} (further l a) (further l₂ b) = one-named a (subst (NamedAhead k₂) (one-way (passed s reverse q e) l₂ l) b)
+  one-named {q = q} {why₂ = why₂} {k₂ = k₂} (further l a) (further l₂ b) = one-named a (subst (NamedAhead why₂ k₂) (one-way (passed s reverse q e) l₂ l) b)
 
-  -- one block only is the first at fault that lies ahead of p
-  pub first-unique : {p k k₂ : ℕ} → FirstFault s e reverse p k → FirstFault s e reverse p k₂ → k ≡ k₂
+  -- one block only is the first at fault that lies ahead of p, and one fault is what is wrong with it
+  pub first-unique : {p : ℕ} {why why₂ : BlockFault} {k k₂ : ℕ} → FirstFault s e reverse p why k → FirstFault s e reverse p why₂ k₂ → (why ≡ why₂) × (k ≡ k₂)
   first-unique f g = one-named (first-named f) (first-named g)
 
 module _ (s : List ℕ) (e : ℕ) where
   -- the first fault from block 0 where a sweep names a block
   abbrev SweptOver : Swept → Type 0
   SweptOver swept.Whole = Always
-  SweptOver (swept.Bad k) = FirstFault s e false 0 k
+  SweptOver (swept.Bad why k) = FirstFault s e false 0 why k
 
   -- one turn of the sweep: every object sends it on
   swept-on : (q : ℕ) (x : Met) (onward : ℕ → Swept) → ReadOver s e false 0 q → passed s false q e ≡ x → ((t : ℕ) → ReadOver s e false 0 t → SweptOver (onward t)) → SweptOver (sweptOn x onward)
@@ -304,7 +329,7 @@ module _ (s : List ℕ) (e : ℕ) where
   swept-on q (met.Mark t) onward o y on = on t (then-mark o y)
   swept-on q (met.Gap t) onward o y on = on t (then-gap o y)
   swept-on q met.Nothing onward o y on = tt
-  swept-on q (met.Bad k) onward o y on = first-here s e false (omega arith) o y
+  swept-on q (met.Bad why k) onward o y on = first-here s e false (omega arith) o y
 
   -- every turn, from a position that was read over to
   swept-from : (turns q : ℕ) → ReadOver s e false 0 q → SweptOver (sweptFrom turns s q e)
@@ -313,6 +338,6 @@ module _ (s : List ℕ) (e : ℕ) where
   swept-from (suc turns) q o = swept-on q (passed s false q e) (λ t. sweptFrom turns s t e) o refl (λ t a. swept-from turns t a)
 
   -- "Mount reads every block below the end it is given": the sweep names the first block at fault
-  pub swept-first : (k : ℕ) → sweptBelow s e ≡ swept.Bad k → FirstFault s e false 0 k
+  pub swept-first : (why : BlockFault) (k : ℕ) → sweptBelow s e ≡ swept.Bad why k → FirstFault s e false 0 why k
   unfolding sweptBelow
-  swept-first k y = rw y at (swept-from e 0 nothing-yet)
+  swept-first why k y = rw y at (swept-from e 0 nothing-yet)

@@ -74,7 +74,7 @@ module _ (s m : List ℕ) where
     retry-by l mark q (sought-as.Record n q′) e = rw e (write-has (behindGap l q′) mark)
     retry-by l mark q (sought-as.Mark q′) e = rw e (write-has (behindGap l q′) mark)
     retry-by l mark q (sought-as.Nothing q′) e = λ j h. ap (λ (r : List ℕ). getD r j 0) none-laid
-    retry-by l mark q (sought-as.Bad k) e = tt
+    retry-by l mark q (sought-as.Bad why k) e = tt
 
     -- "Retry: space reverse over gaps and one record or mark, then a one-block gap, then the new object. None found: .. nothing written."
     pub retry-keeps-below : (l : Laid) (mark : Bool) (q : ℕ) {x : Ending} → StopsAt q (sought s true (t .position) (t .end)) → retried s t blocks l mark ≡ motion.Ended x → KeptBelow s m q x

@@ -9,6 +9,7 @@ use Rattle.tape.specs.Pass.{ahead, passed}
 use Rattle.tape.specs.declared.Met.{Met}
 use Rattle.tape.specs.declared.Met.the-variants as met
 use Rattle.tape.proofs.Within.{Onward, PassIn, fewer-ahead, pass-in}
+use Rattle.tape.specs.declared.BlockFault.{BlockFault}
 use Rattle.state.specs.declared.Unit.{Unit}
 use Rattle.moves.specs.Seeking.{sought, soughtFrom, soughtOn}
 use Rattle.moves.specs.declared.seeking.Sought.{Sought}
@@ -28,7 +29,7 @@ module _ (s : List ℕ) (e : ℕ) (reverse : Bool) (At : ℕ → Type 0) (behind
   Meets (sought-as.Record n t) = (q : ℕ) × At q × (passed s reverse q e ≡ met.Record n t)
   Meets (sought-as.Mark t) = (q : ℕ) × At q × (passed s reverse q e ≡ met.Mark t)
   Meets (sought-as.Nothing q) = At q × (p ≤ e → ahead reverse q e ≡ 0)
-  Meets (sought-as.Bad k) = (q : ℕ) × At q × (passed s reverse q e ≡ met.Bad k)
+  Meets (sought-as.Bad why k) = (q : ℕ) × At q × (passed s reverse q e ≡ met.Bad why k)
 
   meets-on : (q : ℕ) (x : Met) (onward : ℕ → Sought) → At q → passed s reverse q e ≡ x → (p ≤ e → PassIn reverse q e x)
       → ((t : ℕ) → (p ≤ e → Onward reverse q e t) → At t → Meets (onward t)) → Meets (soughtOn x q onward)
@@ -37,7 +38,7 @@ module _ (s : List ℕ) (e : ℕ) (reverse : Bool) (At : ℕ → Type 0) (behind
   meets-on q (met.Mark t) onward a y i on = (q, a, y)
   meets-on q (met.Gap t) onward a y i on = on t i (behind q t a y)
   meets-on q met.Nothing onward a y i on = (a, i)
-  meets-on q (met.Bad k) onward a y i on = (q, a, y)
+  meets-on q (met.Bad why k) onward a y i on = (q, a, y)
 
   -- a gap takes a block, so the turns are enough
   meets-from : (turns q : ℕ) → (p ≤ e → (q ≤ e) × (ahead reverse q e ≤ turns)) → At q → Meets (soughtFrom turns s reverse q e)
@@ -56,19 +57,19 @@ pub nothing-ahead : (s : List ℕ) (e : ℕ) (reverse : Bool) (p : ℕ) {q : ℕ
 nothing-ahead s e reverse p h none = (rw none at (meets s e reverse (λ q. Always) (λ q t a y. tt) p tt)) .1 h
 
 -- how a motion came out: Q of its ending, or F of the block that refuses it
-abbrev pub Comes : (Ending → Type 0) → (ℕ → Type 0) → Motion → Type 0
+abbrev pub Comes : (Ending → Type 0) → (BlockFault → ℕ → Type 0) → Motion → Type 0
 Comes Q F (motion.Ended x) = Q x
-Comes Q F (motion.Fault k) = F k
+Comes Q F (motion.Fault why k) = F why k
 
 -- and a plan's answer: F of the block that it names
-abbrev pub Answers : (ℕ → Type 0) → Answer → Type 0
-Answers F (answer.BadBlock k) = F k
+abbrev pub Answers : (BlockFault → ℕ → Type 0) → Answer → Type 0
+Answers F (answer.BadBlock why k) = F why k
 Answers F (answer.Done i) = Always
 Answers F answer.Idle = Always
 Answers F (answer.Refused n) = Always
 
 -- a motion's fault is its plan's answer
-pub motion-answers : (Q : Ending → Type 0) (F : ℕ → Type 0) (u : Unit) (ie : Bool) (x : Motion) → Comes Q F x → Answers F (motionPlan u ie x .answer)
+pub motion-answers : (Q : Ending → Type 0) (F : BlockFault → ℕ → Type 0) (u : Unit) (ie : Bool) (x : Motion) → Comes Q F x → Answers F (motionPlan u ie x .answer)
 unfolding motionPlan told still
 motion-answers Q F u ie (motion.Ended x) c = tt
-motion-answers Q F u ie (motion.Fault k) c = c
+motion-answers Q F u ie (motion.Fault why k) c = c

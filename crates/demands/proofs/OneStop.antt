@@ -10,6 +10,7 @@ use Rattle.lists.specs.Pick.{pick}
 use Rattle.tape.specs.Pass.{ahead, passed}
 use Rattle.tape.specs.declared.Met.{Met}
 use Rattle.tape.specs.declared.Met.the-variants as met
+use Rattle.tape.specs.declared.BlockFault.{BlockFault}
 use Rattle.signals.specs.Bits.{LET, OPI, REV, RIB, RLS, TMK}
 use Rattle.signals.specs.Message.{flagOf}
 use Rattle.signals.specs.Residuals.{residualWord}
@@ -77,7 +78,7 @@ module _ (s : List ℕ) (t : Tape) (rule : Rule) (count : Count) where
       pick (rule .reverse)
       (halts (tells (x .at) (left-at x) 2 (flagOf (x .tmk) TMK + flagOf (not (eqb (left-at x) 0)) RLS) (REV + RIB)))
       (halts (tells (x .at) (left-at x) 6 (flagOf (x .tmk) TMK) OPI))
-  onMet x (met.Bad k) = faults
+  onMet x (met.Bad why k) = faults
 
   abbrev metAhead : Place → Met
   metAhead x = passed s (rule .reverse) (x .at) (t .end)
@@ -189,7 +190,7 @@ module _ (s : List ℕ) (t : Tape) (rule : Rule) (count : Count) where
         (ap (λ z. z .position) same, ap (λ z. z .left) same, ap (λ z. z .class) same, ap (λ z. z .found) same, ap (λ z. z .xst3) same)
 
     -- and where a block refuses it there is none
-    pub no-end : {x : Ending} {k : ℕ} → SpaceEnded s t rule count first x → SpaceRefused s t rule count first k → ⊥
+    pub no-end : {x : Ending} {why : BlockFault} {k : ℕ} → SpaceEnded s t rule count first x → SpaceRefused s t rule count first why k → ⊥
     no-end a b =
         let leads : Leads faults (place (t .position) 0 false first) = goes-leads (b .goes) (now (next-met (behind (b .from) (b .over)) _ (b .more) (b .bad)) refl) in
         true≢false (ap halts-is (one-last (why-leads (a .counted) (a .why)) leads))

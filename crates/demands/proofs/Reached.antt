@@ -7,6 +7,7 @@ use native.Mathlib.Omega.{arith}
 use borrow.Author.Tests.{eqb-true, ltb-false, ltb-true, ne-eqb}
 use lib.Dec.{eqb, leb, ltb}
 use lib.ListN.{length}
+use Rattle.tape.specs.declared.BlockFault.{BlockFault}
 use Rattle.lists.specs.Pick.{Always}
 use Rattle.lists.proofs.Cases.{by-test, pick-told}
 use Rattle.signals.specs.Codes.{commandOf, controlMode, formatMode, positionMode, readMode, singleMode, writeMode}
@@ -47,8 +48,8 @@ use Rattle.demands.proofs.Stopping.{space-comes, space-of-none}
 use Rattle.demands.proofs.Ways.{advanced-way}
 
 -- what the block named means, said in other words
-answers-as : (F G : ℕ → Type 0) (a : Answer) → ((k : ℕ) → F k → G k) → Answers F a → Answers G a
-answers-as F G (answer.BadBlock k) f h = f k h
+answers-as : (F G : BlockFault → ℕ → Type 0) (a : Answer) → ((why : BlockFault) (k : ℕ) → F why k → G why k) → Answers F a → Answers G a
+answers-as F G (answer.BadBlock why k) f h = f why k h
 answers-as F G (answer.Done i) f h = tt
 answers-as F G answer.Idle f h = tt
 answers-as F G (answer.Refused n) f h = tt
@@ -66,7 +67,7 @@ write-one h y z = (rw (y, z), rw (y, z))
 format-one : (h : Header) → h .code ≡ 9 → h .mode ≡ 2 → (readsOne h ≡ true) × (reverseFirst h ≡ true)
 format-one h y z = (rw (y, z), rw (y, z))
 
-module _ (F : ℕ → Type 0) where
+module _ (F : BlockFault → ℕ → Type 0) where
   -- nothing is read where an object is written
   written-none : (t : Tape) (blocks : ℕ) (l : Laid) (mark : Bool) → Comes (λ x. Always) F (writtenAt t blocks l mark)
   unfolding writtenAt noRoom writtenMotion
@@ -103,7 +104,7 @@ module _ (u : Unit) (m s : List ℕ) (inside : u .tape .position ≤ u .tape .en
         let h : Header = header u m s in
         subst Must (read-command (h .code) (h .mode) code)
         (answers-as (FirstBad u m s) (MustRead u m s) (carriedOut (started u m s) m s h (packet u m s) (commandOf (h .code) (h .mode)) .answer)
-        (λ k (q, g, y). of-one ran (read-one h code) g y) (read-refused u m s inside code ran))
+        (λ why k (q, g, y). of-one ran (read-one h code) g y) (read-refused u m s inside code ran))
 
     -- a retry, by what its space back met
     module _ (l : Laid) (mark : Bool) (one : readsOne (header u m s) ≡ true) where
@@ -113,7 +114,7 @@ module _ (u : Unit) (m s : List ℕ) (inside : u .tape .position ≤ u .tape .en
       retry-by (sought-as.Record n q) o = written-none (MustRead u m s) (u .tape) (u .lengths .blocks) (behindGap l q) mark
       retry-by (sought-as.Mark q) o = written-none (MustRead u m s) (u .tape) (u .lengths .blocks) (behindGap l q) mark
       retry-by (sought-as.Nothing q) o = tt
-      retry-by (sought-as.Bad k) (q, g, y) = of-one ran one g y
+      retry-by (sought-as.Bad why k) (q, g, y) = of-one ran one g y
 
       retry-must : way u m s ≡ true → Moves (retried s (u .tape) (u .lengths .blocks) l mark)
       unfolding retried
@@ -142,7 +143,7 @@ module _ (u : Unit) (m s : List ℕ) (inside : u .tape .position ≤ u .tape .en
         (either Must (eqb mode 1) _ _ (written-must _ _) (pick-told Must (eqb mode 2) _ _ (λ t. let w = format-one (header u m s) code (eqb-true mode 2 t) in retry-must _ _ (w .0) (w .1)) (λ t. tt)))
 
     -- a Position mode 0 to 3, with a count or without
-    abbrev Refuses : ℕ → Type 0
+    abbrev Refuses : BlockFault → ℕ → Type 0
     Refuses = SpaceRefused s (u .tape) (ruleAsked u m s) (countAsked u m s) (markAtStart u m s)
 
     space-answers : Answers Refuses (positionedBy (started u m s) s (header u m s) (countAsked u m s) (way u m s) .answer)
@@ -163,7 +164,7 @@ module _ (u : Unit) (m s : List ℕ) (inside : u .tape .position ≤ u .tape .en
         (λ t.
         let few : h .mode < 4 = ltb-true (h .mode) 4 t in
         let is : carriedOut (started u m s) m s h (packet u m s) (positionMode (h .mode)) ≡ by (way u m s) = position-mode (started u m s) m s h (packet u m s) (h .mode) few ∙ ap by (sym (position-reverse h code)) in
-        rw is (answers-as Refuses (MustRead u m s) (by (way u m s) .answer) (λ k x. of-many ran code few x) space-answers))
+        rw is (answers-as Refuses (MustRead u m s) (by (way u m s) .answer) (λ why k x. of-many ran code few x) space-answers))
         (λ t. rewind-none (MustRead u m s) (started u m s) m s h (packet u m s) (h .mode) (ltb-false (h .mode) 4 t))
 
     -- every command, by its code
@@ -200,8 +201,8 @@ module _ (u : Unit) (m s : List ℕ) (inside : u .tape .position ≤ u .tape .en
   way-must (carried r a) = command-must (r, a)
 
 -- "7 a block that mount or the command must read is damaged or out of place (its number is given)": the command must read it
-pub advanced-must : (u : Unit) (m s : List ℕ) (k : ℕ) → u .tape .position ≤ u .tape .end → advanced u m s .answer ≡ answer.BadBlock k → MustRead u m s k
-advanced-must u m s k inside y =
+pub advanced-must : (u : Unit) (m s : List ℕ) (why : BlockFault) (k : ℕ) → u .tape .position ≤ u .tape .end → advanced u m s .answer ≡ answer.BadBlock why k → MustRead u m s why k
+advanced-must u m s why k inside y =
     let a : Answers (MustRead u m s) (advanced u m s .answer) = way-must u m s inside (advanced-way u m s) in
     rw y at a
 
@@ -211,6 +212,6 @@ gapped-over u m s at-once = nothing-yet
 gapped-over u m s (behind-gap g y) = then-gap (gapped-over u m s g) y
 
 -- a block that a command must read is the first at fault that lies ahead of where the tape stands, the way of its first stage
-pub must-first : (u : Unit) (m s : List ℕ) (k : ℕ) → u .tape .position ≤ u .tape .end → MustRead u m s k → FirstFault s (u .tape .end) (reverseFirst (header u m s)) (u .tape .position) k
-must-first u m s k inside (of-one ran one g y) = first-here s (u .tape .end) (way u m s) inside (gapped-over u m s g) y
-must-first u m s k inside (of-many ran code few x) = first-here s (u .tape .end) (way u m s) inside (x .over) (x .bad)
+pub must-first : (u : Unit) (m s : List ℕ) (why : BlockFault) (k : ℕ) → u .tape .position ≤ u .tape .end → MustRead u m s why k → FirstFault s (u .tape .end) (reverseFirst (header u m s)) (u .tape .position) why k
+must-first u m s why k inside (of-one ran one g y) = first-here s (u .tape .end) (way u m s) inside (gapped-over u m s g) y
+must-first u m s why k inside (of-many ran code few x) = first-here s (u .tape .end) (way u m s) inside (x .over) (x .bad)

@@ -14,7 +14,7 @@ use Rattle.moves.specs.declared.seeking.Sought.{Sought}
 use Rattle.moves.proofs.Finds.{finds}
 use Rattle.moves.proofs.FoundAt.{found-bytes}
 use Rattle.motions.specs.Parts.{standing}
-use Rattle.motions.specs.Reads.{firstBlock, onRecord, readMotion, readOne, stageBy, stageOf}
+use Rattle.motions.specs.Reads.{firstBlock, onRecord, readMotion, readOne, stageBy, stageOf, stopMotion}
 use Rattle.motions.specs.declared.reads.Buffer.{Buffer}
 use Rattle.storing.specs.Stored.{movedOn}
 use Rattle.demands.specs.Reading.{Moves, ReadEnds, met-mark, met-nothing, met-record}
@@ -30,7 +30,7 @@ module _ {s : List ℕ} {e : ℕ} {os : List Object} (h : Holds s e os) (r : Buf
 
   module _ (b : Bound os p) where
     one-by : {f : Sought} → Finds os reverse p f → ReadEnds os p e r reverse (λ d q. Moves s e r d reverse reverse q) (onRecord (stageBy (standing p e) (r .count) reverse f) (λ n q. readMotion r reverse n q (standing q e) reverse))
-    unfolding onRecord stageBy firstBlock
+    unfolding onRecord stageBy stopMotion firstBlock
     one-by (finds-record d {gaps = gaps} {q = q} g w) = met-record d g w (moves-found d gaps w reverse reverse q q refl)
     one-by (finds-mark g w) = met-mark g w
     one-by (finds-nothing g w z) = met-nothing g w z

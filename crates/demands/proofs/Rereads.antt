@@ -24,7 +24,7 @@ use Rattle.moves.proofs.Finds.{finds}
 use Rattle.moves.proofs.FoundAt.{found-stands}
 use Rattle.moves.proofs.Within.{sought-record}
 use Rattle.motions.specs.Parts.{standing}
-use Rattle.motions.specs.Reads.{firstBlock, onRecord, readOne, readThenSpace, reread, spaceBack, spaceThenRead, stageBy, stageOf}
+use Rattle.motions.specs.Reads.{firstBlock, onRecord, readOne, readThenSpace, reread, spaceBack, spaceThenRead, stageBy, stageOf, stopMotion}
 use Rattle.motions.specs.declared.parts.Motion.{Motion}
 use Rattle.motions.specs.declared.reads.Buffer.{Buffer}
 use Rattle.demands.specs.Reading.{BothStages, Moves, ReadEnds, met-mark, met-nothing, met-record}
@@ -79,7 +79,7 @@ module _ {s : List ℕ} {e : ℕ} {os : List Object} (h : Holds s e os) (r : Buf
       (pick opp
       (onRecord (stageBy (standing p e) (r .count) reverse f) (λ n q. spaceBack s e r reverse n q))
       (onRecord (stageBy (standing p e) (r .count) reverse f) (λ n q. readOne s (standing q e) r (not reverse))))
-  unfolding onRecord stageBy
+  unfolding onRecord stageBy stopMotion
   by-first false k (finds-record d {gaps = gaps} g w) = met-record d g w (then-read d gaps w k)
   by-first true k (finds-record d {gaps = gaps} g w) = met-record d g w (then-space d gaps w k)
   by-first false k (finds-mark g w) = met-mark g w

@@ -10,6 +10,7 @@ use lib.Dec.{eqb}
 use Rattle.lists.specs.Pick.{Always}
 use Rattle.lists.proofs.Cases.{pick-told}
 use Rattle.tape.specs.Objects.{Holds, Object}
+use Rattle.tape.specs.declared.BlockFault.{BlockFault}
 use Rattle.signals.specs.Residuals.{residualWord}
 use Rattle.signals.specs.declared.message.End.{End}
 use Rattle.state.specs.declared.Tape.{Tape}
@@ -63,11 +64,11 @@ module _ (r : Buffer) where
   StageAdds = StageHas (Has Adds) (λ n q. Always)
 
   stage-by : (t : Tape) (reverse : Bool) (f : Sought) → StageAdds (stageBy t (r .count) reverse f)
-  unfolding stageBy
+  unfolding stageBy stopMotion
   stage-by t reverse (sought-as.Record n q) = tt
   stage-by t reverse (sought-as.Mark q) = mark-adds reverse q (t .end)
   stage-by t reverse (sought-as.Nothing q) = nothing-adds reverse q (t .end)
-  stage-by t reverse (sought-as.Bad k) = tt
+  stage-by t reverse (sought-as.Bad why k) = tt
 
   module _ (s : List ℕ) where
     stage-adds : (t : Tape) (reverse : Bool) → StageAdds (stageOf s t (r .count) reverse)
@@ -122,15 +123,15 @@ module _ (r : Rule) (x : Span) where
   left-told stop-as.LogicalEnd = residual-word (x .left)
   left-told stop-as.Nothing =
       either (λ (y : End). residualWord (y .residual) ≡ howMany (x .left)) (r .reverse) _ _ (residual-word (x .left)) (residual-word (x .left))
-  left-told (stop-as.Bad k) = residual-word (x .left)
+  left-told (stop-as.Bad why k) = residual-word (x .left)
 
-  class-told : (stop : Stop) → ((k : ℕ) → stop ≡ stop-as.Bad k → ⊥) → spaceEnd r x stop .class ≡ 0 → stop ≡ stop-as.Count
+  class-told : (stop : Stop) → ((why : BlockFault) (k : ℕ) → stop ≡ stop-as.Bad why k → ⊥) → spaceEnd r x stop .class ≡ 0 → stop ≡ stop-as.Count
   unfolding spaceEnd
   class-told stop-as.Count n c = refl
   class-told stop-as.Mark n c = absurd (omega arith)
   class-told stop-as.LogicalEnd n c = absurd (omega arith)
   class-told stop-as.Nothing n c = absurd (either (λ (y : End). y .class ≡ 0 → ⊥) (r .reverse) _ _ (λ z. omega arith) (λ z. omega arith) c)
-  class-told (stop-as.Bad k) n c = absurd (n k refl)
+  class-told (stop-as.Bad why k) n c = absurd (n why k refl)
 
 module _ {s : List ℕ} {os : List Object} (t : Tape) (h : Holds s (t .end) os) (b : Bound os (t .position)) (r : Rule) (count : Count) where
   -- "A Position count of 0 moves nothing, class 0"
@@ -160,7 +161,7 @@ module _ {s : List ℕ} {os : List Object} (t : Tape) (h : Holds s (t .end) os) 
           counted = rw (left-told r (spaces .span) stop) (done .2);
           whole =
               λ c. left-told r (spaces .span) stop
-              ∙ spaced-why s r (t .end) from (bound-below h b) (e ∙ class-told r (spaces .span) stop (λ k z. spaced-sound h r from b k (e ∙ z)) c);
+              ∙ spaced-why s r (t .end) from (bound-below h b) (e ∙ class-told r (spaces .span) stop (λ why k z. spaced-sound h r from b why k (e ∙ z)) c);
         }
 
     motion-by : (stop : Stop) → spaces .stop ≡ stop → Has (SpacedPast os r (t .position) count) (spaceMotionBy r (spaces .span) (t .end) stop)
@@ -169,7 +170,7 @@ module _ {s : List ℕ} {os : List Object} (t : Tape) (h : Holds s (t .end) os) 
     motion-by stop-as.Mark e = stopped-as stop-as.Mark e
     motion-by stop-as.LogicalEnd e = stopped-as stop-as.LogicalEnd e
     motion-by stop-as.Nothing e = stopped-as stop-as.Nothing e
-    motion-by (stop-as.Bad k) e = tt
+    motion-by (stop-as.Bad why k) e = tt
 
     passes : Has (SpacedPast os r (t .position) count) (positioned s t r count enb)
     unfolding positioned spaceMotion

@@ -72,7 +72,7 @@ module _ (v : Unit) (clear : v .registers .nba ≡ false) where
   motion-done : (ie : Bool) (y : Motion) → Done (motionPlan v ie y)
   unfolding motionPlan told toldUnit ended still
   motion-done ie (motion.Ended x) i e = rw clear
-  motion-done ie (motion.Fault k) i e = absurd (clash (cc e))
+  motion-done ie (motion.Fault why k) i e = absurd (clash (cc e))
 
   carried-done : (m s : List ℕ) (h : Header) (p : Packet) (c : Command) → Telling c → Done (carriedOut v m s h p c)
   unfolding carriedOut readBy rereadBy positionedBy writtenBy formatted rewound unloaded plainEffect told toldUnit ended

@@ -118,7 +118,7 @@ module _ (s : List ℕ) (t : Tape) (rule : Rule) (count : Count) (first : Bool) 
   Why y stop-as.Mark = Ends (y .position) (howMany (y .left)) (spaceEnd rule y stop-as.Mark)
   Why y stop-as.LogicalEnd = Ends (y .position) (howMany (y .left)) (spaceEnd rule y stop-as.LogicalEnd)
   Why y stop-as.Nothing = Ends (y .position) (howMany (y .left)) (spaceEnd rule y stop-as.Nothing)
-  Why y (stop-as.Bad k) = SpaceRefused s t rule count first k
+  Why y (stop-as.Bad why k) = SpaceRefused s t rule count first why k
 
   abbrev Turned : Turn → Type 0
   Turned x = TurnHas KeptAt (λ z. Why (z .span) (z .stop)) x
@@ -137,7 +137,7 @@ module _ (s : List ℕ) (t : Tape) (rule : Rule) (count : Count) (first : Bool) 
       (λ n e w. ends-logical _ (marks (n .0 - 1)) _ _ q b k g some (sym same ∙ ap ofMarks e) w (rw same at (mark-number n e some)))
       (λ n e w. kept-mark _ _ _ _ q b k g some (sym same ∙ ap ofMarks e) w (rw same at (mark-number n e some)))
   turn-kept y (sought-as.Nothing q) same some l (k, h) = ends-nothing _ _ _ q k some (h l)
-  turn-kept y (sought-as.Bad b) same some l (q, k, g) = record { from = q; over = k .over; goes = k .goes; more = more some (k .adds); bad = g }
+  turn-kept y (sought-as.Bad why b) same some l (q, k, g) = record { from = q; over = k .over; goes = k .goes; more = more some (k .adds); bad = g }
 
   -- so where the space stops
   spaced-kept : (x : Span) → t .position ≤ t .end → Counts (ofMarks count) x → KeptAt x → Why (spaced s rule (t .end) x .span) (spaced s rule (t .end) x .stop)
@@ -165,7 +165,7 @@ module _ (s : List ℕ) (t : Tape) (rule : Rule) (count : Count) (first : Bool) 
   motion-comes y stop-as.Mark k z = ends-told y stop-as.Mark k
   motion-comes y stop-as.LogicalEnd k z = ends-told y stop-as.LogicalEnd k
   motion-comes y stop-as.Nothing k z = ends-told y stop-as.Nothing k
-  motion-comes y (stop-as.Bad b) k z = k
+  motion-comes y (stop-as.Bad why b) k z = k
 
 -- how a Position mode 0 to 3 with a count comes out, from where the tape stands: a block refuses it only where it has to be read
 pub space-comes : (s : List ℕ) (t : Tape) (rule : Rule) (count : Count) (enb : Bool) → t .position ≤ t .end → eqb (howMany count) 0 ≡ false

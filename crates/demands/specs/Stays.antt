@@ -19,4 +19,4 @@ abbrev pub StopsAt : ℕ → Sought → Type 0
 StopsAt q (sought-as.Record n q′) = q ≡ q′
 StopsAt q (sought-as.Mark q′) = q ≡ q′
 StopsAt q (sought-as.Nothing q′) = Always
-StopsAt q (sought-as.Bad k) = Always
+StopsAt q (sought-as.Bad why k) = Always

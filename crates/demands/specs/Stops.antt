@@ -9,6 +9,7 @@ use Prim.Native.Nat.{ℕ, _+_, _<_}
 use lib.Dec.{eqb}
 use Rattle.tape.specs.Pass.{ahead, passed}
 use Rattle.tape.specs.declared.Met.the-variants as met
+use Rattle.tape.specs.declared.BlockFault.{BlockFault}
 use Rattle.signals.specs.Bits.{LET, OPI, REV, RIB, RLS, TMK}
 use Rattle.signals.specs.Message.{flagOf}
 use Rattle.signals.specs.Residuals.{residualWord}
@@ -75,9 +76,9 @@ module _ (s : List ℕ) (t : Tape) (rule : Rule) (count : Count) (first : Bool) 
     pub why : Stopped (residualWord (x .end .residual)) (x .tape .position) over (x .end .class) (x .end .found) (x .end .xst3)
 
   -- block k refuses it: with some of the count left it has to be read, behind what was read over
-  pub record SpaceRefused (k : ℕ) : Type 0 where
+  pub record SpaceRefused (why : BlockFault) (k : ℕ) : Type 0 where
     pub from : ℕ
     pub over : Over from
     pub goes : Goes rule count first from over
     pub more : passedIn (ofMarks count) over < howMany count
-    pub bad : passed s (rule .reverse) from (t .end) ≡ met.Bad k
+    pub bad : passed s (rule .reverse) from (t .end) ≡ met.Bad why k

@@ -112,7 +112,7 @@ pub fn advance(s: Session, mem: &mut [u8], reel: &mut [u8], jrnl: &mut [u8]) -> 
         Answer::Done(_) => step(s, p, mem, reel, jrnl),
         Answer::Idle => Outcome { answer, session: s },
         Answer::Refused(_) => Outcome { answer, session: s },
-        Answer::BadBlock(_) => Outcome { answer, session: s },
+        Answer::BadBlock(_, _) => Outcome { answer, session: s },
     }
 }
 
@@ -172,7 +172,7 @@ pub fn mount(
             answer,
             session: old,
         },
-        Answer::BadBlock(_) => Outcome {
+        Answer::BadBlock(_, _) => Outcome {
             answer,
             session: old,
         },

@@ -6,6 +6,7 @@ use lib.ListN.{length}
 use Rattle.tape.specs.Numbers.{blockBytes}
 use Rattle.tape.specs.Objects.{Holds, Object}
 use Rattle.tape.proofs.Accepted.{clash}
+use Rattle.tape.specs.declared.BlockFault.{BlockFault}
 use Rattle.signals.specs.Codes.{commandOf}
 use Rattle.state.specs.declared.Tape.{Tape}
 use Rattle.state.specs.declared.Unit.{Unit}
@@ -35,11 +36,11 @@ module _ (s m : List ℕ) (u : Unit) (w : length s ≡ blockBytes * u .lengths .
       carried-kept s m v (rw (a .lengths) w) (still-formed v a) h p (commandOf (h .code) (h .mode)) (right-count h (p .count) f)
 
   plan-kept : KeptPlan s m (advanced u m s)
-  plan-kept = advanced-all u m s (KeptPlan s m) rejects untolds carries (still-kept s m u answer.Idle k (λ b c. clash (cc)))
+  plan-kept = advanced-all u m s (KeptPlan s m) rejects untolds carries (still-kept s m u answer.Idle k (λ why b c. clash (cc)))
 
 module _ (u : Unit) (m s : List ℕ) {os : List Object} (w : length s ≡ blockBytes * u .lengths .blocks) (h : Holds s (u .tape .end) os) (b : Bound os (u .tape .position)) where
   pub advanced-kept : Formed (reelAfter (advanced u m s) m s) (advanced u m s .unit .tape)
   advanced-kept = plan-kept s m u w (os, h, b) .stands
 
-  pub advanced-no-fault : (k : ℕ) → advanced u m s .answer ≡ answer.BadBlock k → ⊥
+  pub advanced-no-fault : (why : BlockFault) (k : ℕ) → advanced u m s .answer ≡ answer.BadBlock why k → ⊥
   advanced-no-fault = plan-kept s m u w (os, h, b) .sound

@@ -58,7 +58,7 @@ module _ (s m : List ℕ) (t : Tape) (os : List Object) (o : Object) (mode : ℕ
   -- or nothing laid, and the recorded end as it was
   abbrev MotionLeaves : Motion → Type 0
   MotionLeaves (motion.Ended x) = Left (laidOn s m (x .laid)) (x .tape) ⊎ ((x .laid ≡ noLay) × (x .tape .end ≡ t .end))
-  MotionLeaves (motion.Fault k) = ⊥
+  MotionLeaves (motion.Fault why k) = ⊥
 
   abbrev PlanLeaves : Plan → Type 0
   PlanLeaves q = Left (reelAfter q m s) (q .unit .tape) ⊎ Unlaid (t .end) q
@@ -67,7 +67,7 @@ module _ (s m : List ℕ) (t : Tape) (os : List Object) (o : Object) (mode : ℕ
   plan-leaves : (u : Unit) (ie : Bool) (y : Motion) → MotionLeaves y → PlanLeaves (motionPlan u ie y)
   unfolding motionPlan told toldUnit ended reelAfter
   plan-leaves u ie (motion.Ended x) k = k
-  plan-leaves u ie (motion.Fault b) k = absurd k
+  plan-leaves u ie (motion.Fault why b) k = absurd k
 
   module _ (blocks : ℕ) (whole : length s ≡ blockBytes * blocks) (h : Holds s (t .end) os) (b : Bound os (t .position)) (mark : Bool) where
     -- objects laid where the stretch that it goes over begins

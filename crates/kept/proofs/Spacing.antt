@@ -5,6 +5,7 @@ use mathlib.Core.Path.{_≡_, refl}
 use Prim.Native.Nat.{ℕ}
 use lib.Dec.{eqb}
 use Rattle.tape.specs.Objects.{Holds, Object}
+use Rattle.tape.specs.declared.BlockFault.{BlockFault}
 use Rattle.state.specs.declared.Tape.{Tape}
 use Rattle.state.proofs.Tests.{either}
 use Rattle.moves.specs.Between.{Bound}
@@ -20,13 +21,13 @@ use Rattle.motions.specs.Spaces.{positioned, spaceMotion, spaceMotionBy, startS
 use Rattle.kept.proofs.Standing.{KeptMotion, halts}
 
 module _ (s m : List ℕ) where
-  space-by : {e : ℕ} {os : List Object} → Holds s e os → (r : Rule) (y : Span) (stop : Stop) → ((k : ℕ) → stop ≡ stop-as.Bad k → ⊥) → Bound os (y .position) → KeptMotion s m (spaceMotionBy r y e stop)
+  space-by : {e : ℕ} {os : List Object} → Holds s e os → (r : Rule) (y : Span) (stop : Stop) → ((why : BlockFault) (k : ℕ) → stop ≡ stop-as.Bad why k → ⊥) → Bound os (y .position) → KeptMotion s m (spaceMotionBy r y e stop)
   unfolding spaceMotionBy
   space-by h r y stop-as.Count n b = halts s m h b
   space-by h r y stop-as.Mark n b = halts s m h b
   space-by h r y stop-as.LogicalEnd n b = halts s m h b
   space-by h r y stop-as.Nothing n b = halts s m h b
-  space-by h r y (stop-as.Bad k) n b = n k refl
+  space-by h r y (stop-as.Bad why k) n b = n why k refl
 
   pub positioned-kept : (t : Tape) {os : List Object} → Holds s (t .end) os → Bound os (t .position) → (r : Rule) (count : Count) (enb : Bool) → KeptMotion s m (positioned s t r count enb)
   unfolding positioned spaceMotion

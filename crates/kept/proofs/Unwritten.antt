@@ -43,7 +43,7 @@ module _ (v : Unit) (m s : List ℕ) (h : Header) (p : Packet) (below : v .tape 
   motion-stays : (y : Motion) → ((x : Ending) → y ≡ motion.Ended x → (x .laid ≡ noLay) × (x .tape .end ≡ v .tape .end)) → Stays (motionPlan v (h .ie) y)
   unfolding motionPlan told toldUnit ended still
   motion-stays (motion.Ended x) f = f x refl
-  motion-stays (motion.Fault k) f = (refl, refl)
+  motion-stays (motion.Fault why k) f = (refl, refl)
 
   read-stays : (reverse : Bool) → Stays (readBy v s h p reverse)
   unfolding readBy

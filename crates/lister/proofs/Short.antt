@@ -14,6 +14,8 @@ use Rattle.tape.specs.Listing.{examined, imageLimit, imageSwept}
 use Rattle.tape.specs.Numbers.{blockBytes}
 use Rattle.tape.specs.Pass.{passed}
 use Rattle.tape.specs.Sweep.{sweptBelow}
+use Rattle.tape.specs.Letters.{letterOf}
+use Rattle.tape.specs.declared.BlockFault.{BlockFault}
 use Rattle.tape.specs.declared.Image.{Image}
 use Rattle.tape.specs.declared.Image.the-variants as image
 use Rattle.tape.specs.declared.Met.{Met}
@@ -21,7 +23,7 @@ use Rattle.tape.specs.declared.Met.the-variants as met
 use Rattle.tape.specs.declared.Swept.{Swept}
 use Rattle.tape.specs.declared.Swept.the-variants as swept
 use Rattle.script.specs.Spelling.{placesFrom, spelling}
-use Rattle.lister.specs.Lines.{decimal, numberLine, recordLine}
+use Rattle.lister.specs.Lines.{badLine, decimal, numberLine, recordLine}
 use Rattle.lister.specs.Listed.{linesFrom, listed, listedAs, listingLimit, metLine, metNext}
 
 length-digits : (b k n : ℕ) → length (digits b k n) ≡ k
@@ -46,13 +48,17 @@ unfolding recordLine
 record-short p n =
     omega (arith, decimal-short p, decimal-short n, length-append (decimal n) (10 ∷ []), length-append (decimal p) (32 ∷ (decimal n ++ (10 ∷ []))))
 
+bad-short : (why : BlockFault) (k : ℕ) → length (badLine why k) ≤ 70
+unfolding badLine
+bad-short why k = omega (arith, decimal-short k, length-append (decimal k) (32 ∷ letterOf why ∷ 10 ∷ []))
+
 met-short : (p : ℕ) (m : Met) → length (metLine p m) ≤ 134
 unfolding metLine
 met-short p (met.Record n q) = record-short p n
 met-short p (met.Mark q) = omega (arith, number-short 77 p)
 met-short p (met.Gap q) = omega (arith, number-short 71 p)
 met-short p met.Nothing = omega arith
-met-short p (met.Bad k) = omega arith
+met-short p (met.Bad why k) = omega arith
 
 lines-short : (turns : ℕ) (s : List ℕ) (p e : ℕ) → length (linesFrom turns s p e) ≤ 134 * turns
 unfolding linesFrom
@@ -64,14 +70,14 @@ lines-short (suc turns) s p e =
 -- a recorded end that the listing goes up to
 abbrev Bounded : Image → Type 0
 Bounded (image.Whole e) = blockBytes * e ≤ imageLimit
-Bounded (image.Bad k) = Always
+Bounded (image.Bad why k) = Always
 Bounded image.TooLong = Always
 Bounded image.NotWhole = Always
 
 swept-bounded : (e : ℕ) (w : Swept) → blockBytes * e ≤ imageLimit → Bounded (imageSwept e w)
 unfolding imageSwept
 swept-bounded e swept.Whole h = h
-swept-bounded e (swept.Bad k) h = tt
+swept-bounded e (swept.Bad why k) h = tt
 
 bounded : (s : List ℕ) → Bounded (examined s)
 unfolding examined
@@ -87,7 +93,7 @@ bounded s =
 as-short : (s : List ℕ) (i : Image) → Bounded i → length (listedAs s i) ≤ listingLimit
 unfolding listedAs
 as-short s (image.Whole e) b = omega (arith, lines-short e s 0 e, number-short 69 e, length-append (linesFrom e s 0 e) (numberLine 69 e))
-as-short s (image.Bad k) b = omega (arith, number-short 88 k)
+as-short s (image.Bad why k) b = omega (arith, bad-short why k)
 as-short s image.TooLong b = omega arith
 as-short s image.NotWhole b = omega arith
 

@@ -2,6 +2,8 @@
 use mathlib.Core.List.{List, [], _∷_, _++_}
 use Prim.Native.Nat.{ℕ, _+_}
 use lib.ListN.{length}
+use Rattle.tape.specs.Letters.{letterOf}
+use Rattle.tape.specs.declared.BlockFault.{BlockFault}
 use Rattle.tape.specs.Objects.{Object, blocksIn, gap, mark, record-of}
 use Rattle.script.specs.Spelling.{spelling}
 
@@ -31,6 +33,10 @@ letterX = 88
 
 unfoldable pub recordLine : ℕ → ℕ → List ℕ
 recordLine p n = letterR ∷ 32 ∷ (decimal p ++ (32 ∷ (decimal n ++ (10 ∷ []))))
+
+-- a bad block and the letter of its fault: `X 3 C`
+unfoldable pub badLine : BlockFault → ℕ → List ℕ
+badLine why k = letterX ∷ 32 ∷ (decimal k ++ (32 ∷ letterOf why ∷ 10 ∷ []))
 
 -- the line of the object whose first block is p
 unfoldable pub lineOf : ℕ → Object → List ℕ

@@ -1,6 +1,8 @@
 // The listing's lines, made in a lent buffer. Which they are is decided by `reel::examine` and `reel::pass`; here they only get their letters.
+use script::put_byte;
 use script::put_bytes;
 use script::put_labelled;
+use tape::BlockFault;
 use tape::Image;
 use tape::Met;
 ghost use mathlib.Core.Path.{_≡_};
@@ -8,7 +10,7 @@ ghost use mathlib.Core.List.{[], _∷_, _++_};
 ghost use lib.ListN.{length};
 ghost use lib.Seq.{sets};
 ghost use Rattle.script.specs.Prints.{Put};
-ghost use Rattle.lister.specs.Lines.{decimal, recordLine};
+ghost use Rattle.lister.specs.Lines.{badLine, decimal, recordLine};
 ghost use Rattle.lister.specs.Listed.{linesFrom, listed, metLine, metNext};
 
 // More than the longest listing.
@@ -39,7 +41,7 @@ fn put_met(out: &mut [u8], at: usize, p: usize, m: Met) -> usize
         Met::Mark(_) => put_line(out, at, b"M ", p),
         Met::Gap(_) => put_line(out, at, b"G ", p),
         Met::Nothing => at,
-        Met::Bad(_) => at,
+        Met::Bad(_, _) => at,
     }
 }
 
@@ -51,7 +53,7 @@ fn next_of(m: Met, e: usize) -> usize
         Met::Mark(q) => q,
         Met::Gap(q) => q,
         Met::Nothing => e,
-        Met::Bad(_) => e,
+        Met::Bad(_, _) => e,
     }
 }
 
@@ -71,13 +73,23 @@ fn put_objects(out: &mut [u8], image: &[u8], e: usize) -> usize
     at
 }
 
+// A bad block: its number, and the letter of what is wrong with it.
+fn put_bad(out: &mut [u8], fault: BlockFault, k: usize) -> usize
+    ensures { λ r. ⌜ Put (now (out .entry)) 0 (badLine fault k) (now (out .exit)) r ⌝ }
+{
+    let at1 = put_labelled(out, 0, b"X ", k);
+    let at2 = put_bytes(out, at1, b" ");
+    let at3 = put_byte(out, at2, tape::letter(fault));
+    put_bytes(out, at3, b"\n")
+}
+
 fn put_listing(out: &mut [u8], image: &[u8]) -> usize
     ensures { λ r. ⌜ Put (now (out .entry)) 0 (listed (now (image .entry))) (now (out .exit)) r ⌝ }
 {
     match reel::examine(image) {
         Image::TooLong => put_bytes(out, 0, b"L\n"),
         Image::NotWhole => put_bytes(out, 0, b"S\n"),
-        Image::Bad(k) => put_line(out, 0, b"X ", k),
+        Image::Bad(fault, k) => put_bad(out, fault, k),
         Image::Whole(e) => {
             let at = put_objects(out, image, e);
             put_line(out, at, b"E ", e)

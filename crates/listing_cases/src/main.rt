@@ -19,9 +19,24 @@ fn main() {
     list_named(b"full");
     list_named(b"long");
     list_named(b"ragged");
-    list_named(b"check");
-    list_named(b"padding");
+    list_named(b"kind");
+    list_named(b"kind_of_a_piece");
+    list_named(b"length");
+    list_named(b"length_of_a_mark");
+    list_named(b"index");
     list_named(b"mark_words");
+    list_named(b"padding");
+    list_named(b"padding_of_a_gap");
+    list_named(b"check");
+    list_named(b"check_of_65535");
+    list_named(b"kind_and_length");
+    list_named(b"length_and_index");
+    list_named(b"index_and_padding");
+    list_named(b"padding_and_check");
     list_named(b"cut_off");
+    list_named(b"cut_off_damaged");
     list_named(b"out_of_place");
+    list_named(b"mark_for_a_piece");
+    list_named(b"mark_for_a_piece_damaged");
+    list_named(b"piece_of_another");
 }

@@ -23,7 +23,7 @@ use Rattle.motions.specs.declared.parts.Ending.{Ending}
 -- one thing of a motion that ended
 abbrev pub Has : (Ending → Type 0) → Motion → Type 0
 Has P (motion.Ended x) = P x
-Has P (motion.Fault k) = Always
+Has P (motion.Fault why k) = Always
 
 pub record EndFits (x : End) : Type 0 where
   pub class : x .class ≤ 6
@@ -72,4 +72,4 @@ module _ (r : Rule) (x : Span) where
       either EndFits (r .reverse) _ _
       (record { class = omega arith; found = omega (arith, passed-most, left-most); xst3 = omega arith })
       (record { class = omega arith; found = omega (arith, passed-most); xst3 = omega arith })
-  space-end-fits (stop-as.Bad k) = record { class = omega arith; found = omega arith; xst3 = omega arith }
+  space-end-fits (stop-as.Bad why k) = record { class = omega arith; found = omega arith; xst3 = omega arith }

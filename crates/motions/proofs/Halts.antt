@@ -39,7 +39,7 @@ module _ (e : ℕ) where
   space-by r y stop-as.Mark h = halts _ _ (space-end-fits r y stop-as.Mark) h
   space-by r y stop-as.LogicalEnd h = halts _ _ (space-end-fits r y stop-as.LogicalEnd) h
   space-by r y stop-as.Nothing h = halts _ _ (space-end-fits r y stop-as.Nothing) h
-  space-by r y (stop-as.Bad k) h = tt
+  space-by r y (stop-as.Bad why k) h = tt
 
 pub space-has : (s : List ℕ) (t : Tape) (r : Rule) (count : Count) (enb : Bool) → t .position ≤ t .end → Has (SpaceFits (t .end)) (positioned s t r count enb)
 unfolding positioned spaceMotion

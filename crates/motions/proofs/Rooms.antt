@@ -77,7 +77,7 @@ module _ (blocks : ℕ) (l : Laid) where
     retried-by (sought-as.Record n q) i = behind-has q
     retried-by (sought-as.Mark q) i = behind-has q
     retried-by (sought-as.Nothing q) i = unlaid-has _ _ (record { class = omega arith; found = omega arith; xst3 = omega arith }) i k
-    retried-by (sought-as.Bad b) i = tt
+    retried-by (sought-as.Bad why b) i = tt
 
     pub retried-has : (s : List ℕ) → Has (WriteFits blocks l) (retried s t blocks l mark)
     unfolding retried

@@ -44,11 +44,11 @@ module _ (e : ℕ) (r : Buffer) where
   StageFits reverse = StageHas (Has (ReadFits e r)) (RecordIn reverse e)
 
   stage-by : (p : ℕ) (reverse : Bool) (f : Sought) → SoughtIn reverse p e f → StageFits reverse (stageBy (standing p e) (r .count) reverse f)
-  unfolding stageBy
+  unfolding stageBy stopMotion
   stage-by p reverse (sought-as.Record n q) i = i .0
   stage-by p reverse (sought-as.Mark q) i = stop-has (markEnd (r .count) reverse) q (mark-end-fits (r .count) reverse) (i .below)
   stage-by p reverse (sought-as.Nothing q) i = stop-has (nothingEnd (r .count) reverse) q (nothing-end-fits (r .count) reverse) i
-  stage-by p reverse (sought-as.Bad k) i = tt
+  stage-by p reverse (sought-as.Bad why k) i = tt
 
   module _ (s : List ℕ) where
     stage-has : (p : ℕ) (reverse : Bool) → p ≤ e → StageFits reverse (stageOf s (standing p e) (r .count) reverse)

@@ -27,4 +27,4 @@ module _ (r : Rule) (x : Span) (e : ℕ) where
   not-bad stop-as.Mark h = refl
   not-bad stop-as.LogicalEnd h = refl
   not-bad stop-as.Nothing h = refl
-  not-bad (stop-as.Bad k) h = absurd (no-key refl h)
+  not-bad (stop-as.Bad why k) h = absurd (no-key refl h)

@@ -15,7 +15,7 @@ use Rattle.state.specs.declared.Tape.{Tape}
 use Rattle.moves.specs.Seeking.{sought}
 use Rattle.moves.specs.declared.seeking.Sought.{Sought}
 use Rattle.moves.specs.declared.seeking.Sought.the-variants as sought-as
-use Rattle.motions.specs.Parts.{end, noLay, standing, stops}
+use Rattle.motions.specs.Parts.{end, noLay, resting, standing, stops}
 use Rattle.motions.specs.declared.parts.Motion.{Motion}
 use Rattle.motions.specs.declared.parts.Motion.the-variants as motion
 use Rattle.motions.specs.declared.reads.Buffer.{Buffer}
@@ -43,9 +43,9 @@ stopMotion x p e = stops x (standing p e)
 
 unfoldable pub stageBy : Tape → ByteCount → Bool → Sought → Stage
 stageBy t count reverse (sought-as.Record n q) = stage.Record n q
-stageBy t count reverse (sought-as.Mark q) = stage.Over (stopMotion (markEnd count reverse) q (t .end))
-stageBy t count reverse (sought-as.Nothing q) = stage.Over (stopMotion (nothingEnd count reverse) q (t .end))
-stageBy t count reverse (sought-as.Bad k) = stage.Over (motion.Fault k)
+stageBy t count reverse (sought-as.Mark q) = stage.Over (resting (markEnd count reverse) (standing q (t .end)))
+stageBy t count reverse (sought-as.Nothing q) = stage.Over (resting (nothingEnd count reverse) (standing q (t .end)))
+stageBy t count reverse (sought-as.Bad why k) = stage.Bad why k
 
 -- one stage: gaps are passed over; "A mark, BOT or end in the first stage ends it, residual as if nothing moved."
 unfoldable pub stageOf : List ℕ → Tape → ByteCount → Bool → Stage
@@ -77,7 +77,8 @@ readMotion r reverse n q t rev =
 -- a stage that found a record of n bytes, with the position q beyond it, goes on as f says; any other end is the command's
 unfoldable pub onRecord : Stage → (ℕ → ℕ → Motion) → Motion
 onRecord (stage.Record n q) f = f n q
-onRecord (stage.Over m) f = m
+onRecord (stage.Over x) f = motion.Ended x
+onRecord (stage.Bad why k) f = motion.Fault why k
 
 -- "Read 1 / 0 next, 1 previous"
 unfoldable pub readOne : List ℕ → Tape → Buffer → Bool → Motion

@@ -49,10 +49,10 @@ spaceEnd r x stop-as.Nothing =
     (end 2 (passedMark x + leftOver x) (REV + RIB) (residualOf (x .left)))
     (end 6 (passedMark x) OPI (residualOf (x .left)))
 -- a fault refuses: no end is told
-spaceEnd r x (stop-as.Bad k) = end 0 0 0 (residualOf (x .left))
+spaceEnd r x (stop-as.Bad why k) = end 0 0 0 (residualOf (x .left))
 
 unfoldable pub spaceMotionBy : Rule → Span → ℕ → Stop → Motion
-spaceMotionBy r x e (stop-as.Bad k) = motion.Fault k
+spaceMotionBy r x e (stop-as.Bad why k) = motion.Fault why k
 spaceMotionBy r x e stop-as.Count = stops (spaceEnd r x stop-as.Count) (standing (x .position) e)
 spaceMotionBy r x e stop-as.Mark = stops (spaceEnd r x stop-as.Mark) (standing (x .position) e)
 spaceMotionBy r x e stop-as.LogicalEnd = stops (spaceEnd r x stop-as.LogicalEnd) (standing (x .position) e)

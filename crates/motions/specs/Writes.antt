@@ -52,7 +52,7 @@ unfoldable pub retriedBy : Tape → ℕ → Laid → Bool → Sought → Motion
 retriedBy t blocks l mark (sought-as.Record n q) = writtenAt t blocks (behindGap l q) mark
 retriedBy t blocks l mark (sought-as.Mark q) = writtenAt t blocks (behindGap l q) mark
 retriedBy t blocks l mark (sought-as.Nothing q) = stops (end 2 0 (REV + RIB) residual.Nothing) (standing q (t .end))
-retriedBy t blocks l mark (sought-as.Bad k) = motion.Fault k
+retriedBy t blocks l mark (sought-as.Bad why k) = motion.Fault why k
 
 unfoldable pub retried : List ℕ → Tape → ℕ → Laid → Bool → Motion
 retried s t blocks l mark = retriedBy t blocks l mark (sought s true (t .position) (t .end))

@@ -1,6 +1,7 @@
 // The parts of what a command is about to do: what is moved to memory and what is laid on the reel.
 use signals::End;
 use state::Tape;
+use tape::BlockFault;
 ghost use mathlib.Core.Path.{_≡_};
 ghost use Prim.Native.Nat.{_+_, _≤_};
 ghost use Rattle.tape.specs.Numbers.{capacityLimit};
@@ -44,8 +45,8 @@ pub struct Ending {
 
 pub enum Motion {
     Ended(Ending),
-    // A block at fault.
-    Fault(usize),
+    // A block at fault: what is wrong with it, and its number.
+    Fault(BlockFault, usize),
 }
 
 pub fn no_move() -> Moved

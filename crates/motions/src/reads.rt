@@ -3,7 +3,7 @@ use crate::parts::Ending;
 use crate::parts::Motion;
 use crate::parts::Moved;
 use crate::parts::no_lay;
-use crate::parts::no_move;
+use crate::parts::rest;
 use moves::Sought;
 use moves::seek;
 use signals::ByteCount;
@@ -11,8 +11,9 @@ use signals::End;
 use signals::Residual;
 use signals::flag;
 use state::Tape;
+use tape::BlockFault;
 ghost use mathlib.Core.Path.{_≡_};
-ghost use Rattle.motions.specs.Reads.{firstBlock, markEnd, nothingEnd, readEnd, readMotion, readOne, readThenSpace, reread, spaceBack, spaceThenRead, stageOf, stopMotion};
+ghost use Rattle.motions.specs.Reads.{firstBlock, markEnd, nothingEnd, readEnd, readMotion, readOne, readThenSpace, reread, spaceBack, spaceThenRead, stageOf};
 
 // What a Read asks for.
 pub struct Buffer {
@@ -21,10 +22,11 @@ pub struct Buffer {
     pub swb: bool,
 }
 
-// A stage found a record, with the position beyond it, or the command is over.
+// A stage found a record, with the position beyond it, or the command is over, or a block is at fault.
 pub enum Stage {
     Record(usize, usize),
-    Over(Motion),
+    Over(Ending),
+    Bad(BlockFault, usize),
 }
 
 // A record of n bytes against the count: RLS if shorter, RLL if longer, class 2 for both.
@@ -80,30 +82,27 @@ fn nothing_end(count: ByteCount, reverse: bool) -> End
     }
 }
 
-// An end that moves and lays nothing.
-fn stop_motion(end: End, position: usize, e: usize) -> Motion
-    ensures { λ r. ⌜ r ≡ stopMotion end position e ⌝ }
-{
-    let tape = Tape { position, end: e };
-    let moved = no_move();
-    let laid = no_lay();
-    Motion::Ended(Ending {
-        end,
-        tape,
-        moved,
-        laid,
-    })
-}
-
 // Seek, and say how the command ends where no record is found.
 fn run_stage(reel: &[u8], t: Tape, count: ByteCount, reverse: bool) -> Stage
     ensures { λ r. ⌜ r ≡ stageOf (now (reel .entry)) t count reverse ⌝ }
 {
     match seek(reel, reverse, t.position, t.end) {
         Sought::Record(n, q) => Stage::Record(n, q),
-        Sought::Mark(q) => Stage::Over(stop_motion(mark_end(count, reverse), q, t.end)),
-        Sought::Nothing(q) => Stage::Over(stop_motion(nothing_end(count, reverse), q, t.end)),
-        Sought::Bad(k) => Stage::Over(Motion::Fault(k)),
+        Sought::Mark(q) => Stage::Over(rest(
+            mark_end(count, reverse),
+            Tape {
+                position: q,
+                end: t.end,
+            },
+        )),
+        Sought::Nothing(q) => Stage::Over(rest(
+            nothing_end(count, reverse),
+            Tape {
+                position: q,
+                end: t.end,
+            },
+        )),
+        Sought::Bad(fault, k) => Stage::Bad(fault, k),
     }
 }
 
@@ -157,7 +156,8 @@ pub fn read_one(reel: &[u8], t: Tape, r: Buffer, reverse: bool) -> Motion
             },
             reverse,
         ),
-        Stage::Over(m) => m,
+        Stage::Over(x) => Motion::Ended(x),
+        Stage::Bad(fault, k) => Motion::Fault(fault, k),
     }
 }
 
@@ -175,7 +175,8 @@ fn space_then_read(reel: &[u8], t: Tape, r: Buffer, reverse: bool) -> Motion
             r,
             !reverse,
         ),
-        Stage::Over(m) => m,
+        Stage::Over(x) => Motion::Ended(x),
+        Stage::Bad(fault, k) => Motion::Fault(fault, k),
     }
 }
 
@@ -203,7 +204,8 @@ fn space_back(reel: &[u8], e: usize, r: Buffer, reverse: bool, n: usize, q: usiz
             },
             !reverse,
         ),
-        Stage::Over(m) => m,
+        Stage::Over(x) => Motion::Ended(x),
+        Stage::Bad(fault, k) => Motion::Fault(fault, k),
     }
 }
 
@@ -213,7 +215,8 @@ fn read_then_space(reel: &[u8], t: Tape, r: Buffer, reverse: bool) -> Motion
 {
     match run_stage(reel, t, r.count, reverse) {
         Stage::Record(n, q) => space_back(reel, t.end, r, reverse, n, q),
-        Stage::Over(m) => m,
+        Stage::Over(x) => Motion::Ended(x),
+        Stage::Bad(fault, k) => Motion::Fault(fault, k),
     }
 }
 

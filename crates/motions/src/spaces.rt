@@ -71,7 +71,7 @@ fn space_end(r: Rule, s: Span, stop: Stop) -> End
                 residual,
             }
         },
-        Stop::Bad(_) => End {
+        Stop::Bad(_, _) => End {
             class: 0,
             found: 0,
             xst3: 0,
@@ -85,8 +85,8 @@ fn space_motion(r: Rule, x: Spaced, e: usize) -> Motion
 {
     let stop = x.stop;
     let span = x.span;
-    if let Stop::Bad(k) = stop {
-        return Motion::Fault(k);
+    if let Stop::Bad(fault, k) = stop {
+        return Motion::Fault(fault, k);
     }
     let end = space_end(r, span, stop);
     let tape = Tape {

@@ -121,6 +121,6 @@ pub fn retry(reel: &[u8], t: Tape, blocks: usize, l: Laid, mark: bool) -> Motion
                 laid,
             })
         }
-        Sought::Bad(k) => Motion::Fault(k),
+        Sought::Bad(fault, k) => Motion::Fault(fault, k),
     }
 }

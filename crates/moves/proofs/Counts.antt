@@ -10,6 +10,7 @@ use Rattle.tape.specs.Objects.{AllAllowed, Holds, Object, gap, mark, record-of}
 use Rattle.tape.specs.Pass.{ahead}
 use Rattle.tape.proofs.Accepted.{clash}
 use Rattle.tape.proofs.Within.{Onward, fewer-ahead}
+use Rattle.tape.specs.declared.BlockFault.{BlockFault}
 use Rattle.moves.specs.Between.{Between, Bound, Gaps, countIn, no-gap, one-gap, withGaps}
 use Rattle.moves.specs.Counting.{howMany, ofMarks}
 use Rattle.moves.specs.Spacing.{markTurn, recordTurn, spaced, turnOf}
@@ -50,7 +51,7 @@ abbrev pub Counted : List Object → Bool → Bool → Span → Span → Type 0
 Counted os reverse marks x y = (mid : List Object) × Between os reverse (x .position) (y .position) mid × (countIn marks mid + howMany (y .left) ≡ howMany (x .left))
 
 abbrev NoFault : Spaced → Type 0
-NoFault z = (k : ℕ) → z .stop ≡ stop-as.Bad k → ⊥
+NoFault z = (why : BlockFault) (k : ℕ) → z .stop ≡ stop-as.Bad why k → ⊥
 
 -- each turn does its part, and finds no fault
 abbrev Turned : List Object → Bool → Bool → Span → Turn → Type 0
@@ -70,8 +71,8 @@ module _ {os : List Object} (r : Rule) (y : Span) (some : howMany (y .left) ≡ 
   mark-done {gaps} {q} g b =
       let one = count-found (ofMarks (y .left)) (r .reverse) mark g ∙ one-mark (ofMarks (y .left)) in
       mark-turns (Turned os (r .reverse) (ofMarks (y .left)) y) r y q
-      (λ n e. ((withGaps (r .reverse) gaps mark, b, omega (arith, one, mark-stops-number n e)), λ k z. clash (cc)))
-      (λ n e w. ((withGaps (r .reverse) gaps mark, b, omega (arith, one, mark-number n e some)), λ k z. clash (cc)))
+      (λ n e. ((withGaps (r .reverse) gaps mark, b, omega (arith, one, mark-stops-number n e)), λ why k z. clash (cc)))
+      (λ n e w. ((withGaps (r .reverse) gaps mark, b, omega (arith, one, mark-number n e some)), λ why k z. clash (cc)))
       (λ n e w. (withGaps (r .reverse) gaps mark, b, omega (arith, one, mark-number n e some)))
 
   turn-done : {f : Sought} → Finds os (r .reverse) (y .position) f → Turned os (r .reverse) (ofMarks (y .left)) y (turnOf r y f)
@@ -80,7 +81,7 @@ module _ {os : List Object} (r : Rule) (y : Span) (some : howMany (y .left) ≡ 
       let one = count-found (ofMarks (y .left)) (r .reverse) (record-of d) g ∙ one-record (ofMarks (y .left)) d in
       (withGaps (r .reverse) gaps (record-of d), b, omega (arith, one, record-number (y .left) some))
   turn-done (finds-mark g b) = mark-done g b
-  turn-done (finds-nothing {gaps = gaps} g b z) = ((gaps, b, omega (arith, count-gaps (ofMarks (y .left)) g)), λ k e. clash (cc))
+  turn-done (finds-nothing {gaps = gaps} g b z) = ((gaps, b, omega (arith, count-gaps (ofMarks (y .left)) g)), λ why k e. clash (cc))
 
 -- one after the other
 done-more : {os : List Object} (reverse marks : Bool) → AllAllowed os → (x y z : Span) → Counted os reverse marks x y → Counted os reverse marks y z → Counted os reverse marks x z
@@ -99,10 +100,10 @@ module _ {s : List ℕ} {e : ℕ} {os : List Object} (h : Holds s e os) (r : Rul
   all-done : Bound os (x .position) → Since (spaced s r e x .span) × NoFault (spaced s r e x)
   unfolding spaced countIn
   all-done b =
-      rounds s r e (ofMarks (x .left)) (λ _ y. Since y) (λ z. Since (z .span) × NoFault z) (λ turns y k i n. turn-on y k i n) (λ turns y i w. (i, λ k z. clash (cc)))
+      rounds s r e (ofMarks (x .left)) (λ _ y. Since y) (λ z. Since (z .span) × NoFault z) (λ turns y k i n. turn-on y k i n) (λ turns y i w. (i, λ why k z. clash (cc)))
       (e + 1) x refl ([], stays (r .reverse) b, omega arith)
 
-  pub spaced-sound : Bound os (x .position) → (k : ℕ) → spaced s r e x .stop ≡ stop-as.Bad k → ⊥
+  pub spaced-sound : Bound os (x .position) → (why : BlockFault) (k : ℕ) → spaced s r e x .stop ≡ stop-as.Bad why k → ⊥
   spaced-sound b = all-done b .1
 
   -- done and residual make up the count asked
@@ -121,7 +122,7 @@ unfolding turnOf recordTurn
 turn-moves r e y (sought-as.Record n q) i = i .1
 turn-moves r e y (sought-as.Mark q) i = mark-turns (Onwards r e y) r y q (λ n c z. clash (cc)) (λ n c w z. clash (cc)) (λ n c w. i)
 turn-moves r e y (sought-as.Nothing q) i = λ z. clash (cc)
-turn-moves r e y (sought-as.Bad k) i = λ z. clash (cc)
+turn-moves r e y (sought-as.Bad why k) i = λ z. clash (cc)
 
 -- so that the turns never run out before the count does
 module _ (s : List ℕ) (r : Rule) (e : ℕ) where

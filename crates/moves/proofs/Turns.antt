@@ -68,4 +68,4 @@ turn-kind marks r y (sought-as.Record n q) k = record-kind (y .left) ∙ k
 turn-kind marks r y (sought-as.Mark q) k =
     mark-turns (SpanHas (Counts marks)) r y q (λ n e. ap ofMarks (sym e) ∙ k) (λ n e w. ap ofMarks (sym e) ∙ k) (λ n e w. ap ofMarks (sym e) ∙ k)
 turn-kind marks r y (sought-as.Nothing q) k = k
-turn-kind marks r y (sought-as.Bad n) k = k
+turn-kind marks r y (sought-as.Bad why n) k = k

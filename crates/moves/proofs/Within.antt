@@ -25,14 +25,14 @@ abbrev pub SoughtIn : Bool → ℕ → ℕ → Sought → Type 0
 SoughtIn reverse p e (sought-as.Record n q) = RecordIn reverse e n q × Onward reverse p e q
 SoughtIn reverse p e (sought-as.Mark q) = Onward reverse p e q
 SoughtIn reverse p e (sought-as.Nothing q) = q ≤ e
-SoughtIn reverse p e (sought-as.Bad k) = Always
+SoughtIn reverse p e (sought-as.Bad why k) = Always
 
 -- from further back the same is known
 from-before : {reverse : Bool} {p e q : ℕ} (f : Sought) → Onward reverse p e q → SoughtIn reverse q e f → SoughtIn reverse p e f
 from-before (sought-as.Record n t) o h = (h .0, onward-more o (h .1))
 from-before (sought-as.Mark t) o h = onward-more o h
 from-before (sought-as.Nothing t) o h = h
-from-before (sought-as.Bad k) o h = tt
+from-before (sought-as.Bad why k) o h = tt
 
 on-in : (reverse : Bool) (p e : ℕ) (m : Met) (onward : ℕ → Sought) → p ≤ e → PassIn reverse p e m → ((q : ℕ) → q ≤ e → SoughtIn reverse q e (onward q)) → SoughtIn reverse p e (soughtOn m p onward)
 unfolding soughtOn
@@ -40,7 +40,7 @@ on-in reverse p e (met.Record n q) onward h i on = i
 on-in reverse p e (met.Mark q) onward h i on = i
 on-in reverse p e (met.Gap q) onward h i on = from-before (onward q) i (on q (i .below))
 on-in reverse p e met.Nothing onward h i on = h
-on-in reverse p e (met.Bad k) onward h i on = tt
+on-in reverse p e (met.Bad why k) onward h i on = tt
 
 from-in : (turns : ℕ) (s : List ℕ) (reverse : Bool) (p e : ℕ) → p ≤ e → SoughtIn reverse p e (soughtFrom turns s reverse p e)
 unfolding soughtFrom
@@ -73,7 +73,7 @@ unfolding turnOf recordTurn
 turn-below r e y (sought-as.Record n q) h i = i .0 .below
 turn-below r e y (sought-as.Mark q) h i = mark-turns (SpanHas (Below e)) r y q (λ n c. i .below) (λ n c w. i .below) (λ n c w. i .below)
 turn-below r e y (sought-as.Nothing q) h i = i
-turn-below r e y (sought-as.Bad k) h i = h
+turn-below r e y (sought-as.Bad why k) h i = h
 
 pub spaced-within : (s : List ℕ) (r : Rule) (e : ℕ) (x : Span) → x .position ≤ e → spaced s r e x .span .position ≤ e
 spaced-within s r e x h = spaced-keeps s r e (Below e) x (λ y k i n. turn-below r e y _ i (sought-in s (r .reverse) (y .position) e i)) h
@@ -87,7 +87,7 @@ turn-fewer r n y (sought-as.Record m q) some h = omega (arith, record-number (y 
 turn-fewer r n y (sought-as.Mark q) some h =
     mark-turns (SpanHas (Fewer n)) r y q (λ k c. omega (arith, ap howMany c)) (λ k c w. omega (arith, ap howMany c)) (λ k c w. omega (arith, ap howMany c))
 turn-fewer r n y (sought-as.Nothing q) some h = h
-turn-fewer r n y (sought-as.Bad k) some h = h
+turn-fewer r n y (sought-as.Bad why k) some h = h
 
 pub spaced-left : (s : List ℕ) (r : Rule) (e : ℕ) (x : Span) → howMany (spaced s r e x .span .left) ≤ howMany (x .left)
 spaced-left s r e x = spaced-keeps s r e (Fewer (howMany (x .left))) x (λ y k i some. turn-fewer r (howMany (x .left)) y _ some i) (omega arith)

@@ -14,7 +14,7 @@ soughtOn (met.Record n q) p onward = sought-as.Record n q
 soughtOn (met.Mark q) p onward = sought-as.Mark q
 soughtOn (met.Gap q) p onward = onward q
 soughtOn met.Nothing p onward = sought-as.Nothing p
-soughtOn (met.Bad k) p onward = sought-as.Bad k
+soughtOn (met.Bad why k) p onward = sought-as.Bad why k
 
 -- at most `turns` objects
 unfoldable pub soughtFrom : ℕ → List ℕ → Bool → ℕ → ℕ → Sought

@@ -49,7 +49,7 @@ unfoldable pub turnOf : Rule → Span → Sought → Turn
 turnOf r x (sought-as.Record n q) = recordTurn x q
 turnOf r x (sought-as.Mark q) = markTurn r x q
 turnOf r x (sought-as.Nothing q) = turn-as.Over (stopped stop-as.Nothing (span q (x .left) (x .tmk) (x .«after_mark»)))
-turnOf r x (sought-as.Bad k) = turn-as.Over (stopped (stop-as.Bad k) x)
+turnOf r x (sought-as.Bad why k) = turn-as.Over (stopped (stop-as.Bad why k) x)
 
 unfoldable pub spacedOn : Turn → (Span → Spaced) → Spaced
 spacedOn (turn-as.On x) onward = onward x

@@ -1,4 +1,5 @@
 // Gaps are passed over: the next record or mark, either way.
+use tape::BlockFault;
 use tape::Met;
 ghost use mathlib.Core.Path.{_≡_};
 ghost use Rattle.moves.specs.Seeking.{sought};
@@ -8,7 +9,7 @@ pub enum Sought {
     Record(usize, usize),
     Mark(usize),
     Nothing(usize),
-    Bad(usize),
+    Bad(BlockFault, usize),
 }
 
 // Each gap takes a block, so e turns are enough from a position up to e.
@@ -24,7 +25,7 @@ pub fn seek(reel: &[u8], reverse: bool, p: usize, e: usize) -> Sought
             Met::Mark(q) => return Sought::Mark(q),
             Met::Gap(q) => at = q,
             Met::Nothing => return Sought::Nothing(at),
-            Met::Bad(k) => return Sought::Bad(k),
+            Met::Bad(fault, k) => return Sought::Bad(fault, k),
         }
     }
     Sought::Nothing(at)

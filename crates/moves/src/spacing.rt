@@ -3,6 +3,7 @@ use crate::seeking::Sought;
 use crate::seeking::seek;
 use signals::MarkCount;
 use signals::RecordCount;
+use tape::BlockFault;
 ghost use mathlib.Core.Path.{_≡_};
 ghost use Prim.Native.Nat.{_<_, _≤_};
 ghost use lib.Dec.{eqb};
@@ -35,7 +36,7 @@ pub enum Stop {
     Mark,
     LogicalEnd,
     Nothing,
-    Bad(usize),
+    Bad(BlockFault, usize),
 }
 
 pub struct Spaced {
@@ -143,9 +144,9 @@ fn turn_over(r: Rule, s: Span, f: Sought) -> Turn
                 stop: Stop::Nothing,
             })
         }
-        Sought::Bad(k) => Turn::Over(Spaced {
+        Sought::Bad(fault, k) => Turn::Over(Spaced {
             span: s,
-            stop: Stop::Bad(k),
+            stop: Stop::Bad(fault, k),
         }),
     }
 }

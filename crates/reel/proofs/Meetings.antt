@@ -8,13 +8,14 @@ use lib.Dec.{eqb, leb}
 use Rattle.tape.specs.Numbers.{piecesOf}
 use Rattle.tape.specs.Pass.{ahead, beyond, firstMet, lowest, metBy, orderMet, passed, piecesMet, recordMet}
 use Rattle.tape.specs.Reading.{classAt}
+use Rattle.tape.specs.declared.BlockFault.the-variants as fault
 use Rattle.tape.specs.declared.Block.{Block}
 use Rattle.tape.specs.declared.Met.{Met}
 use Rattle.tape.specs.declared.Met.the-variants as met
 
 module _ (s : List ℕ) (reverse : Bool) (p e n i : ℕ) {m o a : ℕ} (size : m ≡ piecesOf n) (first : o ≡ orderMet reverse m 0) (left : a ≡ ahead reverse p e) where
   -- met at another piece than the first due, or cut off by an end
-  pub record-cut : {k : ℕ} → (eqb i o && leb m a) ≡ false → k ≡ firstMet reverse p → met.Bad k ≡ recordMet s reverse p e n i
+  pub record-cut : {k : ℕ} → (eqb i o && leb m a) ≡ false → k ≡ firstMet reverse p → met.Bad fault.Index k ≡ recordMet s reverse p e n i
   unfolding recordMet
   record-cut t f = rw (← size, ← first, ← left, t, f)
 

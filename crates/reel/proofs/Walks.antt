@@ -6,8 +6,9 @@ use Prim.Native.Nat.{ℕ, suc, _+_, _-_, _≤_, _<_}
 use native.Mathlib.Numerals.{add-one}
 use native.Mathlib.Omega.{arith}
 use Rattle.lists.specs.Pick.{pick}
-use Rattle.tape.specs.Pass.{isPiece, orderMet, piecesMet}
+use Rattle.tape.specs.Pass.{badAt, faultOf, isPiece, orderMet, piecesMet}
 use Rattle.tape.specs.Reading.{classAt}
+use Rattle.tape.specs.declared.BlockFault.{BlockFault}
 use Rattle.tape.specs.declared.Block.{Block}
 use Rattle.tape.specs.declared.Met.{Met}
 use Rattle.tape.specs.declared.Met.the-variants as met
@@ -19,7 +20,7 @@ module _ (s : List ℕ) (reverse : Bool) (n p m j : ℕ) (whole : Met) where
       let e : m - j ≡ 0 = omega arith in
       rw e
 
-  pub pieces-step : j < m → piecesMet s reverse n p m j (m - j) whole ≡ pick (isPiece (classAt s (p + orderMet reverse m j)) n (orderMet reverse m j)) (piecesMet s reverse n p m (j + 1) (m - (j + 1)) whole) (met.Bad (p + orderMet reverse m j))
+  pub pieces-step : j < m → piecesMet s reverse n p m j (m - j) whole ≡ pick (isPiece (classAt s (p + orderMet reverse m j)) n (orderMet reverse m j)) (piecesMet s reverse n p m (j + 1) (m - (j + 1)) whole) (badAt s (p + orderMet reverse m j))
   unfolding piecesMet
   pieces-step h =
       let e : m - j ≡ suc (m - (j + 1)) = omega arith in
@@ -30,5 +31,5 @@ module _ (s : List ℕ) (reverse : Bool) (n p m j : ℕ) (whole : Met) {i : ℕ}
   pub pieces-pass : isPiece b n i ≡ true → piecesMet s reverse n p m j (m - j) whole ≡ piecesMet s reverse n p m (j + 1) (m - (j + 1)) whole
   pieces-pass t = pieces-step s reverse n p m j whole h ∙ rw (← due, ← read, t)
 
-  pub pieces-stop : isPiece b n i ≡ false → met.Bad (p + i) ≡ piecesMet s reverse n p m j (m - j) whole
-  pieces-stop t = rw (pieces-step s reverse n p m j whole h, ← due, ← read, t)
+  pub pieces-stop : {f : BlockFault} → isPiece b n i ≡ false → f ≡ faultOf b → met.Bad f (p + i) ≡ piecesMet s reverse n p m j (m - j) whole
+  pieces-stop t w = rw (pieces-step s reverse n p m j whole h, ← due, ← read, t, w)

@@ -17,6 +17,6 @@ pub fn examine(image: &[u8]) -> Image
     let e = image.len() / Geometry::BLOCK;
     match crate::sweep(image, e) {
         Swept::Whole => Image::Whole(e),
-        Swept::Bad(k) => Image::Bad(k),
+        Swept::Bad(fault, k) => Image::Bad(fault, k),
     }
 }

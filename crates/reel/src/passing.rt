@@ -1,11 +1,12 @@
 // Passing one object, forward or in reverse: one walk for both, since only the order of the pieces differs.
 use block::read_block;
 use tape::Block;
+use tape::BlockFault;
 use tape::Met;
 ghost use mathlib.Core.Path.{_≡_};
 ghost use Prim.Native.Nat.{_+_, _-_, _≤_, _<_};
 ghost use Rattle.tape.specs.Numbers.{piecesOf};
-ghost use Rattle.tape.specs.Pass.{ahead, beyond, firstMet, isPiece, lowest, orderMet, passed, piecesMet, recordMet};
+ghost use Rattle.tape.specs.Pass.{ahead, beyond, faultOf, firstMet, isPiece, lowest, orderMet, passed, piecesMet, recordMet};
 
 // How many blocks lie ahead: up to the recorded end, or down to block 0.
 fn ahead_of(reverse: bool, p: usize, e: usize) -> usize
@@ -52,7 +53,19 @@ fn is_piece(b: Block, n: usize, i: usize) -> bool
         Block::Piece(n2, i2) => (n2 == n) & (i2 == i),
         Block::Mark => false,
         Block::Gap => false,
-        Block::Damaged => false,
+        Block::Damaged(_) => false,
+    }
+}
+
+// What is wrong with a block that can't be taken: its own fault, and if it has none, its place.
+fn fault_of(b: Block) -> BlockFault
+    ensures { λ r. ⌜ r ≡ faultOf b ⌝ }
+{
+    match b {
+        Block::Damaged(f) => f,
+        Block::Piece(_, _) => BlockFault::Index,
+        Block::Mark => BlockFault::Index,
+        Block::Gap => BlockFault::Index,
     }
 }
 
@@ -67,7 +80,7 @@ fn pieces_met(reel: &[u8], reverse: bool, n: usize, p: usize, m: usize, whole: M
         let k = p + i;
         let b = read_block(reel, k);
         if !is_piece(b, n, i) {
-            return Met::Bad(k);
+            return Met::Bad(fault_of(b), k);
         }
         j += 1;
     }
@@ -82,7 +95,7 @@ fn record_met(reel: &[u8], reverse: bool, p: usize, e: usize, n: usize, i: usize
     let m = tape::pieces(n);
     let due = (i == order_met(reverse, m, 0)) & (m <= ahead_of(reverse, p, e));
     if !due {
-        return Met::Bad(first_met(reverse, p, e));
+        return Met::Bad(BlockFault::Index, first_met(reverse, p, e));
     }
     let whole = Met::Record(n, beyond_of(reverse, p, e, m));
     pieces_met(reel, reverse, n, lowest_of(reverse, p, e, m), m, whole)
@@ -101,6 +114,6 @@ pub fn pass(reel: &[u8], reverse: bool, p: usize, e: usize) -> Met
         Block::Piece(n, i) => record_met(reel, reverse, p, e, n, i),
         Block::Mark => Met::Mark(beyond_of(reverse, p, e, 1)),
         Block::Gap => Met::Gap(beyond_of(reverse, p, e, 1)),
-        Block::Damaged => Met::Bad(k),
+        Block::Damaged(fault) => Met::Bad(fault, k),
     }
 }

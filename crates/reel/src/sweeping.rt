@@ -17,7 +17,7 @@ pub fn sweep(reel: &[u8], e: usize) -> Swept
             Met::Mark(q) => p = q,
             Met::Gap(q) => p = q,
             Met::Nothing => return Swept::Whole,
-            Met::Bad(k) => return Swept::Bad(k),
+            Met::Bad(fault, k) => return Swept::Bad(fault, k),
         }
     }
     Swept::Whole

@@ -3,6 +3,8 @@ use mathlib.Core.Bool.{Bool}
 use mathlib.Core.List.{List, [], _∷_, _++_}
 use Prim.Native.Nat.{ℕ}
 use lib.ListN.{take}
+use Rattle.tape.specs.Letters.{letterOf}
+use Rattle.tape.specs.declared.BlockFault.{BlockFault}
 use Rattle.commands.specs.declared.plans.Answer.{Answer}
 use Rattle.commands.specs.declared.plans.Answer.the-variants as answer
 use Rattle.worlds.specs.declared.Session.{Session}
@@ -36,12 +38,16 @@ alsoText i (also.Word w) = []
 abbrev pub doneText : Bool → Also → List ℕ
 doneText i x = (48 ∷ []) ++ alsoText i x
 
--- "0", "idle", a refusal's number, or "7 block=" and the block
+-- "7 block=" and the block, " fault=" and the letter of what is wrong with it
+abbrev pub badText : BlockFault → ℕ → List ℕ
+badText why k = ((55 ∷ 32 ∷ 98 ∷ 108 ∷ 111 ∷ 99 ∷ 107 ∷ 61 ∷ []) ++ decimal k) ++ ((32 ∷ 102 ∷ 97 ∷ 117 ∷ 108 ∷ 116 ∷ 61 ∷ []) ++ (letterOf why ∷ []))
+
+-- "0", "idle", a refusal's number, or refusal 7 with its block and fault
 unfoldable pub answerText : Answer → Also → List ℕ
 answerText (answer.Done i) x = doneText i x
 answerText answer.Idle x = 105 ∷ 100 ∷ 108 ∷ 101 ∷ []
 answerText (answer.Refused n) x = decimal n
-answerText (answer.BadBlock k) x = (55 ∷ 32 ∷ 98 ∷ 108 ∷ 111 ∷ 99 ∷ 107 ∷ 61 ∷ []) ++ decimal k
+answerText (answer.BadBlock why k) x = badText why k
 
 -- " word=" and the word read, whatever the answer
 abbrev pub readText : ℕ → List ℕ

@@ -5,14 +5,16 @@ use crate::fields::put_fields;
 use commands::Answer;
 use script::Fault;
 use script::flag;
+use script::put_byte;
 use script::put_bytes;
 use script::put_decimal;
 use script::put_hex;
 use script::put_labelled;
+use tape::BlockFault;
 ghost use mathlib.Core.List.{_++_};
 ghost use Rattle.script.specs.Prints.{Put};
 ghost use Rattle.results.specs.Complaints.{complaintLine, reasonText};
-ghost use Rattle.results.specs.Lines.{alsoText, answerText, doneText, entryText, interruptText, readText, resultLine, sumsText, wordText};
+ghost use Rattle.results.specs.Lines.{alsoText, answerText, badText, doneText, entryText, interruptText, readText, resultLine, sumsText, wordText};
 
 fn put_interrupt(out: &mut [u8], at: usize, interrupt: bool, entry: usize) -> usize
     ensures { λ r. ⌜ Put (now (out .entry)) at (interruptText interrupt ++ entryText entry) (now (out .exit)) r ⌝ }
@@ -39,6 +41,15 @@ fn put_done(out: &mut [u8], also: Also, interrupt: bool) -> usize
     put_also(out, at, also, interrupt)
 }
 
+// Refusal 7: the block, and the letter of what is wrong with it.
+fn put_bad(out: &mut [u8], fault: BlockFault, k: usize) -> usize
+    ensures { λ r. ⌜ Put (now (out .entry)) 0 (badText fault k) (now (out .exit)) r ⌝ }
+{
+    let at1 = put_labelled(out, 0, b"7 block=", k);
+    let at2 = put_bytes(out, at1, b" fault=");
+    put_byte(out, at2, tape::letter(fault))
+}
+
 fn put_answer(out: &mut [u8], answer: Answer, also: Also) -> usize
     ensures { λ r. ⌜ Put (now (out .entry)) 0 (answerText answer also) (now (out .exit)) r ⌝ }
 {
@@ -46,7 +57,7 @@ fn put_answer(out: &mut [u8], answer: Answer, also: Also) -> usize
         Answer::Done(interrupt) => put_done(out, also, interrupt),
         Answer::Idle => put_bytes(out, 0, b"idle"),
         Answer::Refused(n) => put_decimal(out, 0, n),
-        Answer::BadBlock(k) => put_labelled(out, 0, b"7 block=", k),
+        Answer::BadBlock(fault, k) => put_bad(out, fault, k),
     }
 }
 
@@ -108,7 +119,7 @@ fn put_reason(out: &mut [u8], at: usize, f: Fault) -> usize
         Fault::OutsideMemory => put_bytes(out, at, b": outside memory\n"),
         Fault::OutsideReel => put_bytes(out, at, b": outside the reel\n"),
         Fault::RecordTooLong => put_bytes(out, at, b": longer than a record can be\n"),
-        Fault::OtherRules => put_bytes(out, at, b": other rules: this program has rules 2\n"),
+        Fault::OtherRules => put_bytes(out, at, b": other rules: this program has rules 2 4\n"),
     }
 }
 

@@ -10,6 +10,7 @@ pub use fills::copy;
 pub use fills::generate;
 pub use fills::hex_bytes;
 pub use fills::wipe;
+pub use prints::put_byte;
 pub use prints::put_bytes;
 pub use prints::put_decimal;
 pub use prints::put_hex;

@@ -4,6 +4,7 @@ use libc::STDOUT_FILENO;
 use lists::least;
 ghost use mathlib.Core.List.{_++_};
 ghost use Prim.Native.Nat.{max, min};
+ghost use mathlib.Core.List.{[], _∷_};
 ghost use Rattle.script.specs.Prints.{Put};
 ghost use Rattle.script.specs.Spelling.{spelling};
 
@@ -15,6 +16,13 @@ pub fn put_bytes(out: &mut [u8], at: usize, b: &[u8]) -> usize
     }
     copy(&mut out[at..], b);
     at + least(out.len() - at, b.len())
+}
+
+pub fn put_byte(out: &mut [u8], at: usize, x: u8) -> usize
+    ensures { λ r. ⌜ Put (now (out .entry)) at (x ∷ []) (now (out .exit)) r ⌝ }
+{
+    let text = [x; 1];
+    put_bytes(out, at, &text)
 }
 
 pub fn put_decimal(out: &mut [u8], at: usize, n: usize) -> usize

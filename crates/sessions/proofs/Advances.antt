@@ -16,14 +16,13 @@ use Rattle.state.specs.Changes.{mountedAs}
 use Rattle.state.specs.Checks.{blocksRight, memoryRight, refusalOf, stateWrong}
 use Rattle.state.specs.declared.Unit.{Unit}
 use Rattle.state.proofs.Tests.{either}
-use Rattle.commands.specs.Answers.{faultIn, numberOf}
+use Rattle.commands.specs.Answers.{numberOf}
 use Rattle.commands.specs.Ends.{still}
 use Rattle.commands.specs.declared.plans.Answer.{Answer}
 use Rattle.commands.specs.declared.plans.Answer.the-variants as answer
 use Rattle.commands.specs.declared.plans.Plan.{Plan}
 use Rattle.commands.proofs.Every.{DoneOrBad}
 use Rattle.advance.specs.Steps.{advanced}
-use Rattle.demands.specs.Faults.{FirstFault}
 use Rattle.demands.specs.Ways.{idle as idle-way}
 use Rattle.demands.proofs.Answering.{busy-answers}
 use Rattle.demands.proofs.Faults.{swept-first}
@@ -38,8 +37,9 @@ use Rattle.worlds.specs.Worlds.{World, sessionOf}
 use Rattle.worlds.specs.Refusals.{checked, journalLimit, sessionWrong}
 use Rattle.worlds.specs.Calls.{entryFor, guarded, mountOn, mountedBy, stepOn, takenAs, takenBy, tooFull}
 use Rattle.worlds.specs.declared.Session.{Session}
+use Rattle.worlds.specs.declared.Outcome.{Outcome}
 use Rattle.worlds.proofs.Passing.{core-accepted, passed}
-use Rattle.sessions.specs.Advancing.{Comes, Idle, a-step, at-fault, checkedWith, idle, no-room, refused}
+use Rattle.sessions.specs.Advancing.{Comes, Idle, Names, a-step, at-fault, checkedWith, idle, no-room, refused}
 use Rattle.sessions.specs.Calling.{doing}
 use Rattle.sessions.proofs.Obeying.{advanced-obeys}
 
@@ -89,10 +89,10 @@ module _ (n : ℕ) (w : World) where
         (λ t. rw t (a-step sound busy (λ f. absurd (omega (arith, f, ltb-false free long t))) refl (advanced-obeys (w .core) admitted i e)))
     comes-by answer.Idle e d busy = absurd d
     comes-by (answer.Refused k) e d busy = absurd d
-    comes-by (answer.BadBlock k) e d busy =
+    comes-by (answer.BadBlock why k) e d busy =
         let c : Core = w .core in
-        let must = advanced-must (c .unit) (c .memory) (c .reel) k (admitted .legal .place) e in
-        at-fault sound busy (record { read = must; first = must-first (c .unit) (c .memory) (c .reel) k (admitted .legal .place) must }) refl
+        let must = advanced-must (c .unit) (c .memory) (c .reel) why k (admitted .legal .place) e in
+        at-fault sound busy (record { read = must; first = must-first (c .unit) (c .memory) (c .reel) why k (admitted .legal .place) must }) refl
 
     comes-on : Comes n w (takenBy w (carried (w .core) plan) (plan .answer))
     comes-on =
@@ -113,18 +113,23 @@ module _ (n : ℕ) (w : World) where
       (λ t. rw t (refused (eqb-false c 0 t) refl))
 
 module _ (old : Session) (memory : ℕ) (r : List ℕ) (journal e : ℕ) (online locked : Bool) where
-  swept-seven : (x : Swept) → numberOf (mountedBy old journal (mountSwept (old .unit) (mountedAs e online locked (record { memory = memory; blocks = length r / blockBytes })) x .unit) (mountSwept (old .unit) (mountedAs e online locked (record { memory = memory; blocks = length r / blockBytes })) x .answer) .answer) ≡ 7
-      → x ≡ swept.Bad (faultIn (mountedBy old journal (mountSwept (old .unit) (mountedAs e online locked (record { memory = memory; blocks = length r / blockBytes })) x .unit) (mountSwept (old .unit) (mountedAs e online locked (record { memory = memory; blocks = length r / blockBytes })) x .answer) .answer))
-  unfolding mountSwept mountedBy numberOf faultIn
-  swept-seven swept.Whole z = absurd (omega (arith, z))
-  swept-seven (swept.Bad j) z = refl
+  -- a mount's answer, and its state, by what the sweep came to
+  abbrev after : Swept → Outcome
+  after x =
+      let new = mountSwept (old .unit) (mountedAs e online locked (record { memory = memory; blocks = length r / blockBytes })) x in
+      mountedBy old journal (new .unit) (new .answer)
 
-  -- and the first that a mount meets from block 0 on
-  pub mount-names : numberOf (mountOn old memory r journal e online locked .answer) ≡ 7 → FirstFault r e false 0 (faultIn (mountOn old memory r journal e online locked .answer))
+  swept-seven : (x : Swept) → sweptBelow r e ≡ x → numberOf (after x .answer) ≡ 7 → Names r e (after x .answer)
+  unfolding mountSwept mountedBy numberOf
+  swept-seven swept.Whole y z = absurd (omega (arith, z))
+  swept-seven (swept.Bad why k) y z = (why, k, refl, swept-first r e why k y)
+
+  -- a mount that answers 7 names the first block at fault from block 0 on
+  pub mount-names : numberOf (mountOn old memory r journal e online locked .answer) ≡ 7 → Names r e (mountOn old memory r journal e online locked .answer)
   unfolding mountOn mountCall numberOf
   mount-names z =
       by-test (eqb (mountRefusal memory (length r) e) 0)
       (λ t. by-test (ltb journalLimit journal)
       (λ v. let y : 4 ≡ 7 = rw (t, v) at z in absurd (omega (arith, y)))
-      (λ v. rw (t, v) (swept-first r e _ (swept-seven (sweptBelow r e) (rw (t, v) at z)))))
+      (λ v. rw (t, v) (swept-seven (sweptBelow r e) refl (rw (t, v) at z))))
       (λ t. let y : mountRefusal memory (length r) e ≡ 7 = rw t at z in absurd (omega (arith, y, mount-few memory (length r) e)))

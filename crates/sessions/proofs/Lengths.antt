@@ -31,7 +31,7 @@ unfolding takenBy stepKind
 done-by w x (answer.Done i) k = (i, refl)
 done-by w x answer.Idle k = looked-none k
 done-by w x (answer.Refused j) k = refused-none k
-done-by w x (answer.BadBlock j) k = refused-none k
+done-by w x (answer.BadBlock why j) k = refused-none k
 
 taken-done : (n : ℕ) (w : World) (c : Call) → callKind c (onCall n c w .answer) ≡ stepped → Steppable c (w .core)
 unfolding callKind onCall stepOn

@@ -15,6 +15,7 @@ use Rattle.tape.specs.Sweep.{sweptBelow}
 use Rattle.tape.proofs.Sweeps.{whole-swept}
 use Rattle.tape.specs.declared.Swept.{Swept}
 use Rattle.tape.specs.declared.Swept.the-variants as swept
+use Rattle.tape.specs.declared.BlockFault.{BlockFault}
 use Rattle.state.specs.Changes.{mountedAs}
 use Rattle.state.specs.Checks.{blocksRight, memoryRight}
 use Rattle.state.specs.declared.Unit.{Unit}
@@ -70,9 +71,9 @@ not-done : {P : Type 0} (k : ℕ) → answer.Refused k ≡ answer.Done false →
 unfolding stepKind
 not-done k e = let z : refused ≡ stepped = ap stepKind e in refused-none z
 
-no-bad : {P : Type 0} (k : ℕ) → answer.BadBlock k ≡ answer.Done false → P
+no-bad : {P : Type 0} (why : BlockFault) (k : ℕ) → answer.BadBlock why k ≡ answer.Done false → P
 unfolding stepKind
-no-bad k e = let z : refused ≡ stepped = ap stepKind e in refused-none z
+no-bad why k e = let z : refused ≡ stepped = ap stepKind e in refused-none z
 
 -- what a mount that was done has found
 pub record MountDone (old : Session) (memory : ℕ) (r : List ℕ) (journal e : ℕ) (online locked : Bool) : Type 0 where
@@ -92,7 +93,7 @@ module _ (old : Session) (memory : ℕ) (r : List ℕ) (journal e : ℕ) (online
   swept-done : (x : Swept) → by x .answer ≡ answer.Done false → (x ≡ swept.Whole) × (by x .session ≡ session (mountUnit memory (length r) e online locked) 0 journal)
   unfolding mountSwept mountedBy
   swept-done swept.Whole k = (refl, refl)
-  swept-done (swept.Bad j) k = no-bad j k
+  swept-done (swept.Bad why j) k = no-bad why j k
 
   pub mount-done : mountOn old memory r journal e online locked .answer ≡ answer.Done false → MountDone old memory r journal e online locked
   unfolding mountOn mountCall

@@ -39,7 +39,7 @@ unfolding readKind
 read-none (answer.Done i) k = looked-none k
 read-none answer.Idle k = looked-none k
 read-none (answer.Refused j) k = refused-none k
-read-none (answer.BadBlock j) k = refused-none k
+read-none (answer.BadBlock why j) k = refused-none k
 
 -- a step is what is answered "done"
 pub step-done : (c : Call) (a : Answer) → callKind c a ≡ stepped → stepKind a ≡ stepped
@@ -80,7 +80,7 @@ module _ (w : World) (x : Step) where
   took-by (answer.Done i) k = took-as (answer.Done i) k
   took-by answer.Idle k = looked-none k
   took-by (answer.Refused j) k = refused-none k
-  took-by (answer.BadBlock j) k = refused-none k
+  took-by (answer.BadBlock why j) k = refused-none k
 
 pub took : (n : ℕ) (c : Call) (w : World) → callKind c (onCall n c w .answer) ≡ stepped → Took w (onCall n c w .world) (doing c (w .core))
 unfolding onCall callKind doing stepOn
@@ -136,7 +136,7 @@ module _ (n : ℕ) (w : World) where
   by-left x (answer.Done i) = as-left x i
   by-left x answer.Idle = λ g. refl
   by-left x (answer.Refused k) = λ g. refl
-  by-left x (answer.BadBlock k) = λ g. refl
+  by-left x (answer.BadBlock why k) = λ g. refl
 
   pub step-left : (a : Ask) → Left w (stepOn w n a)
   unfolding stepOn

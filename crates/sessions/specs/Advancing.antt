@@ -5,7 +5,9 @@ use mathlib.Core.List.{List}
 use mathlib.Core.Path.{_≡_}
 use Prim.Native.Nat.{ℕ, _<_, _-_}
 use lib.ListN.{length}
+use Rattle.tape.specs.declared.BlockFault.{BlockFault}
 use Rattle.state.specs.declared.Unit.{Unit}
+use Rattle.commands.specs.declared.plans.Answer.{Answer}
 use Rattle.commands.specs.declared.plans.Answer.the-variants as answer
 use Rattle.advance.specs.Rules.{reverseFirst}
 use Rattle.demands.specs.Faults.{FirstFault}
@@ -25,9 +27,13 @@ Idle u = (u .registers .ssr ≡ true) × ((u .attention .pending && u .attention
 
 -- "a block that .. the command must read is damaged or out of place": the command comes to read block k, which is the first at fault ahead of the
 -- tape, in the direction of its first stage
-pub record FaultAhead (c : Core) (k : ℕ) : Type 0 where
-  pub read : MustRead (c .unit) (c .memory) (c .reel) k
-  pub first : FirstFault (c .reel) (c .unit .tape .end) (reverseFirst (headerIn c)) (c .unit .tape .position) k
+pub record FaultAhead (c : Core) (why : BlockFault) (k : ℕ) : Type 0 where
+  pub read : MustRead (c .unit) (c .memory) (c .reel) why k
+  pub first : FirstFault (c .reel) (c .unit .tape .end) (reverseFirst (headerIn c)) (c .unit .tape .position) why k
+
+-- the same for a mount of the reel r up to the end e, which answers a: it reads every block from 0 on
+abbrev pub Names : List ℕ → ℕ → Answer → Type 0
+Names r e a = (why : BlockFault) × (k : ℕ) × (a ≡ answer.BadBlock why k) × FirstFault r e false 0 why k
 
 -- "9 free journal less than the entry"
 abbrev pub Full : World → Type 0
@@ -41,6 +47,6 @@ checkedWith n w = checked (sessionOf w) (length (w .core .memory)) (length (w .c
 pub data Comes (n : ℕ) (w : World) (x : Answered) : Type 0 where
   refused : (checkedWith n w ≡ 0 → ⊥) → x ≡ refusedAs (checkedWith n w) w → Comes n w x
   idle : checkedWith n w ≡ 0 → Idle (w .core .unit) → x ≡ answered answer.Idle w → Comes n w x
-  at-fault : {k : ℕ} → checkedWith n w ≡ 0 → (Idle (w .core .unit) → ⊥) → FaultAhead (w .core) k → x ≡ answered (answer.BadBlock k) w → Comes n w x
+  at-fault : {why : BlockFault} {k : ℕ} → checkedWith n w ≡ 0 → (Idle (w .core .unit) → ⊥) → FaultAhead (w .core) why k → x ≡ answered (answer.BadBlock why k) w → Comes n w x
   no-room : checkedWith n w ≡ 0 → (Idle (w .core .unit) → ⊥) → Full w → x ≡ refusedAs 9 w → Comes n w x
   a-step : {i : Bool} → checkedWith n w ≡ 0 → (Idle (w .core .unit) → ⊥) → (Full w → ⊥) → x .answer ≡ answer.Done i → Obeys (w .core) i (x .world .core) → Comes n w x

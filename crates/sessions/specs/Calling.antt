@@ -40,13 +40,13 @@ unfoldable pub stepKind : Answer → Kind
 stepKind (answer.Done i) = stepped
 stepKind answer.Idle = looked
 stepKind (answer.Refused k) = refused
-stepKind (answer.BadBlock k) = refused
+stepKind (answer.BadBlock why k) = refused
 
 unfoldable pub readKind : Answer → Kind
 readKind (answer.Done i) = looked
 readKind answer.Idle = looked
 readKind (answer.Refused k) = refused
-readKind (answer.BadBlock k) = refused
+readKind (answer.BadBlock why k) = refused
 
 unfoldable pub callKind : Call → Answer → Kind
 callKind (step b h) a = stepKind a

@@ -78,4 +78,4 @@ unfoldable pub blockAfter : List ℕ → Answer → Session → List ℕ
 blockAfter b (answer.Done i) s = stateBlock s
 blockAfter b answer.Idle s = b
 blockAfter b (answer.Refused n) s = b
-blockAfter b (answer.BadBlock k) s = b
+blockAfter b (answer.BadBlock why k) s = b

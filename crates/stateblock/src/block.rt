@@ -95,6 +95,6 @@ pub fn close(b: &mut [u8; 128], o: Outcome) -> usize
         }
         Answer::Idle => 0,
         Answer::Refused(n) => n,
-        Answer::BadBlock(_) => 7,
+        Answer::BadBlock(_, _) => 7,
     }
 }

@@ -6,7 +6,9 @@ use Prim.Native.Nat.{ℕ, _≤_}
 use lib.ListN.{length}
 use Rattle.lists.specs.Words.{Bytes}
 use Rattle.lists.proofs.Cases.{by-test}
-use Rattle.commands.specs.Answers.{faultIn, interruptIn, isStep, numberOf}
+use Rattle.tape.specs.Letters.{letterOf}
+use Rattle.tape.specs.declared.BlockFault.{BlockFault}
+use Rattle.commands.specs.Answers.{blockIn, faultIn, interruptIn, isStep, numberOf}
 use Rattle.commands.specs.declared.plans.Answer.{Answer}
 use Rattle.commands.specs.declared.plans.Answer.the-variants as answer
 use Rattle.demands.specs.Faults.{FirstFault}
@@ -28,8 +30,8 @@ abbrev call : Call
 call = step advance tt
 
 -- any 128 bytes in the place of a state, and any memory, reel and journal
-module _ (h : Host) (long : length (h .block) ≡ stateLength) (bytes : Bytes (h .block)) {h′ : Host} {number fault : ℕ} {steps interrupts : Bool}
-    (g : Returned h (given call h) number h′) (t : Tells (given call h) steps interrupts fault) where
+module _ (h : Host) (long : length (h .block) ≡ stateLength) (bytes : Bytes (h .block)) {h′ : Host} {number block fault : ℕ} {steps interrupts : Bool}
+    (g : Returned h (given call h) number h′) (t : Tells (given call h) steps interrupts block fault) where
   abbrev does : Answered
   does = stepOn (worldIn h) (length (h .journal)) advance
 
@@ -40,7 +42,7 @@ module _ (h : Host) (long : length (h .block) ≡ stateLength) (bytes : Bytes (h
       (t .stepped ∙ z, call-nothing call (g .gives) z)
 
   abbrev Here : Type 0
-  Here = HostComes h number steps interrupts fault h′
+  Here = HostComes h number steps interrupts block fault h′
 
   module _ (b : Block (h .block)) where
     is : given call h ≡ does
@@ -54,7 +56,7 @@ module _ (h : Host) (long : length (h .block) ≡ stateLength) (bytes : Bytes (h
     numbered e = g .gives .answer ∙ ap numberOf e
 
     comes-as : Comes (length (h .journal)) (worldIn h) does → Here
-    unfolding isStep numberOf faultIn interruptIn onCall
+    unfolding isStep numberOf blockIn faultIn interruptIn onCall
     comes-as (refused n e) =
         let y = reads-as e in
         let few = checked-few (sessionOf (worldIn h)) (length (h .memory)) (length (h .reel)) (length (h .journal)) in
@@ -62,7 +64,7 @@ module _ (h : Host) (long : length (h .block) ≡ stateLength) (bytes : Bytes (h
     comes-as (idle c i e) = let y = reads-as e in host-idle i (numbered y) (nothing y refl .0) (nothing y refl .1)
     comes-as (at-fault c busy f e) =
         let y = reads-as e in
-        host-fault busy (subst (FaultAhead (worldIn h .core)) (sym (t .fault ∙ ap faultIn y)) f) (numbered y) (nothing y refl .0) (nothing y refl .1)
+        host-fault busy (subst (FaultAhead (worldIn h .core) _) (sym (t .block ∙ ap blockIn y)) f) (t .fault ∙ ap faultIn y) (numbered y) (nothing y refl .0) (nothing y refl .1)
     comes-as (no-room c busy f e) = let y = reads-as e in host-full busy f (numbered y) (nothing y refl .0) (nothing y refl .1)
     comes-as (a-step {i} c busy room e o) =
         let y : given call h .answer ≡ answer.Done i = ap (λ (x : Answered). x .answer) is ∙ e in
@@ -77,8 +79,11 @@ module _ (h : Host) (long : length (h .block) ≡ stateLength) (bytes : Bytes (h
       (λ r. comes-as (record { long = long; bytes = bytes; right = r }) (advance-comes (length (h .journal)) (worldIn h)))
       (λ r. let y : given call h .answer ≡ answer.Refused 1 = rw r in no-state r (g .gives .answer ∙ ap numberOf y) (nothing y refl .0) (nothing y refl .1))
 
--- a mount that returns 7 names the first block at fault from block 0 on
-pub host-mount-names : {b b′ : List ℕ} {number fault : ℕ} (memory : ℕ) (r : List ℕ) (journal e : ℕ) (online locked : Bool)
-    → Mounts b (mountOn (sessionIn b) memory r journal e online locked) number b′ fault → number ≡ 7 → FirstFault r e false 0 fault
+-- a mount that returns 7 names the first block at fault from block 0 on, and tells what is wrong with it
+pub host-mount-names : {b b′ : List ℕ} {number block fault : ℕ} (memory : ℕ) (r : List ℕ) (journal e : ℕ) (online locked : Bool)
+    → Mounts b (mountOn (sessionIn b) memory r journal e online locked) number b′ block fault → number ≡ 7
+    → (why : BlockFault) × (fault ≡ letterOf why) × FirstFault r e false 0 why block
+unfolding blockIn faultIn
 host-mount-names {b} memory r journal e online locked g z =
-    subst (FirstFault r e false 0) (sym (g .fault)) (mount-names (sessionIn b) memory r journal e online locked (sym (g .answer) ∙ z))
+    let n = mount-names (sessionIn b) memory r journal e online locked (sym (g .answer) ∙ z) in
+    (n .0, g .fault ∙ ap faultIn (n .2), subst (FirstFault r e false 0 (n .0)) (sym (g .block ∙ ap blockIn (n .2))) (n .3))

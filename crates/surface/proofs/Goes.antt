@@ -28,14 +28,14 @@ unfolding blockAfter stepKind
 block-stepped b (answer.Done i) s k = refl
 block-stepped b answer.Idle s k = looked-none k
 block-stepped b (answer.Refused n) s k = refused-none k
-block-stepped b (answer.BadBlock n) s k = refused-none k
+block-stepped b (answer.BadBlock why n) s k = refused-none k
 
 pub block-same : (b : List ℕ) (a : Answer) → Block b → blockAfter b a (sessionIn b) ≡ b
 unfolding blockAfter
 block-same b (answer.Done i) k = block-own b k
 block-same b answer.Idle k = refl
 block-same b (answer.Refused n) k = refl
-block-same b (answer.BadBlock n) k = refl
+block-same b (answer.BadBlock why n) k = refl
 
 -- a call took a step, to a session whose numbers have four bytes, or it left the world w
 pub data Went (w : World) (x : Answered) : Type 0 where

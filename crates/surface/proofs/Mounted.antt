@@ -36,7 +36,7 @@ module _ (old : Session) (memory : ℕ) (r : List ℕ) (journal e : ℕ) (online
       → mountedBy old journal (mountSwept (old .unit) new x .unit) (mountSwept (old .unit) new x .answer) .answer ≡ answer.Done false
   unfolding mountSwept mountedBy numberOf
   swept-zero new swept.Whole h = refl
-  swept-zero new (swept.Bad k) h = absurd (omega arith)
+  swept-zero new (swept.Bad why k) h = absurd (omega arith)
 
   -- of a mount's answers only "done" has the number 0
   mount-zero : numberOf (mountOn old memory r journal e online locked .answer) ≡ 0 → mountOn old memory r journal e online locked .answer ≡ answer.Done false
@@ -49,7 +49,7 @@ module _ (old : Session) (memory : ℕ) (r : List ℕ) (journal e : ℕ) (online
       (λ v. rw (t, v) (swept-zero _ (sweptBelow r e) (rw (t, v) at h))))
       (λ t. let z : n ≡ 0 = rw t at h in absurd (eqb-false n 0 t z))
 
-module _ (h : Host) (e : ℕ) (online locked : Bool) {b′ : List ℕ} {k : ℕ} (all : Bytes (h .reel)) (g : Mounts (h .block) (mountOn (sessionIn (h .block)) (length (h .memory)) (h .reel) (length (h .journal)) e online locked) 0 b′ k) where
+module _ (h : Host) (e : ℕ) (online locked : Bool) {b′ : List ℕ} {k f : ℕ} (all : Bytes (h .reel)) (g : Mounts (h .block) (mountOn (sessionIn (h .block)) (length (h .memory)) (h .reel) (length (h .journal)) e online locked) 0 b′ k f) where
   abbrev n : ℕ
   n = length (h .journal)
 

@@ -31,21 +31,21 @@ unfolding numberOf isStep
 refused-step (answer.Done i) h = absurd (h refl)
 refused-step answer.Idle h = refl
 refused-step (answer.Refused n) h = refl
-refused-step (answer.BadBlock n) h = refl
+refused-step (answer.BadBlock why n) h = refl
 
 not-step : (a : Answer) → isStep a ≡ false → stepKind a ≡ stepped → ⊥
 unfolding isStep stepKind
 not-step (answer.Done i) h k = true≢false h
 not-step answer.Idle h k = looked-none k
 not-step (answer.Refused n) h k = refused-none k
-not-step (answer.BadBlock n) h k = refused-none k
+not-step (answer.BadBlock why n) h k = refused-none k
 
 block-left : (b : List ℕ) (a : Answer) (s : Session) → isStep a ≡ false → blockAfter b a s ≡ b
 unfolding isStep blockAfter
 block-left b (answer.Done i) s h = absurd (true≢false h)
 block-left b answer.Idle s h = refl
 block-left b (answer.Refused n) s h = refl
-block-left b (answer.BadBlock n) s h = refl
+block-left b (answer.BadBlock why n) s h = refl
 
 -- a host is its four buffers
 same-host : {h h′ : Host} → h′ .block ≡ h .block → h′ .memory ≡ h .memory → h′ .reel ≡ h .reel → h′ .journal ≡ h .journal → h′ ≡ h

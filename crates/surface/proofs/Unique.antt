@@ -21,11 +21,11 @@ gives-unique p q = (
 )
 
 -- what an advance tells beside its number, a register that is read, and a mount
-pub tells-unique : {x : Answered} {s₁ s₂ i₁ i₂ : Bool} {k₁ k₂ : ℕ} → Tells x s₁ i₁ k₁ → Tells x s₂ i₂ k₂ → (s₁ ≡ s₂) × (i₁ ≡ i₂) × (k₁ ≡ k₂)
-tells-unique p q = (p .stepped ∙ sym (q .stepped), p .interrupt ∙ sym (q .interrupt), p .fault ∙ sym (q .fault))
+pub tells-unique : {x : Answered} {s₁ s₂ i₁ i₂ : Bool} {k₁ k₂ f₁ f₂ : ℕ} → Tells x s₁ i₁ k₁ f₁ → Tells x s₂ i₂ k₂ f₂ → (s₁ ≡ s₂) × (i₁ ≡ i₂) × (k₁ ≡ k₂) × (f₁ ≡ f₂)
+tells-unique p q = (p .stepped ∙ sym (q .stepped), p .interrupt ∙ sym (q .interrupt), p .block ∙ sym (q .block), p .fault ∙ sym (q .fault))
 
 pub reads-unique : {x : RegisterRead} {n₁ n₂ w₁ w₂ : ℕ} → Reads x n₁ w₁ → Reads x n₂ w₂ → (n₁ ≡ n₂) × (w₁ ≡ w₂)
 reads-unique p q = (p .answer ∙ sym (q .answer), p .word ∙ sym (q .word))
 
-pub mounts-unique : {b b₁ b₂ : List ℕ} {o : Outcome} {n₁ n₂ k₁ k₂ : ℕ} → Mounts b o n₁ b₁ k₁ → Mounts b o n₂ b₂ k₂ → (n₁ ≡ n₂) × (b₁ ≡ b₂) × (k₁ ≡ k₂)
-mounts-unique p q = (p .answer ∙ sym (q .answer), p .state ∙ sym (q .state), p .fault ∙ sym (q .fault))
+pub mounts-unique : {b b₁ b₂ : List ℕ} {o : Outcome} {n₁ n₂ k₁ k₂ f₁ f₂ : ℕ} → Mounts b o n₁ b₁ k₁ f₁ → Mounts b o n₂ b₂ k₂ f₂ → (n₁ ≡ n₂) × (b₁ ≡ b₂) × (k₁ ≡ k₂) × (f₁ ≡ f₂)
+mounts-unique p q = (p .answer ∙ sym (q .answer), p .state ∙ sym (q .state), p .block ∙ sym (q .block), p .fault ∙ sym (q .fault))

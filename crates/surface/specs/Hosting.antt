@@ -5,6 +5,8 @@ use mathlib.Core.Path.{_≡_}
 use Prim.Native.Nat.{ℕ, suc, _≤_}
 use lib.ListN.{drop, length}
 use Rattle.lists.specs.Words.{Bytes}
+use Rattle.tape.specs.Letters.{letterOf}
+use Rattle.tape.specs.declared.BlockFault.{BlockFault}
 use Rattle.entries.specs.Entries.{usedIn}
 use Rattle.worlds.specs.Worlds.{Answered}
 use Rattle.worlds.specs.Calls.{mountOn}
@@ -44,8 +46,8 @@ pub record Returned (h : Host) (x : Answered) (k : ℕ) (h′ : Host) : Type 0 w
 pub data Exported (h : Host) (k : ℕ) : Host → Type 0 where
   a-call : {h′ : Host} (c : Call) → Returned h (given c h) k h′ → Exported h k h′
   a-step-back : {h′ : Host} → Returned h (backGiven h) k h′ → Exported h k h′
-  a-mount : {b′ : List ℕ} {fault : ℕ} (memory journal end : ℕ) (online locked : Bool)
-      → Mounts (h .block) (mountOn (sessionIn (h .block)) memory (h .reel) journal end online locked) k b′ fault
+  a-mount : {b′ : List ℕ} {block fault : ℕ} (memory journal end : ℕ) (online locked : Bool)
+      → Mounts (h .block) (mountOn (sessionIn (h .block)) memory (h .reel) journal end online locked) k b′ block fault
       → Exported h k (record { block = b′; memory = h .memory; reel = h .reel; journal = h .journal })
 
 -- what a host did, and the number that it was returned
@@ -112,12 +114,13 @@ pub record Entries (h : Host) (n : ℕ) (steps : List (Standing (calls n))) : Ty
   pub used : sessionIn (h .block) .used ≡ lengthOf noted
   pub bytes : usedIn (sessionIn (h .block) .used) (h .journal) ≡ journalOf noted
 
--- what an exported advance on h returned and told, and that it left h′: bytes that are no state's, refusals 1 to 4, idle, 7 with the block, 9, or a step
-pub data HostComes (h : Host) (number : ℕ) (steps interrupts : Bool) (fault : ℕ) (h′ : Host) : Type 0 where
-  no-state : isBlock (h .block) ≡ false → number ≡ 1 → steps ≡ false → h′ ≡ h → HostComes h number steps interrupts fault h′
-  refused-first : (number ≡ 0 → ⊥) → number ≤ 4 → number ≡ checkedWith (length (h .journal)) (worldIn h) → steps ≡ false → h′ ≡ h → HostComes h number steps interrupts fault h′
-  idle : Idle (worldIn h .core .unit) → number ≡ 0 → steps ≡ false → h′ ≡ h → HostComes h number steps interrupts fault h′
-  at-fault : (Idle (worldIn h .core .unit) → ⊥) → FaultAhead (worldIn h .core) fault → number ≡ 7 → steps ≡ false → h′ ≡ h → HostComes h number steps interrupts fault h′
-  no-room : (Idle (worldIn h .core .unit) → ⊥) → Full (worldIn h) → number ≡ 9 → steps ≡ false → h′ ≡ h → HostComes h number steps interrupts fault h′
+-- what an exported advance on h returned and told, and that it left h′: bytes that are no state's, refusals 1 to 4, idle, 7 with the block and its
+-- fault's letter, 9, or a step
+pub data HostComes (h : Host) (number : ℕ) (steps interrupts : Bool) (block fault : ℕ) (h′ : Host) : Type 0 where
+  no-state : isBlock (h .block) ≡ false → number ≡ 1 → steps ≡ false → h′ ≡ h → HostComes h number steps interrupts block fault h′
+  refused-first : (number ≡ 0 → ⊥) → number ≤ 4 → number ≡ checkedWith (length (h .journal)) (worldIn h) → steps ≡ false → h′ ≡ h → HostComes h number steps interrupts block fault h′
+  idle : Idle (worldIn h .core .unit) → number ≡ 0 → steps ≡ false → h′ ≡ h → HostComes h number steps interrupts block fault h′
+  at-fault : {why : BlockFault} → (Idle (worldIn h .core .unit) → ⊥) → FaultAhead (worldIn h .core) why block → fault ≡ letterOf why → number ≡ 7 → steps ≡ false → h′ ≡ h → HostComes h number steps interrupts block fault h′
+  no-room : (Idle (worldIn h .core .unit) → ⊥) → Full (worldIn h) → number ≡ 9 → steps ≡ false → h′ ≡ h → HostComes h number steps interrupts block fault h′
   a-step : (Idle (worldIn h .core .unit) → ⊥) → (Full (worldIn h) → ⊥) → number ≡ 0 → steps ≡ true → Obeys (worldIn h .core) interrupts (worldIn h′ .core)
-      → HostComes h number steps interrupts fault h′
+      → HostComes h number steps interrupts block fault h′

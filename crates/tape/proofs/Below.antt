@@ -57,7 +57,7 @@ module _ (s s′ : List ℕ) (reverse : Bool) (e : ℕ) (same : (k : ℕ) → k 
   by-agree q (block.Piece n i) h = record-agree q n i h
   by-agree q block.Mark h = refl
   by-agree q block.Gap h = refl
-  by-agree q block.Damaged h = refl
+  by-agree q (block.Damaged f) h = refl
 
   pub pass-agree : (q : ℕ) → q ≤ e → passed s reverse q e ≡ passed s′ reverse q e
   unfolding passed

@@ -12,6 +12,8 @@ use Rattle.tape.specs.Bytes.{recordBytes}
 use Rattle.tape.specs.Numbers.{blockBytes, dataBytes, headBytes, piecesOf}
 use Rattle.tape.specs.Objects.{Allowed, StandsAt, blocksIn, gap, imageOf, mark, pieceOf, piecesTo, record-of}
 use Rattle.tape.specs.Reading.{blockAt, classAt, classOf}
+use Rattle.tape.specs.declared.BlockFault.{BlockFault}
+use Rattle.tape.specs.declared.BlockFault.the-variants as fault
 use Rattle.tape.specs.declared.Block.{Block}
 use Rattle.tape.specs.declared.Block.the-variants as block
 use Rattle.tape.proofs.Accepted.{clash, pick-first}
@@ -29,23 +31,23 @@ record ReadAt (s : List ℕ) (k : ℕ) (b : Block) : Type 0 where
   class : classOf (blockAt s k) ≡ b
 
 module _ (s : List ℕ) (k : ℕ) (all : Bytes s) where
-  read-at : (b : Block) → (block.Damaged ≡ b → ⊥) → classAt s k ≡ b → ReadAt s k b
+  read-at : (b : Block) → ((f : BlockFault) → block.Damaged f ≡ b → ⊥) → classAt s k ≡ b → ReadAt s k b
   unfolding classAt
   read-at b sound e =
-      let p = pick-first (ltb k (length s / blockBytes)) (classOf (blockAt s k)) block.Damaged b e sound in
+      let p = pick-first (ltb k (length s / blockBytes)) (classOf (blockAt s k)) _ b e (sound fault.Index) in
       let fits : blockBytes * (k + 1) ≤ length s = omega (arith, ltb-true k (length s / blockBytes) (p .0)) in
       record { room = fits; bytes = bytes-part blockBytes (blockBytes * k) s all; size = simp (length-take, length-drop) (omega arith); class = p .1 }
 
   pub mark-stands : classAt s k ≡ block.Mark → StandsAt s k mark
   unfolding blocksIn
-  mark-stands e = let r = read-at block.Mark (λ h. clash cc) e in whole-mark (blockAt s k) (r .bytes) (r .size) (r .class)
+  mark-stands e = let r = read-at block.Mark (λ f h. clash cc) e in whole-mark (blockAt s k) (r .bytes) (r .size) (r .class)
 
   pub gap-stands : classAt s k ≡ block.Gap → StandsAt s k gap
   unfolding blocksIn
-  gap-stands e = let r = read-at block.Gap (λ h. clash cc) e in whole-gap (blockAt s k) (r .bytes) (r .size) (r .class)
+  gap-stands e = let r = read-at block.Gap (λ f h. clash cc) e in whole-gap (blockAt s k) (r .bytes) (r .size) (r .class)
 
   piece-at : (n i : ℕ) → classAt s k ≡ block.Piece n i → ReadAt s k (block.Piece n i)
-  piece-at n i e = read-at (block.Piece n i) (λ h. clash cc) e
+  piece-at n i e = read-at (block.Piece n i) (λ f h. clash cc) e
 
 -- the converse of `stands-piece`: blocks that are a record's pieces make up its image
 pub pieces-join : (s d : List ℕ) (p m : ℕ) → ((j : ℕ) → j < m → blockAt s (p + j) ≡ pieceOf d j) → take (blockBytes * m) (drop (blockBytes * p) s) ≡ piecesTo d m

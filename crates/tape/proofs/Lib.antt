@@ -4,6 +4,7 @@ pub mod Checked
 pub mod Accepted
 pub mod Rebuilt
 pub mod ReadBlocks
+pub mod Faulted
 pub mod Runs
 pub mod PieceRun
 pub mod Recorded

@@ -16,38 +16,36 @@ use Rattle.tape.proofs.Rebuilt.{rebuilt}
 use Rattle.tape.specs.Layout.{blockOf, gapKind, markKind, pieceKind}
 use Rattle.tape.specs.Numbers.{blockBytes, dataBytes, headBytes, piecesOf, recordLimit}
 use Rattle.tape.specs.Objects.{gap, imageOf, mark}
-use Rattle.tape.specs.Reading.{blockAt, bodyRight, classAt, classBy, classOf, headRight, kindOf, usedOf}
+use Rattle.tape.specs.Reading.{blockAt, classAt, classBy, classOf, indexRight, kindOf, kindRight, lengthRight, usedOf}
 use Rattle.tape.specs.declared.Block.the-variants as block
 
 -- a laid block with a right head is read as what its kind says
-read-laid : (k n i : ℕ) (d : List ℕ) → headRight k n i ≡ true → length d ≡ usedOf k n i → length d ≤ dataBytes → classOf (blockOf k n i d) ≡ kindOf k n i
-unfolding classOf classBy bodyRight
-read-laid k n i d r u h = rw (block-kind k n i d, block-length k n i d, block-index k n i d, r, ← u, block-padding k n i d h, block-check k n i d h)
+read-laid : (k n i : ℕ) (d : List ℕ) → kindRight k ≡ true → lengthRight k n ≡ true → indexRight k n i ≡ true → length d ≡ usedOf k n i → length d ≤ dataBytes → classOf (blockOf k n i d) ≡ kindOf k n i
+unfolding classOf classBy
+read-laid k n i d p q r u h = rw (block-kind k n i d, block-length k n i d, block-index k n i d, p, q, r, ← u, block-padding k n i d h, block-check k n i d h)
 
 pub read-piece : (n i : ℕ) (d : List ℕ) → 1 ≤ n → n ≤ recordLimit → i < piecesOf n → length d ≡ min dataBytes (n - dataBytes * i) → classOf (blockOf pieceKind n i d) ≡ block.Piece n i
-unfolding headRight
-read-piece n i d h k l u = read-laid pieceKind n i d (simp (le-leb 1 n h, le-leb n recordLimit k, lt-ltb i (piecesOf n) l)) u (omega arith)
+read-piece n i d h k l u = read-laid pieceKind n i d refl (simp (le-leb 1 n h, le-leb n recordLimit k)) (lt-ltb i (piecesOf n) l) u (omega arith)
 
 pub read-mark : classOf (imageOf mark) ≡ block.Mark
-unfolding headRight imageOf
-read-mark = read-laid markKind 0 0 [] refl refl (omega arith)
+unfolding imageOf
+read-mark = read-laid markKind 0 0 [] refl refl refl refl (omega arith)
 
 pub read-gap : classOf (imageOf gap) ≡ block.Gap
-unfolding headRight imageOf
-read-gap = read-laid gapKind 0 0 [] refl refl (omega arith)
+unfolding imageOf
+read-gap = read-laid gapKind 0 0 [] refl refl refl refl (omega arith)
 
 pub piece-ranged : (b : List ℕ) (n i : ℕ) → classOf b ≡ block.Piece n i → (1 ≤ n) × (n ≤ recordLimit) × (i < piecesOf n)
-unfolding headRight
 piece-ranged b n i e =
-    let p = and-eq-true-iff (leb 1 n && leb n recordLimit) (ltb i (piecesOf n)) .0 (accepted-piece b n i e .head) in
-    let q = and-eq-true-iff (leb 1 n) (leb n recordLimit) .0 (p .0) in
-    (leb-true 1 n (q .0), leb-true n recordLimit (q .1), ltb-true i (piecesOf n) (p .1))
+    let a = accepted-piece b n i e in
+    let q = and-eq-true-iff (leb 1 n) (leb n recordLimit) .0 (a .sized) in
+    (leb-true 1 n (q .0), leb-true n recordLimit (q .1), ltb-true i (piecesOf n) (a .indexed))
 
 -- a block that the slice does not hold is damaged, and so no piece
 pub piece-read : (s : List ℕ) (k n i : ℕ) → classAt s k ≡ block.Piece n i → (1 ≤ n) × (n ≤ recordLimit) × (i < piecesOf n)
 unfolding classAt
 piece-read s k n i e =
-    piece-ranged (blockAt s k) n i (pick-first (ltb k (length s / blockBytes)) (classOf (blockAt s k)) block.Damaged (block.Piece n i) e (λ h. clash cc) .1)
+    piece-ranged (blockAt s k) n i (pick-first (ltb k (length s / blockBytes)) (classOf (blockAt s k)) _ (block.Piece n i) e (λ h. clash cc) .1)
 
 used-fits : (t : Bool) (m : ℕ) → pick t (min dataBytes m) 0 ≤ dataBytes
 used-fits true m = omega arith

@@ -9,7 +9,7 @@ use Rattle.tape.specs.Bytes.{recordBytes}
 use Rattle.tape.specs.Meeting.{metAs}
 use Rattle.tape.specs.Numbers.{piecesOf}
 use Rattle.tape.specs.Objects.{Allowed, Object, StandsAt, blocksIn, gap, mark, record-of}
-use Rattle.tape.specs.Pass.{ahead, beyond, lowest, passed}
+use Rattle.tape.specs.Pass.{ahead, badAt, beyond, lowest, passed}
 use Rattle.tape.specs.declared.Met.{Met}
 use Rattle.tape.specs.declared.Met.the-variants as met
 use Rattle.tape.proofs.Gathering.{gap-stands, mark-stands, pieces-allowed, pieces-length, pieces-stand}
@@ -18,7 +18,7 @@ use Rattle.tape.proofs.Outcomes.{Outcome, at-end, at-fault, outcome, ov
 pub data Seen (s : List ℕ) (reverse : Bool) (q e : ℕ) (m : Met) : Type 0 where
   ended : ahead reverse q e ≡ 0 → m ≡ met.Nothing → Seen s reverse q e m
   found : (o : Object) → Allowed o → StandsAt s (lowest reverse q (blocksIn o)) o → blocksIn o ≤ ahead reverse q e → m ≡ metAs o (beyond reverse q (blocksIn o)) → Seen s reverse q e m
-  faulty : (k : ℕ) → m ≡ met.Bad k → Seen s reverse q e m
+  faulty : (k : ℕ) → m ≡ badAt s k → Seen s reverse q e m
 
 module _ (s : List ℕ) (reverse : Bool) (q e : ℕ) where
   record-found : (n : ℕ) (x : Met) (d : List ℕ) → length d ≡ n → piecesOf n ≤ ahead reverse q e → Allowed (record-of d) → StandsAt s (lowest reverse q (piecesOf n)) (record-of d) → x ≡ met.Record n (beyond reverse q (piecesOf n)) → Seen s reverse q e x

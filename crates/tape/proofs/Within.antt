@@ -49,7 +49,7 @@ PassIn reverse p e (met.Record n q) = RecordIn reverse e n q × Onward reverse p
 PassIn reverse p e (met.Mark q) = Onward reverse p e q
 PassIn reverse p e (met.Gap q) = Onward reverse p e q
 PassIn reverse p e met.Nothing = ahead reverse p e ≡ 0
-PassIn reverse p e (met.Bad k) = Always
+PassIn reverse p e (met.Bad why k) = Always
 
 by-outcome : (s : List ℕ) (reverse : Bool) (p e : ℕ) (m : Met) → p ≤ e → Outcome s reverse p e m → PassIn reverse p e m
 by-outcome s reverse p e m h (at-end z y) = rw y z

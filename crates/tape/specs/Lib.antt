@@ -3,6 +3,8 @@ pub mod Numbers
 pub mod Layout
 pub mod Objects
 pub mod Reading
+pub mod Wrong
+pub mod Letters
 pub mod Pass
 pub mod Sweep
 pub mod Bytes

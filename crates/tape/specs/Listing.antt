@@ -1,4 +1,4 @@
--- "Instead: `L` too long, `S` not whole blocks, `X k` bad block k, in that order." (01, The listing)
+-- "Instead: `L` too long, `S` not whole blocks, `X k` bad block k, in that order." (01, The listing); with it what is wrong (02, [4])
 use mathlib.Core.List.{List}
 use Prim.Native.Nat.{ℕ, _/_, _%_}
 use lib.Dec.{eqb, ltb}
@@ -18,7 +18,7 @@ imageLimit = 65536
 -- "E gives the recorded end (the image's block count, 0 if empty)"
 unfoldable pub imageSwept : ℕ → Swept → Image
 imageSwept e swept.Whole = image.Whole e
-imageSwept e (swept.Bad k) = image.Bad k
+imageSwept e (swept.Bad why k) = image.Bad why k
 
 unfoldable pub examined : List ℕ → Image
 examined s =

@@ -1,6 +1,7 @@
 -- "A command reads each block of every object it passes, in the order met; the first at fault is named. A block that isn't the piece due,
 -- by kind, length or index, is out of place; a record is met at index 0, in reverse at its last. A record cut off by either end is out
--- of place at the first of its blocks met." (01, under the refusals). `reverse` says which way.
+-- of place at the first of its blocks met." (01, under the refusals). `reverse` says which way. "Mount, advance and the listing pass the fault up.
+-- Where document 01 says "out of place", the fault is index." (02, [4])
 use mathlib.Core.Bool.{Bool, true, false, _&&_}
 use mathlib.Core.List.{List}
 use Prim.Native.Nat.{ℕ, suc, _+_, _-_}
@@ -8,6 +9,8 @@ use lib.Dec.{eqb, leb}
 use Rattle.lists.specs.Pick.{pick}
 use Rattle.tape.specs.Numbers.{piecesOf}
 use Rattle.tape.specs.Reading.{classAt}
+use Rattle.tape.specs.declared.BlockFault.{BlockFault}
+use Rattle.tape.specs.declared.BlockFault.the-variants as fault
 use Rattle.tape.specs.declared.Block.{Block}
 use Rattle.tape.specs.declared.Block.the-variants as block
 use Rattle.tape.specs.declared.Met.{Met}
@@ -38,27 +41,38 @@ unfoldable pub isPiece : Block → ℕ → ℕ → Bool
 isPiece (block.Piece n′ i′) n i = eqb n′ n && eqb i′ i
 isPiece block.Mark n i = false
 isPiece block.Gap n i = false
-isPiece block.Damaged n i = false
+isPiece (block.Damaged f) n i = false
+
+-- what is wrong with a block that can't be taken: what the reader says, and of a sound one its place
+unfoldable pub faultOf : Block → BlockFault
+faultOf (block.Damaged f) = f
+faultOf (block.Piece n i) = fault.Index
+faultOf block.Mark = fault.Index
+faultOf block.Gap = fault.Index
+
+-- block k of the reel s can't be taken
+abbrev pub badAt : List ℕ → ℕ → Met
+badAt s k = met.Bad (faultOf (classAt s k)) k
 
 -- the next c pieces due of a record of n bytes in m blocks from block p on, j of them met: the first at fault, else what was met
 unfoldable pub piecesMet : List ℕ → Bool → ℕ → ℕ → ℕ → ℕ → ℕ → Met → Met
 piecesMet s reverse n p m j ℕ.zero whole = whole
 piecesMet s reverse n p m j (suc c) whole =
     let rest = piecesMet s reverse n p m (suc j) c whole in
-    pick (isPiece (classAt s (p + orderMet reverse m j)) n (orderMet reverse m j)) rest (met.Bad (p + orderMet reverse m j))
+    pick (isPiece (classAt s (p + orderMet reverse m j)) n (orderMet reverse m j)) rest (badAt s (p + orderMet reverse m j))
 
 -- a record of n bytes, met at piece i
 unfoldable pub recordMet : List ℕ → Bool → ℕ → ℕ → ℕ → ℕ → Met
 recordMet s reverse p e n i =
     pick (eqb i (orderMet reverse (piecesOf n) 0) && leb (piecesOf n) (ahead reverse p e))
     (piecesMet s reverse n (lowest reverse p (piecesOf n)) (piecesOf n) 1 (piecesOf n - 1) (met.Record n (beyond reverse p (piecesOf n))))
-    (met.Bad (firstMet reverse p))
+    (met.Bad fault.Index (firstMet reverse p))
 
 unfoldable pub metBy : List ℕ → Bool → ℕ → ℕ → Block → Met
 metBy s reverse p e (block.Piece n i) = recordMet s reverse p e n i
 metBy s reverse p e block.Mark = met.Mark (beyond reverse p 1)
 metBy s reverse p e block.Gap = met.Gap (beyond reverse p 1)
-metBy s reverse p e block.Damaged = met.Bad (firstMet reverse p)
+metBy s reverse p e (block.Damaged f) = met.Bad f (firstMet reverse p)
 
 -- what passing one object from position p meets, on the reel s recorded up to e
 unfoldable pub passed : List ℕ → Bool → ℕ → ℕ → Met

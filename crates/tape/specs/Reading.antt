@@ -1,4 +1,5 @@
--- What one block is read as. Damaged is every block that is none of the three forms (DECISIONS, damage).
+-- What one block is read as. Damaged is every block that is none of the three forms (DECISIONS, damage), and it is told what is wrong with it:
+-- "The block reader shall tell kind, length, index, padding and check apart, first in that order" (02, [4]).
 use mathlib.Core.Bool.{Bool, true, false, _&&_}
 use mathlib.Core.List.{List, [], _∷_}
 use Prim.Native.Nat.{ℕ, _+_, _-_, _*_, _/_, min}
@@ -8,6 +9,8 @@ use Rattle.lists.specs.Pick.{pick}
 use Rattle.lists.specs.Words.{wordAt}
 use Rattle.tape.specs.Numbers.{blockBytes, dataBytes, headBytes, piecesOf, recordLimit, summedBytes}
 use Rattle.tape.specs.Layout.{checkOf, pieceKind, markKind, gapKind}
+use Rattle.tape.specs.declared.BlockFault.{BlockFault}
+use Rattle.tape.specs.declared.BlockFault.the-variants as fault
 use Rattle.tape.specs.declared.Block.{Block}
 use Rattle.tape.specs.declared.Block.the-variants as block
 
@@ -43,15 +46,17 @@ checkRight b = eqb (wordAt b summedBytes) (checkOf (take summedBytes b))
 abbrev pub kindOf : ℕ → ℕ → ℕ → Block
 kindOf k n i = pick (eqb k pieceKind) (block.Piece n i) (pick (eqb k markKind) block.Mark block.Gap)
 
--- kind, length, index, padding and check, in this order
-unfoldable pub headRight : ℕ → ℕ → ℕ → Bool
-headRight k n i = kindRight k && (lengthRight k n && indexRight k n i)
-
-unfoldable pub bodyRight : List ℕ → ℕ → Bool
-bodyRight b used = paddingRight b used && checkRight b
+-- one of the five: where it is wrong the block is damaged for that, else the next is looked at
+abbrev pub orDamaged : BlockFault → Bool → Block → Block
+orDamaged f right next = pick right next (block.Damaged f)
 
 unfoldable pub classBy : List ℕ → ℕ → ℕ → ℕ → Block
-classBy b k n i = pick (headRight k n i) (pick (bodyRight b (usedOf k n i)) (kindOf k n i) block.Damaged) block.Damaged
+classBy b k n i =
+    orDamaged fault.Kind (kindRight k)
+    (orDamaged fault.Length (lengthRight k n)
+    (orDamaged fault.Index (indexRight k n i)
+    (orDamaged fault.Padding (paddingRight b (usedOf k n i))
+    (orDamaged fault.Check (checkRight b) (kindOf k n i)))))
 
 unfoldable pub classOf : List ℕ → Block
 classOf b = classBy b (wordAt b 0) (wordAt b 2) (wordAt b 4)
@@ -60,6 +65,6 @@ classOf b = classBy b (wordAt b 0) (wordAt b 2) (wordAt b 4)
 abbrev pub blockAt : List ℕ → ℕ → List ℕ
 blockAt s k = take blockBytes (drop (blockBytes * k) s)
 
--- a block that the slice does not hold whole is damaged: every number is some answer
+-- a block that the slice does not hold whole has no place there: every number is some answer
 unfoldable pub classAt : List ℕ → ℕ → Block
-classAt s k = pick (ltb k (length s / blockBytes)) (classOf (blockAt s k)) block.Damaged
+classAt s k = pick (ltb k (length s / blockBytes)) (classOf (blockAt s k)) (block.Damaged fault.Index)

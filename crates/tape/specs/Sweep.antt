@@ -14,7 +14,7 @@ sweptOn (met.Record n q) onward = onward q
 sweptOn (met.Mark q) onward = onward q
 sweptOn (met.Gap q) onward = onward q
 sweptOn met.Nothing onward = swept.Whole
-sweptOn (met.Bad k) onward = swept.Bad k
+sweptOn (met.Bad why k) onward = swept.Bad why k
 
 -- at most `turns` objects from position p on
 unfoldable pub sweptFrom : ℕ → List ℕ → ℕ → ℕ → Swept

@@ -1,5 +1,6 @@
 // What a reel is: its geometry, and the answers that reading it can give. The meaning stands in specs/.
 ghost use mathlib.Core.Path.{_≡_};
+ghost use Rattle.tape.specs.Letters.{letterOf};
 ghost use Rattle.tape.specs.Numbers.{eotMarker, piecesOf};
 
 // The kinds of a block, as its word 0 has them.
@@ -61,13 +62,36 @@ pub fn pieces(n: usize) -> usize
     }
 }
 
+// What is wrong with a block, in the order that the reader looks; also index, where a sound block is out of place.
+pub enum BlockFault {
+    Kind,
+    Length,
+    Index,
+    Padding,
+    Check,
+}
+
+// The letter that stands for a fault, as a number of ASCII.
+pub fn letter(f: BlockFault) -> u8
+    ensures { λ r. ⌜ r ≡ letterOf f ⌝ }
+{
+    match f {
+        BlockFault::Kind => b'K',
+        BlockFault::Length => b'N',
+        BlockFault::Index => b'I',
+        BlockFault::Padding => b'P',
+        BlockFault::Check => b'C',
+    }
+}
+
 // What a single block is read as.
 pub enum Block {
     // Piece i of a record of n bytes.
     Piece(usize, usize),
     Mark,
     Gap,
-    Damaged,
+    // None of these, for the first thing that is wrong with it.
+    Damaged(BlockFault),
 }
 
 // What a pass over one object meets, and the position just beyond it.
@@ -77,20 +101,20 @@ pub enum Met {
     Gap(usize),
     // The recorded end, or block 0 in reverse.
     Nothing,
-    // The first block at fault.
-    Bad(usize),
+    // The first block at fault: what is wrong with it, and its number. The fault stands first so that it takes no room of its own.
+    Bad(BlockFault, usize),
 }
 
 // What the mount's reading of every block below the end finds.
 pub enum Swept {
     Whole,
-    Bad(usize),
+    Bad(BlockFault, usize),
 }
 
 // What the listing says of an image before any line: the paper's L, S and X, or the recorded end.
 pub enum Image {
     TooLong,
     NotWhole,
-    Bad(usize),
+    Bad(BlockFault, usize),
     Whole(usize),
 }

@@ -4,7 +4,7 @@ use mathlib.Core.Bool.{Bool, true, false, not}
 use mathlib.Core.List.{List}
 use Prim.Native.Nat.{ℕ}
 use lib.ListN.{length}
-use Rattle.commands.specs.Answers.{faultIn, interruptIn, isStep, numberOf}
+use Rattle.commands.specs.Answers.{blockIn, faultIn, interruptIn, isStep, numberOf}
 use Rattle.commands.specs.declared.plans.Answer.{Answer}
 use Rattle.unit.specs.Asks.{Ask}
 use Rattle.unit.specs.declared.registers.Register.{Register}
@@ -41,9 +41,9 @@ module _ (h : Host) (right : Bool) (told : right ≡ isBlock (h .block)) where
     unfolding backGiven
     back-stops = stops (backOn (worldIn h) (length (h .journal)))
 
-    pub stops-told : (a : Ask) → Tells (stepGiven a h) false false 0
-    unfolding stepGiven opened isStep interruptIn faultIn
-    stops-told a = rw (← told, no-block right t) (record { stepped = refl; interrupt = refl; fault = refl })
+    pub stops-told : (a : Ask) → Tells (stepGiven a h) false false 0 0
+    unfolding stepGiven opened isStep interruptIn blockIn faultIn
+    stops-told a = rw (← told, no-block right t) (record { stepped = refl; interrupt = refl; block = refl; fault = refl })
 
   -- the call f was made with the session that the block is read as
   module _ (s : Session) (o : Outcome) (m′ r′ j′ : List ℕ) (t : not right ≡ false) (read : s ≡ sessionIn (h .block)) where
@@ -67,14 +67,15 @@ module _ (h : Host) (right : Bool) (told : right ≡ isBlock (h .block)) where
             unless-step = there .unless-step;
           })
 
-      goes-told : {p i : Bool} {k : ℕ} → p ≡ isStep (o .answer) → i ≡ interruptIn (o .answer) → k ≡ faultIn (o .answer) → Tells (opened h answers) p i k
+      goes-told : {p i : Bool} {k l : ℕ} → p ≡ isStep (o .answer) → i ≡ interruptIn (o .answer) → k ≡ blockIn (o .answer) → l ≡ faultIn (o .answer) → Tells (opened h answers) p i k l
       unfolding opened
-      goes-told x y z =
+      goes-told x y z v =
           rw (← told, a-block right t)
           (record {
             stepped = x ∙ ap isStep (there .answer);
             interrupt = y ∙ ap interruptIn (there .answer);
-            fault = z ∙ ap faultIn (there .answer);
+            block = z ∙ ap blockIn (there .answer);
+            fault = v ∙ ap faultIn (there .answer);
           })
 
     module _ (a : Ask) (left : Leaves (stepOn (worldOf s (h .memory) (h .reel) (h .journal)) (length (h .journal)) a) (h .journal) o m′ r′ j′) where
@@ -82,9 +83,9 @@ module _ (h : Host) (right : Bool) (told : right ≡ isBlock (h .block)) where
       unfolding stepGiven
       step-goes p q = goes (λ w n. stepOn w n a) left p q
 
-      pub step-told : {p i : Bool} {k : ℕ} → p ≡ isStep (o .answer) → i ≡ interruptIn (o .answer) → k ≡ faultIn (o .answer) → Tells (stepGiven a h) p i k
+      pub step-told : {p i : Bool} {k l : ℕ} → p ≡ isStep (o .answer) → i ≡ interruptIn (o .answer) → k ≡ blockIn (o .answer) → l ≡ faultIn (o .answer) → Tells (stepGiven a h) p i k l
       unfolding stepGiven
-      step-told x y z = goes-told (λ w n. stepOn w n a) left x y z
+      step-told x y z v = goes-told (λ w n. stepOn w n a) left x y z v
 
     pub back-goes : Leaves (backOn (worldOf s (h .memory) (h .reel) (h .journal)) (length (h .journal))) (h .journal) o m′ r′ j′ → {n : ℕ} {b′ : List ℕ} → n ≡ numberOf (o .answer) → b′ ≡ blockAfter (h .block) (o .answer) (o .session) → Gives h (backGiven h) n (holding b′ m′ r′ j′)
     unfolding backGiven
@@ -106,7 +107,7 @@ was-read b right tssr s x g n told t read which is p =
     rw (← told, a-block right t) (record { answer = p ∙ ap (λ (z : RegisterRead). numberOf (z .answer)) there; word = ap (λ (z : RegisterRead). z .word) there })
 
 -- a mount made with the session that the block is read as
-pub mounts : (f : Session → Outcome) (b b′ : List ℕ) (s : Session) (o : Outcome) (n k : ℕ) → s ≡ sessionIn b → o ≡ f s → n ≡ numberOf (o .answer) → b′ ≡ blockAfter b (o .answer) (o .session) → k ≡ faultIn (o .answer) → Mounts b (f (sessionIn b)) n b′ k
-mounts f b b′ s o n k read is p q z =
+pub mounts : (f : Session → Outcome) (b b′ : List ℕ) (s : Session) (o : Outcome) (n k l : ℕ) → s ≡ sessionIn b → o ≡ f s → n ≡ numberOf (o .answer) → b′ ≡ blockAfter b (o .answer) (o .session) → k ≡ blockIn (o .answer) → l ≡ faultIn (o .answer) → Mounts b (f (sessionIn b)) n b′ k l
+mounts f b b′ s o n k l read is p q z v =
     let there : o ≡ f (sessionIn b) = is ∙ ap f read in
-    subst (λ (x : Outcome). Mounts b x n b′ k) there (record { answer = p; state = q; fault = z })
+    subst (λ (x : Outcome). Mounts b x n b′ k l) there (record { answer = p; state = q; block = z; fault = v })

@@ -7,7 +7,7 @@ use lib.ListN.{length}
 use Rattle.lists.specs.Pick.{pick}
 use Rattle.state.specs.declared.act.Act.{Act}
 use Rattle.state.specs.declared.act.Act.the-variants as act
-use Rattle.commands.specs.Answers.{faultIn, interruptIn, isStep, numberOf}
+use Rattle.commands.specs.Answers.{blockIn, faultIn, interruptIn, isStep, numberOf}
 use Rattle.commands.specs.declared.plans.Answer.{Answer}
 use Rattle.commands.specs.declared.plans.Answer.the-variants as answer
 use Rattle.unit.specs.Asks.{Ask}
@@ -73,10 +73,11 @@ pub record Gives (h : Host) (x : Answered) (number : ℕ) (h′ : Host) : Type 0
   pub unless-step : isStep (x .answer) ≡ false → h′ .journal ≡ h .journal
 
 -- an advance's answer, told beside its number
-pub record Tells (x : Answered) (s i : Bool) (k : ℕ) : Type 0 where
+pub record Tells (x : Answered) (s i : Bool) (k f : ℕ) : Type 0 where
   pub stepped : s ≡ isStep (x .answer)
   pub interrupt : i ≡ interruptIn (x .answer)
-  pub fault : k ≡ faultIn (x .answer)
+  pub block : k ≡ blockIn (x .answer)
+  pub fault : f ≡ faultIn (x .answer)
 
 -- a register's word, and its answer
 pub record Reads (x : RegisterRead) (number w : ℕ) : Type 0 where
@@ -84,7 +85,8 @@ pub record Reads (x : RegisterRead) (number w : ℕ) : Type 0 where
   pub word : w ≡ x .word
 
 -- a mount: "a refused mount hands that back"
-pub record Mounts (b : List ℕ) (o : Outcome) (number : ℕ) (b′ : List ℕ) (k : ℕ) : Type 0 where
+pub record Mounts (b : List ℕ) (o : Outcome) (number : ℕ) (b′ : List ℕ) (k f : ℕ) : Type 0 where
   pub answer : number ≡ numberOf (o .answer)
   pub state : b′ ≡ blockAfter b (o .answer) (o .session)
-  pub fault : k ≡ faultIn (o .answer)
+  pub block : k ≡ blockIn (o .answer)
+  pub fault : f ≡ faultIn (o .answer)

@@ -6,18 +6,30 @@ use stateblock::close;
 use stateblock::session_in;
 use unit::Register;
 ghost use mathlib.Core.Path.{_≡_};
-ghost use Rattle.commands.specs.Answers.{faultIn, interruptIn, isStep, numberOf};
+ghost use Rattle.commands.specs.Answers.{blockIn, faultIn, interruptIn, isStep, numberOf};
 ghost use Rattle.unit.specs.Asks.{Ask};
 ghost use Rattle.worlds.specs.Calls.{mountOn};
 ghost use Rattle.stateblock.specs.Block.{sessionIn};
 ghost use Rattle.ts11.specs.Given.{Gives, Mounts, Reads, Tells, actOf, backGiven, holding, registerGiven, registerOf, stepGiven};
 
 // The block at fault, with refusal 7, else 0.
-fn fault_in(a: Answer) -> usize
+fn block_in(a: Answer) -> usize
+    ensures { λ r. ⌜ r ≡ blockIn a ⌝ }
+{
+    match a {
+        Answer::BadBlock(_, k) => k,
+        Answer::Refused(_) => 0,
+        Answer::Idle => 0,
+        Answer::Done(_) => 0,
+    }
+}
+
+// The letter of what is wrong with it, with refusal 7, else 0.
+fn fault_in(a: Answer) -> u8
     ensures { λ r. ⌜ r ≡ faultIn a ⌝ }
 {
     match a {
-        Answer::BadBlock(k) => k,
+        Answer::BadBlock(fault, _) => tape::letter(fault),
         Answer::Refused(_) => 0,
         Answer::Idle => 0,
         Answer::Done(_) => 0,
@@ -32,7 +44,7 @@ fn is_step(a: Answer) -> bool
         Answer::Done(_) => true,
         Answer::Idle => false,
         Answer::Refused(_) => false,
-        Answer::BadBlock(_) => false,
+        Answer::BadBlock(_, _) => false,
     }
 }
 
@@ -43,7 +55,7 @@ fn interrupts(a: Answer) -> bool
         Answer::Done(i) => i,
         Answer::Idle => false,
         Answer::Refused(_) => false,
-        Answer::BadBlock(_) => false,
+        Answer::BadBlock(_, _) => false,
     }
 }
 
@@ -57,8 +69,9 @@ pub extern "C" fn ts11_mount(
     online: bool,
     locked: bool,
     block: &mut usize,
+    fault: &mut u8,
 ) -> usize
-    ensures { λ r. ⌜ Mounts (now (state .entry)) (mountOn (sessionIn (now (state .entry))) «memory_length» (now (reel .entry)) «journal_length» end online locked) r (now (state .exit)) (now (block .exit)) ⌝ }
+    ensures { λ r. ⌜ Mounts (now (state .entry)) (mountOn (sessionIn (now (state .entry))) «memory_length» (now (reel .entry)) «journal_length» end online locked) r (now (state .exit)) (now (block .exit)) (now (fault .exit)) ⌝ }
 {
     let session = session_in(state);
     let o = journal::mount(
@@ -71,7 +84,8 @@ pub extern "C" fn ts11_mount(
         locked,
     );
     let answer = o.answer;
-    *block = fault_in(answer);
+    *block = block_in(answer);
+    *fault = fault_in(answer);
     close(state, o)
 }
 
@@ -162,7 +176,7 @@ fn number_in(a: Answer) -> usize
         Answer::Done(_) => 0,
         Answer::Idle => 0,
         Answer::Refused(n) => n,
-        Answer::BadBlock(_) => 7,
+        Answer::BadBlock(_, _) => 7,
     }
 }
 
@@ -210,14 +224,16 @@ pub extern "C" fn ts11_advance(
     stepped: &mut bool,
     interrupt: &mut bool,
     block: &mut usize,
+    fault: &mut u8,
 ) -> usize
     ensures { λ r. ⌜ Gives (holding (now (state .entry)) (now (memory .entry)) (now (reel .entry)) (now (journal .entry))) (stepGiven Ask.advance (holding (now (state .entry)) (now (memory .entry)) (now (reel .entry)) (now (journal .entry)))) r (holding (now (state .exit)) (now (memory .exit)) (now (reel .exit)) (now (journal .exit))) ⌝ }
-    ensures { λ _. ⌜ Tells (stepGiven Ask.advance (holding (now (state .entry)) (now (memory .entry)) (now (reel .entry)) (now (journal .entry)))) (now (stepped .exit)) (now (interrupt .exit)) (now (block .exit)) ⌝ }
+    ensures { λ _. ⌜ Tells (stepGiven Ask.advance (holding (now (state .entry)) (now (memory .entry)) (now (reel .entry)) (now (journal .entry)))) (now (stepped .exit)) (now (interrupt .exit)) (now (block .exit)) (now (fault .exit)) ⌝ }
 {
     if !block_right(state) {
         *stepped = false;
         *interrupt = false;
         *block = 0;
+        *fault = 0;
         return 1;
     }
     let session = session_in(state);
@@ -225,7 +241,8 @@ pub extern "C" fn ts11_advance(
     let answer = o.answer;
     *stepped = is_step(answer);
     *interrupt = interrupts(answer);
-    *block = fault_in(answer);
+    *block = block_in(answer);
+    *fault = fault_in(answer);
     close(state, o)
 }
 

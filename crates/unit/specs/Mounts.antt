@@ -28,7 +28,7 @@ mountRefusal memory reel e =
 
 unfoldable pub mountSwept : Unit → Unit → Swept → Mounted
 mountSwept old new swept.Whole = mountedWith (answer.Done false) new
-mountSwept old new (swept.Bad k) = mountedWith (answer.BadBlock k) old
+mountSwept old new (swept.Bad why k) = mountedWith (answer.BadBlock why k) old
 
 -- "Mount reads every block below the end it is given .. a refused mount hands [the old state] back."
 unfoldable pub mountCall : Unit → ℕ → List ℕ → ℕ → Bool → Bool → Mounted

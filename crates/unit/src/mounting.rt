@@ -39,8 +39,8 @@ pub fn mount(old: Unit, memory: usize, reel: &[u8], e: usize, online: bool, lock
         };
     }
     match reel::sweep(reel, e) {
-        Swept::Bad(k) => Mounted {
-            answer: Answer::BadBlock(k),
+        Swept::Bad(fault, k) => Mounted {
+            answer: Answer::BadBlock(fault, k),
             unit: old,
         },
         Swept::Whole => {

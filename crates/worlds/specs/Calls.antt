@@ -62,7 +62,7 @@ unfoldable pub takenBy : World → Step → Answer → Answered
 takenBy w x (answer.Done i) = takenAs w x (answer.Done i)
 takenBy w x answer.Idle = answered answer.Idle w
 takenBy w x (answer.Refused k) = answered (answer.Refused k) w
-takenBy w x (answer.BadBlock k) = answered (answer.BadBlock k) w
+takenBy w x (answer.BadBlock why k) = answered (answer.BadBlock why k) w
 
 -- a TSDB or TSSR write, host store, operator act or advance
 unfoldable pub stepOn : World → ℕ → Ask → Answered
@@ -124,7 +124,7 @@ unfoldable pub mountedBy : Session → ℕ → Unit → Answer → Outcome
 mountedBy old journal u (answer.Done i) = outcome (answer.Done i) (session u 0 journal)
 mountedBy old journal u answer.Idle = outcome answer.Idle old
 mountedBy old journal u (answer.Refused k) = outcome (answer.Refused k) old
-mountedBy old journal u (answer.BadBlock k) = outcome (answer.BadBlock k) old
+mountedBy old journal u (answer.BadBlock why k) = outcome (answer.BadBlock why k) old
 
 -- 2, 3, 4, then 7
 unfoldable pub mountOn : Session → ℕ → List ℕ → ℕ → ℕ → Bool → Bool → Outcome

@@ -18,10 +18,14 @@ word-requires-3 c κs = search needs
 head-right-requires : tie.Need-head-right-requires
 head-right-requires c κs = search needs
 
+wrong-in-requires : tie.Need-wrong-in-requires
+wrong-in-requires c κs = search needs
+
 returns : tie.Need-returns
 returns c =
-    let w = c .before .before in
-    class-head _ _ _ _ (w .before .before .word .ensures .0) (w .before .word2 .ensures .0) (w .word3 .ensures .0) (sym (c .before .head-right .ensures) ∙ not-true _ (c .if1 .taken))
+    let h = c .before in
+    let w = h .before .before in
+    class-head _ _ _ _ (w .before .before .word .ensures .0) (w .before .word2 .ensures .0) (w .word3 .ensures .0) (sym (h .before .head-right .ensures) ∙ not-true _ (h .if1 .taken)) (c .wrong-in .ensures)
 
 used-of-requires : tie.Need-used-of-requires
 used-of-requires c κs = sym (c .before .head-right .ensures) ∙ not-false _ (c .if1 .left)
@@ -29,11 +33,15 @@ used-of-requires c κs = sym (c .before .head-right .ensures) ∙ not-false _ (c
 body-right-requires : tie.Need-body-right-requires
 body-right-requires c κs = search needs
 
+wrong-in-requires-2 : tie.Need-wrong-in-requires-2
+wrong-in-requires-2 c κs = search needs
+
 returns-2 : tie.Need-returns-2
 returns-2 c =
-    let h = c .before .before .before in
+    let d = c .before in
+    let h = d .before .before .before in
     let w = h .before .before in
-    class-body _ _ _ _ (w .before .before .word .ensures .0) (w .before .word2 .ensures .0) (w .word3 .ensures .0) (sym (h .before .head-right .ensures) ∙ not-false _ (h .if1 .left)) (c .before .before .used-of .ensures .0) (sym (c .before .body-right .ensures) ∙ not-true _ (c .if2 .taken))
+    class-body _ _ _ _ (w .before .before .word .ensures .0) (w .before .word2 .ensures .0) (w .word3 .ensures .0) (sym (h .before .head-right .ensures) ∙ not-false _ (h .if1 .left)) (d .before .before .used-of .ensures .0) (sym (d .before .body-right .ensures) ∙ not-true _ (d .if2 .taken)) (c .wrong-in2 .ensures)
 
 kind-of-requires : tie.Need-kind-of-requires
 kind-of-requires c κs = search needs
@@ -52,9 +60,11 @@ class-of-spec =
     word-requires-2
     word-requires-3
     head-right-requires
+    wrong-in-requires
     returns
     used-of-requires
     body-right-requires
+    wrong-in-requires-2
     returns-2
     kind-of-requires
     returns-3)

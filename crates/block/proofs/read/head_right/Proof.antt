@@ -1,6 +1,6 @@
 -- `head_right` meets its contract: its three answers joined.
 use borrow.Author.Needs.{needs}
-use Rattle.tape.specs.Reading.{headRight}
+use Rattle.block.specs.Halves.{headRight}
 use Rattle.block.proofs.read.head_right.Statement.{statement}
 use Rattle.block.proofs.read.head_right.Tie as tie
 

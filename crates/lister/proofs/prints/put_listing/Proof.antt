@@ -28,14 +28,11 @@ slice-aggregate-put-bytes-2 c = search needs
 put-bytes-requires-2 : tie.Need-put-bytes-requires-2
 put-bytes-requires-2 c κs = search needs
 
-enum-known-k : tie.Need-enum-known-k
-enum-known-k c = search needs
+enum-known-fault : tie.Need-enum-known-fault
+enum-known-fault c = search needs
 
-slice-aggregate-put-line : tie.Need-slice-aggregate-put-line
-slice-aggregate-put-line c = search needs
-
-put-line-requires : tie.Need-put-line-requires
-put-line-requires c κs = search needs
+put-bad-requires : tie.Need-put-bad-requires
+put-bad-requires c κs = search needs
 
 enum-known-e : tie.Need-enum-known-e
 enum-known-e c = search needs
@@ -43,11 +40,11 @@ enum-known-e c = search needs
 put-objects-requires : tie.Need-put-objects-requires
 put-objects-requires c κs = search needs
 
-slice-aggregate-put-line-2 : tie.Need-slice-aggregate-put-line-2
-slice-aggregate-put-line-2 c = search needs
+slice-aggregate-put-line : tie.Need-slice-aggregate-put-line
+slice-aggregate-put-line c = search needs
 
-put-line-requires-2 : tie.Need-put-line-requires-2
-put-line-requires-2 c κs = search needs
+put-line-requires : tie.Need-put-line-requires
+put-line-requires c κs = search needs
 
 same-length : tie.Need-same-length
 same-length c = search needs
@@ -67,15 +64,15 @@ same-length-3 : tie.Need-same-length-3
 same-length-3 c = search needs
 
 returns-3 : tie.Need-returns-3
-unfolding listedAs numberLine
-returns-3 c = put-listed _ (c .before .before .before .before .before .before .before .before .examine .ensures) (c .before .before .before .before .before .before .k .given .1) (c .before .before .put-line .ensures)
+unfolding listedAs
+returns-3 c = put-listed _ (c .before .before .before .before .before .before .before .examine .ensures) (c .before .before .before .before .before .fault .given .1) (c .before .before .put-bad .ensures)
 
 same-length-4 : tie.Need-same-length-4
 same-length-4 c = search needs
 
 returns-4 : tie.Need-returns-4
 unfolding listedAs numberLine
-returns-4 c = put-listed _ (c .before .before .before .before .before .before .before .before .before .before .before .before .examine .ensures) (c .before .before .before .before .before .before .before .before .before .before .e .given .1) (put-more _ _ _ _ _ _ _ _ (c .before .before .before .before .before .before .before .put-objects .ensures) (c .before .before .put-line2 .ensures))
+returns-4 c = put-listed _ (c .before .before .before .before .before .before .before .before .before .before .before .before .examine .ensures) (c .before .before .before .before .before .before .before .before .before .before .e .given .1) (put-more _ _ _ _ _ _ _ _ (c .before .before .before .before .before .before .before .put-objects .ensures) (c .before .before .put-line .ensures))
 
 pub put-listing-spec : {M : Type 1} → statement M
 put-listing-spec =
@@ -88,13 +85,12 @@ put-listing-spec =
     enum-told-2
     slice-aggregate-put-bytes-2
     put-bytes-requires-2
-    enum-known-k
-    slice-aggregate-put-line
-    put-line-requires
+    enum-known-fault
+    put-bad-requires
     enum-known-e
     put-objects-requires
-    slice-aggregate-put-line-2
-    put-line-requires-2
+    slice-aggregate-put-line
+    put-line-requires
     same-length
     returns
     same-length-2

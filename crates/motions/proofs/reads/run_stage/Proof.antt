@@ -16,8 +16,8 @@ enum-known-q c = search needs
 mark-end-requires : tie.Need-mark-end-requires
 mark-end-requires c κs = search needs
 
-stop-motion-requires : tie.Need-stop-motion-requires
-stop-motion-requires c κs = search needs
+rest-requires : tie.Need-rest-requires
+rest-requires c κs = search needs
 
 enum-known-q-2 : tie.Need-enum-known-q-2
 enum-known-q-2 c = search needs
@@ -25,11 +25,11 @@ enum-known-q-2 c = search needs
 nothing-end-requires : tie.Need-nothing-end-requires
 nothing-end-requires c κs = search needs
 
-stop-motion-requires-2 : tie.Need-stop-motion-requires-2
-stop-motion-requires-2 c κs = search needs
+rest-requires-2 : tie.Need-rest-requires-2
+rest-requires-2 c κs = search needs
 
-enum-known-k : tie.Need-enum-known-k
-enum-known-k c = search needs
+enum-known-fault : tie.Need-enum-known-fault
+enum-known-fault c = search needs
 
 returns : tie.Need-returns
 unfolding stageOf stageBy
@@ -37,15 +37,15 @@ returns c = rw (← c .before .before .before .seek .ensures, c .before .n .give
 
 returns-2 : tie.Need-returns-2
 unfolding stageOf stageBy
-returns-2 c = rw (← c .before .before .before .before .before .seek .ensures, c .before .before .before .q .given .1, c .stop-motion .ensures, c .before .mark-end .ensures)
+returns-2 c = rw (← c .before .before .before .before .before .seek .ensures, c .before .before .before .q .given .1, c .rest .ensures, c .before .mark-end .ensures)
 
 returns-3 : tie.Need-returns-3
 unfolding stageOf stageBy
-returns-3 c = rw (← c .before .before .before .before .before .seek .ensures, c .before .before .before .q2 .given .1, c .stop-motion2 .ensures, c .before .nothing-end .ensures)
+returns-3 c = rw (← c .before .before .before .before .before .seek .ensures, c .before .before .before .q2 .given .1, c .rest2 .ensures, c .before .nothing-end .ensures)
 
 returns-4 : tie.Need-returns-4
 unfolding stageOf stageBy
-returns-4 c = rw (← c .before .before .before .seek .ensures, c .before .k .given .1)
+returns-4 c = rw (← c .before .before .before .seek .ensures, c .before .fault .given .1)
 
 pub run-stage-spec : {M : Type 1} → statement M
 run-stage-spec =
@@ -55,11 +55,11 @@ run-stage-spec =
     enum-known-n
     enum-known-q
     mark-end-requires
-    stop-motion-requires
+    rest-requires
     enum-known-q-2
     nothing-end-requires
-    stop-motion-requires-2
-    enum-known-k
+    rest-requires-2
+    enum-known-fault
     returns
     returns-2
     returns-3

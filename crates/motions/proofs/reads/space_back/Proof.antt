@@ -13,8 +13,11 @@ enum-known-b c = search needs
 read-motion-requires : tie.Need-read-motion-requires
 read-motion-requires c κs = search needs
 
-enum-known-m : tie.Need-enum-known-m
-enum-known-m c = search needs
+enum-known-x : tie.Need-enum-known-x
+enum-known-x c = search needs
+
+enum-known-fault : tie.Need-enum-known-fault
+enum-known-fault c = search needs
 
 returns : tie.Need-returns
 unfolding spaceBack onRecord
@@ -22,9 +25,13 @@ returns c = rw (← c .before .before .before .before .run-stage .ensures, c .be
 
 returns-2 : tie.Need-returns-2
 unfolding spaceBack onRecord
-returns-2 c = rw (← c .before .before .before .run-stage .ensures, c .before .m .given .1)
+returns-2 c = rw (← c .before .before .before .run-stage .ensures, c .before .x .given .1)
+
+returns-3 : tie.Need-returns-3
+unfolding spaceBack onRecord
+returns-3 c = rw (← c .before .before .before .run-stage .ensures, c .before .fault .given .1)
 
 pub space-back-spec : {M : Type 1} → statement M
 space-back-spec =
     tie.close
-    (tie.spec run-stage-requires enum-known-b read-motion-requires enum-known-m returns returns-2)
+    (tie.spec run-stage-requires enum-known-b read-motion-requires enum-known-x enum-known-fault returns returns-2 returns-3)

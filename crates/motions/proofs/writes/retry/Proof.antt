@@ -28,8 +28,8 @@ write-at-requires-2 c κs = search needs
 enum-known-q-3 : tie.Need-enum-known-q-3
 enum-known-q-3 c = search needs
 
-add-t19 : tie.Need-add-t19
-add-t19 c = search needs
+add-t20 : tie.Need-add-t20
+add-t20 c = search needs
 
 no-move-requires : tie.Need-no-move-requires
 no-move-requires c κs = search needs
@@ -37,8 +37,8 @@ no-move-requires c κs = search needs
 no-lay-requires : tie.Need-no-lay-requires
 no-lay-requires c κs = search needs
 
-enum-known-k : tie.Need-enum-known-k
-enum-known-k c = search needs
+enum-known-fault : tie.Need-enum-known-fault
+enum-known-fault c = search needs
 
 returns : tie.Need-returns
 unfolding retried retriedBy
@@ -54,7 +54,7 @@ returns-3 c = rw (← c .before .before .before .before .before .seek .ensures, 
 
 returns-4 : tie.Need-returns-4
 unfolding retried retriedBy
-returns-4 c = rw (← c .before .before .before .seek .ensures, c .before .k .given .1)
+returns-4 c = rw (← c .before .before .before .seek .ensures, c .before .fault .given .1)
 
 pub retry-spec : {M : Type 1} → statement M
 retry-spec =
@@ -68,10 +68,10 @@ retry-spec =
     behind-gap-requires-2
     write-at-requires-2
     enum-known-q-3
-    add-t19
+    add-t20
     no-move-requires
     no-lay-requires
-    enum-known-k
+    enum-known-fault
     returns
     returns-2
     returns-3

@@ -53,12 +53,12 @@ returns-3 : tie.Need-returns-3 Inv-loop μ-loop
 unfolding soughtOn
 returns-3 c = seek-turn _ _ _ _ _ (c .before .before .before .loop-test .taken) (c .before .before .pass .ensures) (rw (c .enum-told .given .1)) ∙ c .before .before .before .before .loop .inv
 
-enum-known-k : tie.Need-enum-known-k Inv-loop μ-loop
-enum-known-k c = search needs
+enum-known-fault : tie.Need-enum-known-fault Inv-loop μ-loop
+enum-known-fault c = search needs
 
 returns-4 : tie.Need-returns-4 Inv-loop μ-loop
 unfolding soughtOn
-returns-4 c = seek-turn _ _ _ _ _ (c .before .before .before .before .loop-test .taken) (c .before .before .before .pass .ensures) (rw (c .before .k .given .1)) ∙ c .before .before .before .before .before .loop .inv
+returns-4 c = seek-turn _ _ _ _ _ (c .before .before .before .before .loop-test .taken) (c .before .before .before .pass .ensures) (rw (c .before .fault .given .1)) ∙ c .before .before .before .before .before .loop .inv
 
 returns-5 : tie.Need-returns-5 Inv-loop μ-loop
 returns-5 c = seek-done _ _ _ _ _ (c .loop-test .left) ∙ c .before .loop .inv
@@ -81,6 +81,6 @@ seek-spec =
     loop-again
     enum-told
     returns-3
-    enum-known-k
+    enum-known-fault
     returns-4
     returns-5)

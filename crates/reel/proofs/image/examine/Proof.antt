@@ -17,8 +17,8 @@ sweep-requires c κs = search needs
 enum-told : tie.Need-enum-told
 enum-told c = search needs
 
-enum-known-k : tie.Need-enum-known-k
-enum-known-k c = search needs
+enum-known-fault : tie.Need-enum-known-fault
+enum-known-fault c = search needs
 
 returns-3 : tie.Need-returns-3
 unfolding imageSwept
@@ -26,9 +26,9 @@ returns-3 c = image-swept _ (c .before .before .before .before .if1 .left) (c .b
 
 returns-4 : tie.Need-returns-4
 unfolding imageSwept
-returns-4 c = image-swept _ (c .before .before .before .before .before .if1 .left) (c .before .before .before .before .if2 .left) (c .before .before .before .sweep .ensures) (rw (c .before .k .given .1))
+returns-4 c = image-swept _ (c .before .before .before .before .before .if1 .left) (c .before .before .before .before .if2 .left) (c .before .before .before .sweep .ensures) (rw (c .before .fault .given .1))
 
 pub examine-spec : {M : Type 1} → statement M
 examine-spec =
     tie.close
-    (tie.spec returns returns-2 sweep-requires enum-told enum-known-k returns-3 returns-4)
+    (tie.spec returns returns-2 sweep-requires enum-told enum-known-fault returns-3 returns-4)

@@ -37,8 +37,8 @@ enum-told-2 c = search needs
 beyond-of-requires-2 : tie.Need-beyond-of-requires-2
 beyond-of-requires-2 c κs = search needs
 
-enum-told-3 : tie.Need-enum-told-3
-enum-told-3 c = search needs
+enum-known-b-2 : tie.Need-enum-known-b-2
+enum-known-b-2 c = search needs
 
 returns-2 : tie.Need-returns-2
 unfolding metBy
@@ -54,7 +54,9 @@ returns-4 c = pass-met _ _ _ _ (c .before .before .before .before .before .befor
 
 returns-5 : tie.Need-returns-5
 unfolding metBy
-returns-5 c = pass-met _ _ _ _ (c .before .before .before .before .before .ahead-of .ensures) (c .before .before .before .before .if1 .left) (c .before .before .before .first-met .ensures) (c .before .before .read-block .ensures) (rw (c .enum-told3 .given .1, c .before .before .before .first-met .ensures))
+returns-5 c =
+    let d = c .before in
+    pass-met _ _ _ _ (d .before .before .before .before .before .ahead-of .ensures) (d .before .before .before .before .if1 .left) (d .before .before .before .first-met .ensures) (d .before .before .read-block .ensures) (rw (d .b2 .given .1, d .before .before .before .first-met .ensures))
 
 pub pass-spec : {M : Type 1} → statement M
 pass-spec =
@@ -70,7 +72,7 @@ pass-spec =
     beyond-of-requires
     enum-told-2
     beyond-of-requires-2
-    enum-told-3
+    enum-known-b-2
     returns-2
     returns-3
     returns-4

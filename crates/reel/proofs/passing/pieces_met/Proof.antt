@@ -33,8 +33,13 @@ read-block-requires c κs = search needs
 is-piece-requires : tie.Need-is-piece-requires Inv-loop μ-loop
 is-piece-requires c κs = search needs
 
+fault-of-requires : tie.Need-fault-of-requires Inv-loop μ-loop
+fault-of-requires c κs = search needs
+
 returns : tie.Need-returns Inv-loop μ-loop
-returns c = pieces-stop _ _ _ _ _ _ _ (c .before .before .before .before .loop-test .taken) (c .before .before .before .order-met .ensures) (c .before .before .read-block .ensures) (sym (c .before .is-piece .ensures) ∙ not-true _ (c .if1 .taken)) ∙ c .before .before .before .before .before .loop .inv .1
+returns c =
+    let d = c .before in
+    pieces-stop _ _ _ _ _ _ _ (d .before .before .before .before .loop-test .taken) (d .before .before .before .order-met .ensures) (d .before .before .read-block .ensures) (sym (d .before .is-piece .ensures) ∙ not-true _ (d .if1 .taken)) (c .fault-of .ensures) ∙ d .before .before .before .before .before .loop .inv .1
 
 add-j : tie.Need-add-j Inv-loop μ-loop
 add-j c = search needs
@@ -59,6 +64,7 @@ pieces-met-spec =
     add-k
     read-block-requires
     is-piece-requires
+    fault-of-requires
     returns
     add-j
     loop-less

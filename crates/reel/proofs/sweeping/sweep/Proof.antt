@@ -59,12 +59,12 @@ returns : tie.Need-returns Inv-loop μ-loop
 unfolding sweptOn
 returns c = sweep-turn _ _ _ _ (c .before .before .before .loop-test .taken) (c .before .before .pass .ensures) (rw (c .enum-told .given .1)) ∙ c .before .before .before .before .loop .inv
 
-enum-known-k : tie.Need-enum-known-k Inv-loop μ-loop
-enum-known-k c = search needs
+enum-known-fault : tie.Need-enum-known-fault Inv-loop μ-loop
+enum-known-fault c = search needs
 
 returns-2 : tie.Need-returns-2 Inv-loop μ-loop
 unfolding sweptOn
-returns-2 c = sweep-turn _ _ _ _ (c .before .before .before .before .loop-test .taken) (c .before .before .before .pass .ensures) (rw (c .before .k .given .1)) ∙ c .before .before .before .before .before .loop .inv
+returns-2 c = sweep-turn _ _ _ _ (c .before .before .before .before .loop-test .taken) (c .before .before .before .pass .ensures) (rw (c .before .fault .given .1)) ∙ c .before .before .before .before .before .loop .inv
 
 returns-3 : tie.Need-returns-3 Inv-loop μ-loop
 returns-3 c = sweep-done _ _ _ _ (c .loop-test .left) ∙ c .before .loop .inv
@@ -89,6 +89,6 @@ sweep-spec =
     loop-again-3
     enum-told
     returns
-    enum-known-k
+    enum-known-fault
     returns-2
     returns-3)

@@ -28,11 +28,8 @@ put-decimal-requires c κs = search needs
 enum-known-answer-3 : tie.Need-enum-known-answer-3
 enum-known-answer-3 c = search needs
 
-slice-aggregate-put-labelled : tie.Need-slice-aggregate-put-labelled
-slice-aggregate-put-labelled c = search needs
-
-put-labelled-requires : tie.Need-put-labelled-requires
-put-labelled-requires c κs = search needs
+put-bad-requires : tie.Need-put-bad-requires
+put-bad-requires c κs = search needs
 
 same-length : tie.Need-same-length
 same-length c = search needs
@@ -60,7 +57,7 @@ same-length-4 c = search needs
 
 returns-4 : tie.Need-returns-4
 unfolding answerText
-returns-4 c = rw (c .before .before .before .before .before .before .answer3 .given .1) (c .before .before .put-labelled .ensures)
+returns-4 c = rw (c .before .before .before .before .before .answer3 .given .1) (c .before .before .put-bad .ensures)
 
 pub put-answer-spec : {M : Type 1} → statement M
 put-answer-spec =
@@ -74,8 +71,7 @@ put-answer-spec =
     enum-known-answer-2
     put-decimal-requires
     enum-known-answer-3
-    slice-aggregate-put-labelled
-    put-labelled-requires
+    put-bad-requires
     same-length
     returns
     same-length-2

@@ -7,6 +7,9 @@ use Rattle.ts11.proofs.calls.fault_in.Tie as tie
 enum-known-a : tie.Need-enum-known-a
 enum-known-a c = search needs
 
+letter-requires : tie.Need-letter-requires
+letter-requires c κs = search needs
+
 enum-told : tie.Need-enum-told
 enum-told c = search needs
 
@@ -18,7 +21,7 @@ enum-told-3 c = search needs
 
 returns : tie.Need-returns
 unfolding faultIn
-returns c = search needs
+returns c = rw (c .before .before .a .given .1) (c .letter .ensures)
 
 returns-2 : tie.Need-returns-2
 unfolding faultIn
@@ -35,4 +38,13 @@ returns-4 c = search needs
 pub fault-in-spec : {M : Type 1} → statement M
 fault-in-spec =
     tie.close
-    (tie.spec enum-known-a enum-told enum-told-2 enum-told-3 returns returns-2 returns-3 returns-4)
+    (tie.spec
+    enum-known-a
+    letter-requires
+    enum-told
+    enum-told-2
+    enum-told-3
+    returns
+    returns-2
+    returns-3
+    returns-4)

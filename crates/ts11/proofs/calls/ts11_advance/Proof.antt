@@ -22,6 +22,9 @@ is-step-requires c κs = search needs
 interrupts-requires : tie.Need-interrupts-requires
 interrupts-requires c κs = search needs
 
+block-in-requires : tie.Need-block-in-requires
+block-in-requires c κs = search needs
+
 fault-in-requires : tie.Need-fault-in-requires
 fault-in-requires c κs = search needs
 
@@ -38,7 +41,12 @@ same-length-3 : tie.Need-same-length-3
 same-length-3 c = search needs
 
 returns-2 : tie.Need-returns-2
-returns-2 c = (step-goes _ _ (c .before .before .before .before .before .before .before .before .before .before .before .before .before .before .before .before .before .before .block-right .ensures) _ _ _ _ _ (c .before .before .before .before .before .before .before .before .before .before .before .before .before .before .before .before .before .if1 .left) (c .before .before .before .before .before .before .before .before .before .before .before .before .before .before .before .session-in .ensures) _ (c .before .before .before .before .before .before .before .before .before .before .before .advance .ensures) (c .close .ensures .0) (c .close .ensures .1), step-told _ _ (c .before .before .before .before .before .before .before .before .before .before .before .before .before .before .before .before .before .before .block-right .ensures) _ _ _ _ _ (c .before .before .before .before .before .before .before .before .before .before .before .before .before .before .before .before .before .if1 .left) (c .before .before .before .before .before .before .before .before .before .before .before .before .before .before .before .session-in .ensures) _ (c .before .before .before .before .before .before .before .before .before .before .before .advance .ensures) (c .before .before .before .before .is-step .ensures) (c .before .before .before .interrupts .ensures) (c .before .before .fault-in .ensures))
+returns-2 c =
+    let right = c .before .before .before .before .before .before .before .before .before .before .before .before .before .before .before .before .before .before .before .block-right .ensures in
+    let opens = c .before .before .before .before .before .before .before .before .before .before .before .before .before .before .before .before .before .before .if1 .left in
+    let read = c .before .before .before .before .before .before .before .before .before .before .before .before .before .before .before .before .session-in .ensures in
+    let does = c .before .before .before .before .before .before .before .before .before .before .before .before .advance .ensures in
+    (step-goes _ _ right _ _ _ _ _ opens read _ does (c .close .ensures .0) (c .close .ensures .1), step-told _ _ right _ _ _ _ _ opens read _ does (c .before .before .before .before .before .is-step .ensures) (c .before .before .before .before .interrupts .ensures) (c .before .before .before .block-in .ensures) (c .before .before .fault-in .ensures))
 
 pub ts11-advance-spec : {M : Type 1} → statement M
 ts11-advance-spec =
@@ -50,6 +58,7 @@ ts11-advance-spec =
     advance-requires
     is-step-requires
     interrupts-requires
+    block-in-requires
     fault-in-requires
     close-requires
     same-length

@@ -13,6 +13,9 @@ session-in-requires c κs = search needs
 mount-requires : tie.Need-mount-requires
 mount-requires c κs = search needs
 
+block-in-requires : tie.Need-block-in-requires
+block-in-requires c κs = search needs
+
 fault-in-requires : tie.Need-fault-in-requires
 fault-in-requires c κs = search needs
 
@@ -20,8 +23,10 @@ close-requires : tie.Need-close-requires
 close-requires c κs = search needs
 
 returns : tie.Need-returns
-returns c = let a = c .before .before .before .before .before .before .before .args in mounts (λ (s : Session). mountOn s (a .memory-length) (now (a .reel)) (a .journal-length) (a .end) (a .online) (a .locked)) _ _ _ _ _ _ (c .before .before .before .before .session-in .ensures) (c .before .before .before .mount .ensures) (c .close .ensures .0) (c .close .ensures .1) (c .before .before .fault-in .ensures)
+returns c =
+    let a = c .before .before .before .before .before .before .before .before .args in
+    mounts (λ (s : Session). mountOn s (a .memory-length) (now (a .reel)) (a .journal-length) (a .end) (a .online) (a .locked)) _ _ _ _ _ _ _ (c .before .before .before .before .before .session-in .ensures) (c .before .before .before .before .mount .ensures) (c .close .ensures .0) (c .close .ensures .1) (c .before .before .before .block-in .ensures) (c .before .before .fault-in .ensures)
 
 pub ts11-mount-spec : {M : Type 1} → statement M
 ts11-mount-spec =
-    tie.close (tie.spec session-in-requires mount-requires fault-in-requires close-requires returns)
+    tie.close (tie.spec session-in-requires mount-requires block-in-requires fault-in-requires close-requires returns)

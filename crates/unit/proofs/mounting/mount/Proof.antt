@@ -15,8 +15,8 @@ returns c = rw (← c .before .mount-refusal .ensures, ne-eqb _ _ (c .if1 .taken
 sweep-requires : tie.Need-sweep-requires
 sweep-requires c κs = search needs
 
-enum-known-k : tie.Need-enum-known-k
-enum-known-k c = search needs
+enum-known-fault : tie.Need-enum-known-fault
+enum-known-fault c = search needs
 
 enum-told : tie.Need-enum-told
 enum-told c = search needs
@@ -26,7 +26,7 @@ mounted-requires c κs = search needs
 
 returns-2 : tie.Need-returns-2
 unfolding mountCall mountSwept
-returns-2 c = rw (← c .before .before .before .before .before .mount-refusal .ensures, eq-eqb _ _ (c .before .before .before .before .if1 .left), ← c .before .before .before .sweep .ensures, c .before .k .given .1)
+returns-2 c = rw (← c .before .before .before .before .before .mount-refusal .ensures, eq-eqb _ _ (c .before .before .before .before .if1 .left), ← c .before .before .before .sweep .ensures, c .before .fault .given .1)
 
 returns-3 : tie.Need-returns-3
 unfolding mountCall mountSwept
@@ -39,7 +39,7 @@ mount-spec =
     mount-refusal-requires
     returns
     sweep-requires
-    enum-known-k
+    enum-known-fault
     enum-told
     mounted-requires
     returns-2
