@@ -62,7 +62,7 @@ static const char *in_words(uint8_t fault)
 	case TS11_FAULT_LENGTH: return "its length is none that it can have";
 	case TS11_FAULT_INDEX: return "its index, or its place, is not the one that is due";
 	case TS11_FAULT_PADDING: return "a byte behind its data is not 0";
-	case TS11_FAULT_CHECK: return "its check word is not the sum of its words";
+	case TS11_FAULT_CHECK: return "its check word is not the one that its words give";
 	default: return "nothing";
 	}
 }

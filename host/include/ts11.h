@@ -91,7 +91,7 @@ typedef size_t ts11_answer;
 #define TS11_FAULT_LENGTH 'N'  /* the record's length is 0 or over 16,384; in a mark or gap it is not 0 */
 #define TS11_FAULT_INDEX 'I'   /* the record has no such piece; in a mark or gap the index is not 0; or out of place */
 #define TS11_FAULT_PADDING 'P' /* a data byte that is not used is not 0 */
-#define TS11_FAULT_CHECK 'C'   /* the check word is not the sum of the words before it */
+#define TS11_FAULT_CHECK 'C'   /* the check word is not the sum of the words before it, modulo 65,535 */
 
 /* ---- the state ----------------------------------------------------------------------------------------------- */
 

@@ -22,7 +22,8 @@ use Rattle.tape.specs.declared.Met.the-variants as met
 use Rattle.tape.specs.declared.Swept.{Swept}
 use Rattle.tape.specs.declared.Swept.the-variants as swept
 use Rattle.tape.proofs.Accepted.{clash}
-use Rattle.tape.proofs.Faulted.{wrong-at, wrong-told}
+use Rattle.tape.proofs.Blame.{bad-wrong}
+use Rattle.tape.proofs.Faulted.{wrong-told}
 use Rattle.tape.proofs.Outcomes.{Outcome, at-end, at-fault, outcome, over-gap, over-mark, over-record}
 use Rattle.tape.proofs.Passes.{PiecesAt, first-order, order-below, pieces-whole}
 use Rattle.tape.proofs.ReadBlocks.{piece-read}
@@ -121,29 +122,9 @@ module _ (s : List ℕ) (e : ℕ) (reverse : Bool) (q : ℕ) where
       let n : ℕ = ahead reverse q e in
       pick-told Faulty (eqb n 0) _ _ (λ t. tt) (λ t. block-faulty (classAt s (firstMet reverse q)) (one-at-least n (eqb-false n 0 t)) refl)
 
-module _ (s : List ℕ) (e : ℕ) (reverse : Bool) (q : ℕ) where
-  -- what a pass tells of a block that it names is what is wrong with that block
-  abbrev Wrongly : Met → Type 0
-  Wrongly (met.Bad why k) = WrongAt s k why
-  Wrongly (met.Record n t) = Always
-  Wrongly (met.Mark t) = Always
-  Wrongly (met.Gap t) = Always
-  Wrongly met.Nothing = Always
-
-  wrongly : (x : Met) → Outcome s reverse q e x → Wrongly x
-  wrongly x (at-end z y) = rw y tt
-  wrongly x (over-record n some most fits all y) = rw y tt
-  wrongly x (over-mark f c y) = rw y tt
-  wrongly x (over-gap f c y) = rw y tt
-  wrongly x (at-fault k y) = rw y (wrong-at s k)
-
 -- "the first at fault is named"
 pub bad-first : (s : List ℕ) (e : ℕ) (reverse : Bool) (q : ℕ) (why : BlockFault) (k : ℕ) → passed s reverse q e ≡ met.Bad why k → FaultAt s e reverse q k
 bad-first s e reverse q why k y = rw y at (pass-faulty s e reverse q)
-
--- and says what is wrong with it
-pub bad-wrong : (s : List ℕ) (e : ℕ) (reverse : Bool) (q : ℕ) (why : BlockFault) (k : ℕ) → passed s reverse q e ≡ met.Bad why k → WrongAt s k why
-bad-wrong s e reverse q why k y = rw y at (wrongly s e reverse q (passed s reverse q e) (outcome s reverse q e))
 
 -- the blocks ahead lie below the end
 first-below : (reverse : Bool) (q e : ℕ) → q ≤ e → 1 ≤ ahead reverse q e → firstMet reverse q < e
@@ -272,7 +253,7 @@ module _ (s : List ℕ) (e : ℕ) (reverse : Bool) where
   pub first-here : {p q : ℕ} {why : BlockFault} {k : ℕ} → p ≤ e → ReadOver s e reverse p q → passed s reverse q e ≡ met.Bad why k → FirstFault s e reverse p why k
   first-here {q = q} {why = why} {k = k} h o y =
       let f : FaultAt s e reverse q k = bad-first s e reverse q why k y in
-      record { from = q; before = o; fault = f; below = bad-below s e reverse q k (over-below s e reverse h o) f; wrong = bad-wrong s e reverse q why k y }
+      record { from = q; before = o; fault = f; below = bad-below s e reverse q k (over-below s e reverse h o) f; wrong = bad-wrong s reverse q e y }
 
   -- where a pass over a whole object led
   abbrev Leads : Met → ℕ → Type 0

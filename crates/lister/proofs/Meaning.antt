@@ -19,6 +19,7 @@ use Rattle.tape.specs.declared.Swept.{Swept}
 use Rattle.tape.specs.declared.Swept.the-variants as swept
 use Rattle.tape.proofs.Images.{blocks-append, one-or-more}
 use Rattle.tape.proofs.Passes.{allowed-at, forward-ends, forward-meets}
+use Rattle.tape.proofs.Blame.{swept-wrong}
 use Rattle.tape.proofs.Sweeps.{swept-whole, whole-swept}
 use Rattle.reel.proofs.Examined.{image-long, image-ragged, image-swept}
 use Rattle.lister.specs.Lines.{letterE, lineOf, linesOf, numberLine}
@@ -76,7 +77,7 @@ module _ (s : List ℕ) where
   listed-one t (objects os e h k holds) = ap (λ (l : List ℕ). l ++ numberLine letterE e) (sym (lines-objects s e holds)) ∙ listed-by (image.Whole e) (image-whole e h k (swept-whole s e holds))
   listed-one t (too-long h) = listed-by image.TooLong (image-long s h)
   listed-one t (not-whole h k) = listed-by image.NotWhole (image-ragged s h k)
-  listed-one t (bad why k e) = listed-by (image.Bad why k) (sym e)
+  listed-one t (bad why k x e) = listed-by (image.Bad why k) (sym e)
 
   listed-as : (t : List ℕ) → Listing s t → Listing s (listed s)
   listed-as t l = rw (listed-one t l) at l
@@ -87,7 +88,7 @@ module _ (s : List ℕ) where
       let e : ℕ = length s / blockBytes in
       let well = whole-swept s e b (sym w) in
       listed-as _ (objects (well .0) e h (omega arith) (well .1))
-  listed-swept (swept.Bad why i) b h k w = listed-as _ (bad why i (sym (image-swept s h k w refl)))
+  listed-swept (swept.Bad why i) b h k w = listed-as _ (bad why i (swept-wrong s (length s / blockBytes) (sym w)) (sym (image-swept s h k w refl)))
 
   -- the bytes that the program prints are the image's listing
   pub listed-is : Bytes s → Listing s (listed s)

@@ -9,6 +9,7 @@ use Rattle.tape.specs.Listing.{examined, imageLimit}
 use Rattle.tape.specs.Numbers.{blockBytes}
 use Rattle.tape.specs.Objects.{Holds, Object}
 use Rattle.tape.specs.Pass.{passed}
+use Rattle.tape.specs.Wrong.{WrongAt}
 use Rattle.tape.specs.declared.BlockFault.{BlockFault}
 use Rattle.tape.specs.declared.Image.{Image}
 use Rattle.tape.specs.declared.Image.the-variants as image
@@ -22,8 +23,8 @@ pub data Listing (s : List ℕ) : List ℕ → Type 0 where
   objects : (os : List Object) (e : ℕ) → length s ≤ imageLimit → blockBytes * e ≡ length s → Holds s e os → Listing s (linesOf 0 os ++ numberLine letterE e)
   too-long : imageLimit < length s → Listing s (76 ∷ 10 ∷ [])
   not-whole : length s ≤ imageLimit → (length s % blockBytes ≡ 0 → ⊥) → Listing s (83 ∷ 10 ∷ [])
-  -- the first block at fault and what is wrong with it: what a mount would name
-  bad : (why : BlockFault) (k : ℕ) → examined s ≡ image.Bad why k → Listing s (badLine why k)
+  -- the first block at fault, which a mount would name, and what is wrong with it
+  bad : (why : BlockFault) (k : ℕ) → WrongAt s k why → examined s ≡ image.Bad why k → Listing s (badLine why k)
 
 -- the line of what is met at block p
 unfoldable pub metLine : ℕ → Met → List ℕ

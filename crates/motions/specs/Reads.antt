@@ -38,6 +38,7 @@ markEnd count rev = end 2 (TMK + RLS) (flagOf rev REV) (residual.Bytes count)
 unfoldable pub nothingEnd : ByteCount → Bool → End
 nothingEnd count reverse = pick reverse (end 2 0 (REV + RIB) (residual.Bytes count)) (end 6 0 OPI (residual.Bytes count))
 
+-- a Read that found no record: it ends so, and moves and lays nothing
 unfoldable pub stopMotion : End → ℕ → ℕ → Motion
 stopMotion x p e = stops x (standing p e)
 

@@ -2,9 +2,8 @@
 use crate::fills::copy;
 use libc::STDOUT_FILENO;
 use lists::least;
-ghost use mathlib.Core.List.{_++_};
+ghost use mathlib.Core.List.{[], _∷_, _++_};
 ghost use Prim.Native.Nat.{max, min};
-ghost use mathlib.Core.List.{[], _∷_};
 ghost use Rattle.script.specs.Prints.{Put};
 ghost use Rattle.script.specs.Spelling.{spelling};
 

@@ -41,6 +41,7 @@ use Rattle.worlds.specs.declared.Outcome.{Outcome}
 use Rattle.worlds.proofs.Passing.{core-accepted, passed}
 use Rattle.sessions.specs.Advancing.{Comes, Idle, Names, a-step, at-fault, checkedWith, idle, no-room, refused}
 use Rattle.sessions.specs.Calling.{doing}
+use Rattle.sessions.proofs.Mounting.{accepts}
 use Rattle.sessions.proofs.Obeying.{advanced-obeys}
 
 -- refusals 1 to 4 have these numbers, and so has a mount's 2 or 3
@@ -92,7 +93,8 @@ module _ (n : ℕ) (w : World) where
     comes-by (answer.BadBlock why k) e d busy =
         let c : Core = w .core in
         let must = advanced-must (c .unit) (c .memory) (c .reel) why k (admitted .legal .place) e in
-        at-fault sound busy (record { read = must; first = must-first (c .unit) (c .memory) (c .reel) why k (admitted .legal .place) must }) refl
+        let first = must-first (c .unit) (c .memory) (c .reel) why k (admitted .legal .place) must in
+        at-fault sound busy (record { read = must; held = omega (arith, first .below, admitted .legal .capacity, admitted .reel-is); first = first }) refl
 
     comes-on : Comes n w (takenBy w (carried (w .core) plan) (plan .answer))
     comes-on =
@@ -119,10 +121,10 @@ module _ (old : Session) (memory : ℕ) (r : List ℕ) (journal e : ℕ) (online
       let new = mountSwept (old .unit) (mountedAs e online locked (record { memory = memory; blocks = length r / blockBytes })) x in
       mountedBy old journal (new .unit) (new .answer)
 
-  swept-seven : (x : Swept) → sweptBelow r e ≡ x → numberOf (after x .answer) ≡ 7 → Names r e (after x .answer)
+  swept-seven : (x : Swept) → e ≤ length r / blockBytes → sweptBelow r e ≡ x → numberOf (after x .answer) ≡ 7 → Names r e (after x .answer)
   unfolding mountSwept mountedBy numberOf
-  swept-seven swept.Whole y z = absurd (omega (arith, z))
-  swept-seven (swept.Bad why k) y z = (why, k, refl, swept-first r e why k y)
+  swept-seven swept.Whole h y z = absurd (omega (arith, z))
+  swept-seven (swept.Bad why k) h y z = let first = swept-first r e why k y in (why, k, refl, omega (arith, first .below), first)
 
   -- a mount that answers 7 names the first block at fault from block 0 on
   pub mount-names : numberOf (mountOn old memory r journal e online locked .answer) ≡ 7 → Names r e (mountOn old memory r journal e online locked .answer)
@@ -131,5 +133,5 @@ module _ (old : Session) (memory : ℕ) (r : List ℕ) (journal e : ℕ) (online
       by-test (eqb (mountRefusal memory (length r) e) 0)
       (λ t. by-test (ltb journalLimit journal)
       (λ v. let y : 4 ≡ 7 = rw (t, v) at z in absurd (omega (arith, y)))
-      (λ v. rw (t, v) (swept-seven (sweptBelow r e) refl (rw (t, v) at z))))
+      (λ v. rw (t, v) (swept-seven (sweptBelow r e) (accepts memory (length r) e (eqb-true (mountRefusal memory (length r) e) 0 t) .below) refl (rw (t, v) at z))))
       (λ t. let y : mountRefusal memory (length r) e ≡ 7 = rw t at z in absurd (omega (arith, y, mount-few memory (length r) e)))

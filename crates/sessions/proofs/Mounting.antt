@@ -43,7 +43,7 @@ pub record Accepts (memory reel e : ℕ) : Type 0 where
   pub blocks-right : blocksRight (reel / blockBytes) ≡ true
   pub below : e ≤ reel / blockBytes
 
-accepts : (memory reel e : ℕ) → mountRefusal memory reel e ≡ 0 → Accepts memory reel e
+pub accepts : (memory reel e : ℕ) → mountRefusal memory reel e ≡ 0 → Accepts memory reel e
 unfolding mountRefusal
 accepts memory reel e h =
     by-test (memoryRight memory)

@@ -3,8 +3,9 @@
 use mathlib.Core.Bool.{Bool, true, false, _&&_}
 use mathlib.Core.List.{List}
 use mathlib.Core.Path.{_≡_}
-use Prim.Native.Nat.{ℕ, _<_, _-_}
+use Prim.Native.Nat.{ℕ, _<_, _-_, _/_}
 use lib.ListN.{length}
+use Rattle.tape.specs.Numbers.{blockBytes}
 use Rattle.tape.specs.declared.BlockFault.{BlockFault}
 use Rattle.state.specs.declared.Unit.{Unit}
 use Rattle.commands.specs.declared.plans.Answer.{Answer}
@@ -26,14 +27,15 @@ abbrev pub Idle : Unit → Type 0
 Idle u = (u .registers .ssr ≡ true) × ((u .attention .pending && u .attention .«unit_owns») ≡ false)
 
 -- "a block that .. the command must read is damaged or out of place": the command comes to read block k, which is the first at fault ahead of the
--- tape, in the direction of its first stage
+-- tape, in the direction of its first stage; the reel holds it
 pub record FaultAhead (c : Core) (why : BlockFault) (k : ℕ) : Type 0 where
   pub read : MustRead (c .unit) (c .memory) (c .reel) why k
+  pub held : k < length (c .reel) / blockBytes
   pub first : FirstFault (c .reel) (c .unit .tape .end) (reverseFirst (headerIn c)) (c .unit .tape .position) why k
 
 -- the same for a mount of the reel r up to the end e, which answers a: it reads every block from 0 on
 abbrev pub Names : List ℕ → ℕ → Answer → Type 0
-Names r e a = (why : BlockFault) × (k : ℕ) × (a ≡ answer.BadBlock why k) × FirstFault r e false 0 why k
+Names r e a = (why : BlockFault) × (k : ℕ) × (a ≡ answer.BadBlock why k) × (k < length r / blockBytes) × FirstFault r e false 0 why k
 
 -- "9 free journal less than the entry"
 abbrev pub Full : World → Type 0

@@ -6,7 +6,8 @@
 //              a step back that is done leaves a world that 1 to 4 pass     back-checked   proofs/Backs.antt
 //   demand 2   every call of advance is refused, idle or a step, each under
 //              its condition, and a step obeys the TS11's rules             advance-comes  proofs/Advances.antt, specs/Advancing.antt, Rules.antt
-//              a mount refused with 7 names the first block at fault        mount-names
+//              a mount refused with 7 names the first block at fault,
+//              and tells what is wrong with it                              mount-names
 //   demand 3   a mount begins such a session                                mounted        proofs/Mounting.antt
 //              the reel is well formed, the position 0 or after an object   always-good    proofs/Calls.antt
 //              one entry for each step that stands, and it is that step's   entry-each

@@ -2,11 +2,13 @@
 use mathlib.Core.Bool.{Bool, true, false, true≢false}
 use mathlib.Core.List.{List}
 use mathlib.Core.Path.{_≡_, refl, sym, ap, subst, _∙_}
-use Prim.Native.Nat.{ℕ, _≤_}
+use Prim.Native.Nat.{ℕ, _/_, _<_, _≤_}
+use native.Mathlib.Omega.{arith}
 use lib.ListN.{length}
 use Rattle.lists.specs.Words.{Bytes}
 use Rattle.lists.proofs.Cases.{by-test}
 use Rattle.tape.specs.Letters.{letterOf}
+use Rattle.tape.specs.Numbers.{blockBytes}
 use Rattle.tape.specs.declared.BlockFault.{BlockFault}
 use Rattle.commands.specs.Answers.{blockIn, faultIn, interruptIn, isStep, numberOf}
 use Rattle.commands.specs.declared.plans.Answer.{Answer}
@@ -41,6 +43,13 @@ module _ (h : Host) (long : length (h .block) ≡ stateLength) (bytes : Bytes (h
       let z : isStep (given call h .answer) ≡ false = ap isStep e ∙ n in
       (t .stepped ∙ z, call-nothing call (g .gives) z)
 
+  -- what is told of a block, by the answer
+  blocked : {a : Answer} → given call h .answer ≡ a → block ≡ blockIn a
+  blocked e = t .block ∙ ap blockIn e
+
+  faulted : {a : Answer} → given call h .answer ≡ a → fault ≡ faultIn a
+  faulted e = t .fault ∙ ap faultIn e
+
   abbrev Here : Type 0
   Here = HostComes h number steps interrupts block fault h′
 
@@ -60,30 +69,31 @@ module _ (h : Host) (long : length (h .block) ≡ stateLength) (bytes : Bytes (h
     comes-as (refused n e) =
         let y = reads-as e in
         let few = checked-few (sessionOf (worldIn h)) (length (h .memory)) (length (h .reel)) (length (h .journal)) in
-        refused-first (λ z. n (sym (numbered y) ∙ z)) (subst (λ (k : ℕ). k ≤ 4) (sym (numbered y)) few) (numbered y) (nothing y refl .0) (nothing y refl .1)
-    comes-as (idle c i e) = let y = reads-as e in host-idle i (numbered y) (nothing y refl .0) (nothing y refl .1)
+        refused-first (λ z. n (sym (numbered y) ∙ z)) (subst (λ (k : ℕ). k ≤ 4) (sym (numbered y)) few) (numbered y) (nothing y refl .0) (blocked y) (faulted y) (nothing y refl .1)
+    comes-as (idle c i e) = let y = reads-as e in host-idle i (numbered y) (nothing y refl .0) (blocked y) (faulted y) (nothing y refl .1)
     comes-as (at-fault c busy f e) =
         let y = reads-as e in
-        host-fault busy (subst (FaultAhead (worldIn h .core) _) (sym (t .block ∙ ap blockIn y)) f) (t .fault ∙ ap faultIn y) (numbered y) (nothing y refl .0) (nothing y refl .1)
-    comes-as (no-room c busy f e) = let y = reads-as e in host-full busy f (numbered y) (nothing y refl .0) (nothing y refl .1)
+        host-fault busy (subst (FaultAhead (worldIn h .core) _) (sym (blocked y)) f) (faulted y) (numbered y) (nothing y refl .0) (nothing y refl .1)
+    comes-as (no-room c busy f e) = let y = reads-as e in host-full busy f (numbered y) (nothing y refl .0) (blocked y) (faulted y) (nothing y refl .1)
     comes-as (a-step {i} c busy room e o) =
         let y : given call h .answer ≡ answer.Done i = ap (λ (x : Answered). x .answer) is ∙ e in
         let after = subst (λ (w : World). Obeys (worldIn h .core) i (w .core)) (sym (runs-as call h b g .1)) o in
-        host-step busy room (numbered y) (t .stepped ∙ ap isStep y) (subst (λ (i : Bool). Obeys (worldIn h .core) i (worldIn h′ .core)) (sym (t .interrupt ∙ ap interruptIn y)) after)
+        host-step busy room (numbered y) (t .stepped ∙ ap isStep y) (blocked y) (faulted y) (subst (λ (i : Bool). Obeys (worldIn h .core) i (worldIn h′ .core)) (sym (t .interrupt ∙ ap interruptIn y)) after)
 
   -- demand 2 of every exported advance
   pub host-comes : Here
-  unfolding given opened isStep numberOf
+  unfolding given opened isStep numberOf blockIn faultIn
   host-comes =
       by-test (isBlock (h .block))
       (λ r. comes-as (record { long = long; bytes = bytes; right = r }) (advance-comes (length (h .journal)) (worldIn h)))
-      (λ r. let y : given call h .answer ≡ answer.Refused 1 = rw r in no-state r (g .gives .answer ∙ ap numberOf y) (nothing y refl .0) (nothing y refl .1))
+      (λ r. let y : given call h .answer ≡ answer.Refused 1 = rw r in no-state r (g .gives .answer ∙ ap numberOf y) (nothing y refl .0) (blocked y) (faulted y) (nothing y refl .1))
 
 -- a mount that returns 7 names the first block at fault from block 0 on, and tells what is wrong with it
 pub host-mount-names : {b b′ : List ℕ} {number block fault : ℕ} (memory : ℕ) (r : List ℕ) (journal e : ℕ) (online locked : Bool)
     → Mounts b (mountOn (sessionIn b) memory r journal e online locked) number b′ block fault → number ≡ 7
-    → (why : BlockFault) × (fault ≡ letterOf why) × FirstFault r e false 0 why block
+    → (why : BlockFault) × (fault ≡ letterOf why) × (block < length r / blockBytes) × FirstFault r e false 0 why block
 unfolding blockIn faultIn
 host-mount-names {b} memory r journal e online locked g z =
     let n = mount-names (sessionIn b) memory r journal e online locked (sym (g .answer) ∙ z) in
-    (n .0, g .fault ∙ ap faultIn (n .2), subst (FirstFault r e false 0 (n .0)) (sym (g .block ∙ ap blockIn (n .2))) (n .3))
+    let is = g .block ∙ ap blockIn (n .2) in
+    (n .0, g .fault ∙ ap faultIn (n .2), omega (arith, is, n .3), subst (FirstFault r e false 0 (n .0)) (sym is) (n .4))

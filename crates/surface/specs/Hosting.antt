@@ -117,10 +117,10 @@ pub record Entries (h : Host) (n : ℕ) (steps : List (Standing (calls n))) : Ty
 -- what an exported advance on h returned and told, and that it left h′: bytes that are no state's, refusals 1 to 4, idle, 7 with the block and its
 -- fault's letter, 9, or a step
 pub data HostComes (h : Host) (number : ℕ) (steps interrupts : Bool) (block fault : ℕ) (h′ : Host) : Type 0 where
-  no-state : isBlock (h .block) ≡ false → number ≡ 1 → steps ≡ false → h′ ≡ h → HostComes h number steps interrupts block fault h′
-  refused-first : (number ≡ 0 → ⊥) → number ≤ 4 → number ≡ checkedWith (length (h .journal)) (worldIn h) → steps ≡ false → h′ ≡ h → HostComes h number steps interrupts block fault h′
-  idle : Idle (worldIn h .core .unit) → number ≡ 0 → steps ≡ false → h′ ≡ h → HostComes h number steps interrupts block fault h′
+  no-state : isBlock (h .block) ≡ false → number ≡ 1 → steps ≡ false → block ≡ 0 → fault ≡ 0 → h′ ≡ h → HostComes h number steps interrupts block fault h′
+  refused-first : (number ≡ 0 → ⊥) → number ≤ 4 → number ≡ checkedWith (length (h .journal)) (worldIn h) → steps ≡ false → block ≡ 0 → fault ≡ 0 → h′ ≡ h → HostComes h number steps interrupts block fault h′
+  idle : Idle (worldIn h .core .unit) → number ≡ 0 → steps ≡ false → block ≡ 0 → fault ≡ 0 → h′ ≡ h → HostComes h number steps interrupts block fault h′
   at-fault : {why : BlockFault} → (Idle (worldIn h .core .unit) → ⊥) → FaultAhead (worldIn h .core) why block → fault ≡ letterOf why → number ≡ 7 → steps ≡ false → h′ ≡ h → HostComes h number steps interrupts block fault h′
-  no-room : (Idle (worldIn h .core .unit) → ⊥) → Full (worldIn h) → number ≡ 9 → steps ≡ false → h′ ≡ h → HostComes h number steps interrupts block fault h′
-  a-step : (Idle (worldIn h .core .unit) → ⊥) → (Full (worldIn h) → ⊥) → number ≡ 0 → steps ≡ true → Obeys (worldIn h .core) interrupts (worldIn h′ .core)
+  no-room : (Idle (worldIn h .core .unit) → ⊥) → Full (worldIn h) → number ≡ 9 → steps ≡ false → block ≡ 0 → fault ≡ 0 → h′ ≡ h → HostComes h number steps interrupts block fault h′
+  a-step : (Idle (worldIn h .core .unit) → ⊥) → (Full (worldIn h) → ⊥) → number ≡ 0 → steps ≡ true → block ≡ 0 → fault ≡ 0 → Obeys (worldIn h .core) interrupts (worldIn h′ .core)
       → HostComes h number steps interrupts block fault h′

@@ -15,7 +15,8 @@
 //                                                                                           proofs/Unique.antt
 //   every exported advance is refused, idle or a step, each       host-comes                proofs/Advances.antt
 //   under its condition, and a step obeys the TS11's rules
-//   a mount refused with 7 names the first block at fault         host-mount-names
+//   a mount refused with 7 names the first block at fault, and    host-mount-names
+//   tells what is wrong with it
 //   a mount answered 0 begins a session                           mounted-host              proofs/Mounted.antt
 //   a host's calls are a session of the model                     host-ran                  proofs/Hosts.antt
 //   going back k gives the bytes before the earliest of the k     host-stood, host-stands   proofs/Stands.antt

@@ -16,7 +16,7 @@ use Rattle.tape.specs.Letters.{letterOf}
 use Rattle.tape.specs.Numbers.{blockBytes, headBytes, piecesOf, recordLimit, summedBytes}
 use Rattle.tape.specs.Pass.{faultOf}
 use Rattle.tape.specs.Reading.{blockAt, checkRight, classAt, classBy, classOf, indexRight, kindOf, kindRight, lengthRight, paddingRight, usedOf, zeros}
-use Rattle.tape.specs.Wrong.{CheckGood, FirstWrong, IndexGood, KindGood, LengthGood, PaddingGood, WrongAt, by-itself, check, index, is-gap, is-mark, is-piece, kind, not-there, of-none, of-one, of-piece, of-record, out-of-place, padding, size}
+use Rattle.tape.specs.Wrong.{CheckGood, FirstWrong, IndexGood, KindGood, LengthGood, PaddingGood, WrongAt, by-itself, check, index, kind, kind-gap, kind-mark, kind-piece, misplaced, not-there, of-blank, of-piece, of-record, of-single, padding, size}
 use Rattle.tape.specs.declared.BlockFault.{BlockFault}
 use Rattle.tape.specs.declared.BlockFault.the-variants as fault
 use Rattle.tape.specs.declared.Block.{Block}
@@ -24,14 +24,14 @@ use Rattle.tape.specs.declared.Block.the-variants as block
 use Rattle.tape.proofs.Accepted.{clash, third}
 
 -- a test that is true exactly where the fact holds
-record Tells (t : Bool) (P : Type 0) : Type 0 where
+record Decides (t : Bool) (P : Type 0) : Type 0 where
   so : t ≡ true → P
   sure : P → t ≡ true
 
-not-so : {t : Bool} {P : Type 0} → Tells t P → t ≡ false → P → ⊥
+not-so : {t : Bool} {P : Type 0} → Decides t P → t ≡ false → P → ⊥
 not-so d e p = clash (cc (d .sure p, e))
 
-not-sure : {t : Bool} {P : Type 0} → Tells t P → (P → ⊥) → t ≡ false
+not-sure : {t : Bool} {P : Type 0} → Decides t P → (P → ⊥) → t ≡ false
 not-sure {t = t} d f = by-test t (λ e. absurd (f (d .so e))) (λ e. e)
 
 -- a list of zeros, place by place; behind its end a list has 0 at every place
@@ -77,15 +77,15 @@ module _ (b : List ℕ) where
   kind-so : kindRight k ≡ true → KindGood b
   kind-so h =
       by-test (eqb k pieceKind)
-      (λ t. is-piece (eqb-true k pieceKind t))
-      (λ t. by-test (eqb k markKind) (λ m. is-mark (eqb-true k markKind m)) (λ m. is-gap (third k t m h)))
+      (λ t. kind-piece (eqb-true k pieceKind t))
+      (λ t. by-test (eqb k markKind) (λ m. kind-mark (eqb-true k markKind m)) (λ m. kind-gap (third k t m h)))
 
   kind-sure : KindGood b → kindRight k ≡ true
-  kind-sure (is-piece e) = rw e
-  kind-sure (is-mark e) = rw e
-  kind-sure (is-gap e) = rw e
+  kind-sure (kind-piece e) = rw e
+  kind-sure (kind-mark e) = rw e
+  kind-sure (kind-gap e) = rw e
 
-  kind-tells : Tells (kindRight k) (KindGood b)
+  kind-tells : Decides (kindRight k) (KindGood b)
   kind-tells = record { so = kind-so; sure = kind-sure }
 
   length-so : lengthRight k n ≡ true → LengthGood b
@@ -97,13 +97,13 @@ module _ (b : List ℕ) where
       of-record (eqb-true k pieceKind t) (leb-true 1 n (p .0)) (leb-true n recordLimit (p .1)))
       (λ t.
       let h′ : eqb n 0 ≡ true = rw t at h in
-      of-none (eqb-false k pieceKind t) (eqb-true n 0 h′))
+      of-blank (eqb-false k pieceKind t) (eqb-true n 0 h′))
 
   length-sure : LengthGood b → lengthRight k n ≡ true
   length-sure (of-record e l m) = rw (eq-eqb k pieceKind e, le-leb 1 n l, le-leb n recordLimit m)
-  length-sure (of-none e z) = rw (ne-eqb k pieceKind e, eq-eqb n 0 z)
+  length-sure (of-blank e z) = rw (ne-eqb k pieceKind e, eq-eqb n 0 z)
 
-  length-tells : Tells (lengthRight k n) (LengthGood b)
+  length-tells : Decides (lengthRight k n) (LengthGood b)
   length-tells = record { so = length-so; sure = length-sure }
 
   index-so : indexRight k n i ≡ true → IndexGood b
@@ -114,16 +114,16 @@ module _ (b : List ℕ) where
       of-piece (eqb-true k pieceKind t) (ltb-true i (piecesOf n) h′))
       (λ t.
       let h′ : eqb i 0 ≡ true = rw t at h in
-      of-one (eqb-false k pieceKind t) (eqb-true i 0 h′))
+      of-single (eqb-false k pieceKind t) (eqb-true i 0 h′))
 
   index-sure : IndexGood b → indexRight k n i ≡ true
   index-sure (of-piece e l) = rw (eq-eqb k pieceKind e, lt-ltb i (piecesOf n) l)
-  index-sure (of-one e z) = rw (ne-eqb k pieceKind e, eq-eqb i 0 z)
+  index-sure (of-single e z) = rw (ne-eqb k pieceKind e, eq-eqb i 0 z)
 
-  index-tells : Tells (indexRight k n i) (IndexGood b)
+  index-tells : Decides (indexRight k n i) (IndexGood b)
   index-tells = record { so = index-so; sure = index-sure }
 
-  padding-tells : Tells (paddingRight b (usedOf k n i)) (PaddingGood b)
+  padding-tells : Decides (paddingRight b (usedOf k n i)) (PaddingGood b)
   unfolding paddingRight
   padding-tells =
       record {
@@ -131,7 +131,7 @@ module _ (b : List ℕ) where
         sure = λ f. zeros-sure (drop (headBytes + usedOf k n i) (take summedBytes b)) (λ j. padding-at b (headBytes + usedOf k n i) j f);
       }
 
-  check-tells : Tells (checkRight b) (CheckGood b)
+  check-tells : Decides (checkRight b) (CheckGood b)
   unfolding checkRight
   check-tells = record { so = λ h. eqb-true (wordAt b summedBytes) (checkOf (take summedBytes b)) h; sure = λ h. eq-eqb (wordAt b summedBytes) (checkOf (take summedBytes b)) h }
 
@@ -181,9 +181,9 @@ module _ (s : List ℕ) (k : ℕ) where
   sound-or-not : (b : Block) → classOf (blockAt s k) ≡ b → k < length s / blockBytes → WrongAt s k (faultOf b)
   unfolding faultOf
   sound-or-not (block.Damaged f) e h = by-itself h (told-first (blockAt s k) f e)
-  sound-or-not (block.Piece n i) e h = out-of-place h (λ f w. clash (cc (e, first-told (blockAt s k) f w)))
-  sound-or-not block.Mark e h = out-of-place h (λ f w. clash (cc (e, first-told (blockAt s k) f w)))
-  sound-or-not block.Gap e h = out-of-place h (λ f w. clash (cc (e, first-told (blockAt s k) f w)))
+  sound-or-not (block.Piece n i) e h = misplaced h (λ f w. clash (cc (e, first-told (blockAt s k) f w)))
+  sound-or-not block.Mark e h = misplaced h (λ f w. clash (cc (e, first-told (blockAt s k) f w)))
+  sound-or-not block.Gap e h = misplaced h (λ f w. clash (cc (e, first-told (blockAt s k) f w)))
 
   pub wrong-at : WrongAt s k (faultOf (classAt s k))
   unfolding classAt faultOf
@@ -215,7 +215,7 @@ module _ (s : List ℕ) (k : ℕ) where
   pub wrong-told : (f : BlockFault) → WrongAt s k f → faultOf (classAt s k) ≡ f
   unfolding faultOf
   wrong-told f (by-itself h w) = rw (inside h, first-told (blockAt s k) f w)
-  wrong-told f (out-of-place h none) = rw (inside h) (soundly (classOf (blockAt s k)) (λ f e. none f (told-first (blockAt s k) f e)))
+  wrong-told f (misplaced h none) = rw (inside h) (soundly (classOf (blockAt s k)) (λ f e. none f (told-first (blockAt s k) f e)))
   wrong-told f (not-there h) = absent h
 
 -- a letter stands for one fault

@@ -18,6 +18,7 @@ pub mod Below
 pub mod Parts
 pub mod Gathering
 pub mod Outcomes
+pub mod Blame
 pub mod Within
 pub mod Seen
 pub mod Sweeps

@@ -12,19 +12,19 @@ use Rattle.tape.specs.declared.BlockFault.the-variants as fault
 
 -- "Kinds: 1 record piece, 2 tape mark, 3 erased gap."
 pub data KindGood (b : List ℕ) : Type 0 where
-  is-piece : wordAt b 0 ≡ pieceKind → KindGood b
-  is-mark : wordAt b 0 ≡ markKind → KindGood b
-  is-gap : wordAt b 0 ≡ gapKind → KindGood b
+  kind-piece : wordAt b 0 ≡ pieceKind → KindGood b
+  kind-mark : wordAt b 0 ≡ markKind → KindGood b
+  kind-gap : wordAt b 0 ≡ gapKind → KindGood b
 
 -- "Records: 1 to 16,384 bytes"; of marks and gaps "all else 0"
 pub data LengthGood (b : List ℕ) : Type 0 where
   of-record : wordAt b 0 ≡ pieceKind → 1 ≤ wordAt b 2 → wordAt b 2 ≤ recordLimit → LengthGood b
-  of-none : (wordAt b 0 ≡ pieceKind → ⊥) → wordAt b 2 ≡ 0 → LengthGood b
+  of-blank : (wordAt b 0 ≡ pieceKind → ⊥) → wordAt b 2 ≡ 0 → LengthGood b
 
 -- "A record of n bytes takes n/504 blocks rounded up; indices run from 0"
 pub data IndexGood (b : List ℕ) : Type 0 where
   of-piece : wordAt b 0 ≡ pieceKind → wordAt b 4 < piecesOf (wordAt b 2) → IndexGood b
-  of-one : (wordAt b 0 ≡ pieceKind → ⊥) → wordAt b 4 ≡ 0 → IndexGood b
+  of-single : (wordAt b 0 ≡ pieceKind → ⊥) → wordAt b 4 ≡ 0 → IndexGood b
 
 -- "unused data bytes are 0"
 abbrev pub PaddingGood : List ℕ → Type 0
@@ -45,6 +45,6 @@ pub data FirstWrong (b : List ℕ) : BlockFault → Type 0 where
 -- what is wrong with block k of the reel s, which can't be taken: the first of the five; where none is, "out of place": index
 pub data WrongAt (s : List ℕ) (k : ℕ) : BlockFault → Type 0 where
   by-itself : {f : BlockFault} → k < length s / blockBytes → FirstWrong (blockAt s k) f → WrongAt s k f
-  out-of-place : k < length s / blockBytes → ((f : BlockFault) → FirstWrong (blockAt s k) f → ⊥) → WrongAt s k fault.Index
+  misplaced : k < length s / blockBytes → ((f : BlockFault) → FirstWrong (blockAt s k) f → ⊥) → WrongAt s k fault.Index
   -- no call comes to it: the recorded end lies on the reel
   not-there : length s / blockBytes ≤ k → WrongAt s k fault.Index
