@@ -32,13 +32,15 @@ def ramp(n):
 
 EVERY = record(b'AB') + MARK + GAP + record(ramp(768)) + record(ramp(505)) + MARK + MARK
 ZERO = block(1, 2, 0, struct.pack('<H', 65532))                          # its 255 words add up to 65,535
-FULL = record(ramp(16384)) * 3 + record(ramp(504)) * 28 + MARK          # 128 blocks: 65,536 bytes
+FULL = record(ramp(49896)) + record(ramp(504)) * 28 + MARK               # 128 blocks: 65,536 bytes
 
 CASES = [
     ('empty', b'', 'E 0'),
     ('paper', record(b'AB') + MARK + MARK, 'R 0 2\nM 1\nM 2\nE 3'),
-    ('full', FULL, '\n'.join(['R 0 16384', 'R 33 16384', 'R 66 16384'] + ['R %d 504' % (99 + i) for i in range(28)] + ['M 127', 'E 128'])),
+    ('full', FULL, '\n'.join(['R 0 49896'] + ['R %d 504' % (99 + i) for i in range(28)] + ['M 127', 'E 128'])),
     ('long', FULL + b'\0', 'L'),
+    ('longest', record(ramp(64512)), 'R 0 64512\nE 128'),                 # the longest that an image has room for
+    ('about_16384', record(ramp(16384)) + record(ramp(16385)) + MARK, 'R 0 16384\nR 33 16385\nM 66\nE 67'),
     ('ragged', EVERY + bytes(511), 'S'),
     # each fault by itself, where an object is due and where a later piece is
     ('kind', put(EVERY, 1, bytes(512)), 'X 1 K'),                         # a block of zeros: no kind
@@ -59,6 +61,7 @@ CASES = [
     # sound, and out of place; and what is damaged besides is told as that
     ('cut_off', EVERY[:512 * 4], 'X 3 I'),                                # the end cuts the second record off
     ('cut_off_damaged', poke(EVERY[:512 * 4], 512 * 3 + 100, 0), 'X 3 C'),
+    ('cut_off_longest', (MARK + record(ramp(65535)))[:512 * 128], 'X 1 I'),  # 131 blocks: more than an image has
     ('out_of_place', EVERY[:512 * 3] + EVERY[512 * 4:512 * 5] + EVERY, 'X 3 I'),  # a record that starts at piece 1
     ('mark_for_a_piece', put(EVERY, 4, MARK), 'X 4 I'),
     ('mark_for_a_piece_damaged', put(EVERY, 4, poke(MARK, 511, 1)), 'X 4 C'),

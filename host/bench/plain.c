@@ -697,6 +697,9 @@ static ts11_answer space(struct plan *p, const uint8_t *reel, bool reverse, bool
 	return end_command(p, e);
 }
 
+_Static_assert((TS11_RECORD_MAX + TS11_BLOCK_DATA - 1) / TS11_BLOCK_DATA + 1 <= TS11_EOT_MARGIN,
+               "a gap and record without room are past the EOT marker");
+
 /* Write and Format: where the tape stands, or for a retry, behind a gap, where the last record or mark stood. */
 static ts11_answer write_object(struct plan *p, const uint8_t *reel, uint32_t kind, bool retry)
 {

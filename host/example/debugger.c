@@ -11,7 +11,7 @@
 
 #include "ts11.h"
 
-#define BLOCKS 128
+#define BLOCKS 256
 
 /* Everything that a unit needs belongs to the host. */
 static ts11_state state;

@@ -9,7 +9,7 @@
  *   state    one ts11_state, 128 bytes
  *   memory   the machine's memory: an even number of bytes, 2 to 262,144; words are little-endian
  *   reel     the reel image: 1 to 65,536 blocks of 512 bytes
- *   journal  room for the undo entries: 0 to 16,777,216 bytes
+ *   journal  room for the undo entries: 0 to 16,777,216 bytes; one entry takes at most 67,726
  * and hands them to every call, each buffer as a pointer and a length in bytes. The buffers of one call, the state
  * and the out-parameters must not overlap, no pointer may be null (with length 0 any other address will do), and
  * each must have the bytes that its length says. Two calls may run at once if they share no buffer that either
@@ -51,9 +51,9 @@ extern "C" {
 #define TS11_BLOCK_DATA 504        /* data bytes of a block; a record of n bytes takes n / 504 blocks, rounded up */
 #define TS11_REEL_BLOCKS_MAX 65536 /* blocks of a reel; at least 1 */
 #define TS11_JOURNAL_MAX 16777216  /* bytes of journal; 0 is allowed, and then no step is */
-#define TS11_RECORD_MAX 16384      /* bytes of a record; at least 1 */
+#define TS11_RECORD_MAX 65535      /* bytes of a record, which takes at most 131 blocks; at least 1 */
 #define TS11_HOST_STORE_MAX 65535  /* bytes of one host store; 0 is allowed */
-#define TS11_EOT_MARGIN 64         /* the EOT marker is this many blocks before the reel's end, or at block 0 */
+#define TS11_EOT_MARGIN 160        /* the EOT marker is this many blocks before the reel's end, or at block 0 */
 #define TS11_ENTRY_HEAD 128        /* bytes of a journal entry beside the memory and reel bytes that it keeps */
 #define TS11_PACKET_BYTES 8        /* bytes of a command packet: one of them outside memory is NXM */
 #define TS11_MESSAGE_BYTES 14      /* bytes of a message, and the least message buffer */
@@ -88,7 +88,7 @@ typedef size_t ts11_answer;
  * then may be this block, one beside it, or the recorded end.
  */
 #define TS11_FAULT_KIND 'K'    /* the kind is none of the three */
-#define TS11_FAULT_LENGTH 'N'  /* the record's length is 0 or over 16,384; in a mark or gap it is not 0 */
+#define TS11_FAULT_LENGTH 'N'  /* the record's length is 0; in a mark or gap it is not 0 */
 #define TS11_FAULT_INDEX 'I'   /* the record has no such piece; in a mark or gap the index is not 0; or out of place */
 #define TS11_FAULT_PADDING 'P' /* a data byte that is not used is not 0 */
 #define TS11_FAULT_CHECK 'C'   /* the check word is not the sum of the words before it, modulo 65,535 */
@@ -229,7 +229,7 @@ ts11_answer ts11_step_back(ts11_state *state, uint8_t *memory, size_t memory_len
  * 0: the command ended as asked; or it was dropped for want of TS11_ACK.
  * 1: the on-line switch was turned, with EAI; a command that waited is lost.
  * 2: a Read or Space met a mark; a record was shorter or longer than the count; reverse ran into BOT; logical end of
- *    tape; a write or format ended at or past EOT.
+ *    tape; a write or format ended at or past EOT, which on a reel of 160 blocks or fewer is anywhere.
  * 3: nothing was done, but that CVC has cleared VCK: see NEF, ILC and ILA; or NBA, and then there is no message.
  * 5: memory that is not there. Where the packet's first word is not, there is no message and no interrupt.
  * 6: forward at the recorded end.
@@ -274,7 +274,7 @@ ts11_answer ts11_step_back(ts11_state *state, uint8_t *memory, size_t memory_len
 #define TS11_REREAD_PREVIOUS TS11_COMMAND(1, 2)       /* space reverse, read forward */
 #define TS11_REREAD_NEXT TS11_COMMAND(1, 3)           /* space forward, read reverse */
 #define TS11_WRITE_CHARACTERISTICS TS11_COMMAND(4, 0) /* data: see the mode word */
-#define TS11_WRITE TS11_COMMAND(5, 0)                 /* a record of 1 to 16,384 bytes */
+#define TS11_WRITE TS11_COMMAND(5, 0)                 /* a record of 1 to 65,535 bytes */
 #define TS11_WRITE_RETRY TS11_COMMAND(5, 2)           /* space reverse over a record or mark, a gap, the record */
 #define TS11_SPACE_RECORDS TS11_COMMAND(8, 0)         /* a mark stops it, is passed and is not counted */
 #define TS11_SPACE_RECORDS_REVERSE TS11_COMMAND(8, 1) /* the same in reverse */
@@ -323,7 +323,7 @@ ts11_answer ts11_step_back(ts11_state *state, uint8_t *memory, size_t memory_len
  * XST0: the high byte is what the command found, the low byte the unit's condition at the end.
  * RLS: a Read met a shorter record or a mark; a Space or Skip was stopped by a mark, BOT or LET with count left.
  * NEF: a tape command off line or with VCK set; a write or format under write lock; reverse from BOT; a written length
- *      of 0 or over 16,384; no room left on the reel.
+ *      of 0; no room left on the reel.
  * ILC: unknown code or mode, or header bit 5 or 6 set. ILA: pointer bits above A17, or odd in Write Characteristics.
  */
 #define TS11_XST0_TMK 0x8000 /* tape mark: one was met or written */

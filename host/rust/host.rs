@@ -48,12 +48,12 @@ fn expect_refused(state: &mut State, b: &mut Buffers, at: usize, byte: u8, fault
 }
 
 fn main() {
-    let (mut memory, mut reel, mut journal) = (vec![0; 8192], vec![0; 128 * 512], vec![0; 65536]);
+    let (mut memory, mut reel, mut journal) = (vec![0; 8192], vec![0; 256 * 512], vec![0; 65536]);
     let mut b = Buffers { memory: &mut memory, reel: &mut reel, journal: &mut journal };
     let mut state = State::NONE;
     assert_eq!(state.read_register(Register::Tssr), Err(1));
     assert_eq!(state.mount(&b, 1, true, false), Err(bad(Fault::Kind)));
-    assert_eq!(state.mount(&b, 129, true, false), Err(Refused { number: 3, block: None }));
+    assert_eq!(state.mount(&b, 257, true, false), Err(Refused { number: 3, block: None }));
     assert_eq!(state, State::NONE);
     state.mount(&b, 0, true, false).unwrap();
     assert_eq!(state.read_register(Register::Tssr), Ok(0x0480));

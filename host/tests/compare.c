@@ -6,8 +6,8 @@
  * Each round makes up buffers, a reel and a state, and then makes some 70 calls on both. After each call answer,
  * out-parameters, state, memory, reel and used journal must be the same, byte for byte. The first difference is told,
  * with exit status 1; so is a run in which some refusal, class, command or status bit never occurred, or some fault in a
- * mount, forward or in reverse, or one of the ways in which a packet ends past memory (some 4,000 rounds have them all).
- * The same seed makes the same calls.
+ * mount, forward or in reverse, or one of the ways in which a packet ends past memory or a long record is moved (some
+ * 4,000 rounds have them all). The same seed makes the same calls.
  */
 #include "plain.h"
 #include "ts11.h"
@@ -22,8 +22,9 @@
 #define SLACK 4096     /* bytes behind each buffer, which are compared too; wrong lengths reach into them */
 #define SMALL 24576    /* up to so many bytes are compared whole after each call, else what the call touched */
 #define RARELY 64      /* .. and the whole after one call in so many */
-#define BUILT_MOST 200 /* blocks of a reel that a round builds on */
+#define BUILT_MOST 300 /* blocks of a reel that a round builds on */
 #define REMEMBERED 256 /* objects of them, by length and place */
+#define LONG_ROUNDS 8  /* one round in so many has buffers for long records */
 
 /* ---- random numbers ---------------------------------------------------------------------------------------------- */
 
@@ -120,12 +121,22 @@ static const uint16_t commands[] = {
 enum { OVERHANGS = 7, HEADER_ASTRIDE = 7, OVERHANG_HEADERS = COMMANDS + 1, NO_COMMAND = 2, FLAGS = 16 };
 enum { OVERHANG_WAYS = OVERHANG_HEADERS * OVERHANGS * FLAGS };
 
+/* Lengths about 16,384 and about the limit; what is done with such a record, where on the reel, SWB and journal. */
+static const size_t long_lengths[] = {16383, 16384, 16385, 65534, 65535};
+enum { LONG_LENGTHS = sizeof long_lengths / sizeof long_lengths[0] };
+enum deed { WRITE_IT, RETRY_IT, READ_IT, READ_IT_IN_REVERSE, DEEDS };
+enum place { ANYWHERE, AT_THE_END, A_BLOCK_SHORT, PLACES };
+enum { LONG_WAYS = LONG_LENGTHS * DEEDS * PLACES * 4 };
+
+/* The longest record's blocks, and the longest entry: that of a retry, with the gap. */
+enum { LONGEST = 131, LONGEST_ENTRY = TS11_ENTRY_HEAD + TS11_MESSAGE_BYTES + (LONGEST + 1) * TS11_BLOCK };
+
 static uint64_t seed;
 static size_t round_number, round_calls;
 static size_t calls_made, idles, undone;
 static size_t answers[TS11_JOURNAL_FULL + 1], classes[TS11_CLASS_LOST + 1], carried_out[COMMANDS];
 static unsigned xst0_seen, xst3_seen;
-static size_t overhung[OVERHANG_WAYS];
+static size_t overhung[OVERHANG_WAYS], long_given[LONG_WAYS];
 
 /* Who met a block at fault, and the fault: of the block itself, or last, of its place. */
 enum meeting { BY_MOUNT, FORWARD, REVERSE, MEETINGS };
@@ -466,8 +477,12 @@ static void give_words(size_t at, const uint16_t *words, size_t n)
 		poke(at, bytes, 2 * n);
 }
 
+static bool long_round; /* memory holds the longest record; reel and journal have room for it, or a little less */
+
 static size_t pick_memory(void)
 {
+	if (long_round)
+		return one_in(3) ? TS11_MEMORY_MAX : TS11_RECORD_MAX + 1 + 2 * below(4000);
 	switch (below(12)) {
 	case 0: return 2 + 2 * below(32);
 	case 1: return TS11_MEMORY_MAX;
@@ -481,10 +496,11 @@ static size_t pick_blocks(void)
 {
 	if (one_in(100))
 		return TS11_REEL_BLOCKS_MAX;
-	switch (below(6)) {
+	switch (below(long_round ? 4 : 6)) {
 	case 0: return TS11_EOT_MARGIN - 2 + below(8);
-	case 1: case 2: return 1 + below(200);
-	default: return 1 + below(16);
+	case 1: return 1 + below(BUILT_MOST);
+	case 2: return TS11_EOT_MARGIN + 1 + below(BUILT_MOST - TS11_EOT_MARGIN);
+	default: return long_round ? LONGEST - 1 + below(4) : 1 + below(16);
 	}
 }
 
@@ -492,6 +508,8 @@ static size_t pick_journal(void)
 {
 	if (one_in(100))
 		return TS11_JOURNAL_MAX - below(2) * below(1000);
+	if (long_round)
+		return LONGEST_ENTRY - 1000 + below(one_in(2) ? 2000 : 3 * LONGEST_ENTRY);
 	switch (below(10)) {
 	case 0: return below(TS11_ENTRY_HEAD * 3);
 	case 1: return below(4096);
@@ -513,6 +531,11 @@ static void set_check(uint8_t *block)
 	put_word(block + TS11_BLOCK_CHECK, sum % 65535);
 }
 
+static size_t blocks_of(size_t length)
+{
+	return (length + TS11_BLOCK_DATA - 1) / TS11_BLOCK_DATA;
+}
+
 static void put_block(size_t k, unsigned kind, size_t n, size_t i)
 {
 	uint8_t *b = worlds[0].reel + k * TS11_BLOCK;
@@ -527,10 +550,12 @@ static void put_block(size_t k, unsigned kind, size_t n, size_t i)
 
 static size_t pick_length(void)
 {
-	static const size_t corners[] = {1, 2, 503, 504, 505, 1007, 1008, 1009, 16383, 16384};
+	static const size_t corners[] = {1, 2, 503, 504, 505, 1007, 1008, 1009, 65520, 65521};
+	if (one_in(long_round ? 3 : 16))
+		return long_lengths[below(LONG_LENGTHS)];
 	switch (below(8)) {
 	case 0: return corners[below(sizeof corners / sizeof corners[0])];
-	case 1: return 1 + below(TS11_RECORD_MAX);
+	case 1: return 1 + below(one_in(2) ? TS11_RECORD_MAX : 16384);
 	case 2: case 3: return 1 + below(2500);
 	default: return 1 + below(300);
 	}
@@ -541,7 +566,7 @@ static void build_object(size_t limit)
 {
 	unsigned kind = one_in(5) ? TS11_KIND_GAP : one_in(4) ? TS11_KIND_MARK : TS11_KIND_RECORD;
 	size_t n = kind == TS11_KIND_RECORD ? pick_length() : 0;
-	size_t blocks = kind == TS11_KIND_RECORD ? (n + TS11_BLOCK_DATA - 1) / TS11_BLOCK_DATA : 1;
+	size_t blocks = kind == TS11_KIND_RECORD ? blocks_of(n) : 1;
 	if (blocks > limit - built_end)
 		return;
 	for (size_t i = 0; i < blocks; i++)
@@ -577,16 +602,12 @@ static uint8_t *built_block(void)
 	return worlds[0].reel + (built_from + below(built_end - built_from)) * TS11_BLOCK;
 }
 
-/* A record that is whole but for its length, in place of what is built first. */
-static void build_too_long(void)
+/* A sound piece of a long record: the first, which the end cuts off, the last, which reaches below block 0, or any. */
+static void harm_place(uint8_t *b)
 {
-	size_t blocks = TS11_RECORD_MAX / TS11_BLOCK_DATA + 1;
-	uint8_t *from = worlds[0].reel + built_from * TS11_BLOCK;
-	if (built_end - built_from < blocks)
-		return;
-	for (size_t i = 0; i < blocks; i++)
-		put_block(built_from + i, TS11_KIND_RECORD, TS11_RECORD_MAX + 1, i);
-	memcpy(worlds[1].reel + built_from * TS11_BLOCK, from, blocks * TS11_BLOCK);
+	size_t n = long_lengths[below(LONG_LENGTHS)], last = blocks_of(n) - 1;
+	size_t i = one_in(4) ? below(last + 1) : one_in(2) ? 0 : last;
+	put_block((size_t)(b - worlds[0].reel) / TS11_BLOCK, TS11_KIND_RECORD, n, i);
 }
 
 /* The sum becomes 0, and the check word what is 0 modulo 65,535 too, but is none. */
@@ -598,23 +619,22 @@ static void check_wrongly(uint8_t *b)
 	put_word(b + TS11_BLOCK_CHECK, 0xFFFF);
 }
 
-/* A length about the limit, or about a whole number of blocks. */
+/* A length about the limit, or about a whole number of blocks; of a record 0 alone is a wrong one. */
 static void harm_length(uint8_t *b)
 {
-	static const size_t corners[] = {0, 1, 504, 505, 1008, 1009, 16384, 16385, 65535};
+	static const size_t corners[] = {0, 0, 0, 1, 504, 505, 1008, 1009, 16383, 16384, 16385, 65534, 65535};
 	put_word(b + TS11_BLOCK_LENGTH, corners[below(sizeof corners / sizeof corners[0])]);
 }
 
 /* An index about the record's last. */
 static void harm_index(uint8_t *b)
 {
-	size_t pieces = (word_at(b + TS11_BLOCK_LENGTH) + TS11_BLOCK_DATA - 1) / TS11_BLOCK_DATA;
-	put_word(b + TS11_BLOCK_INDEX, pieces + below(4) - 2);
+	put_word(b + TS11_BLOCK_INDEX, blocks_of(word_at(b + TS11_BLOCK_LENGTH)) + below(4) - 2);
 }
 
 static void harm(uint8_t *b)
 {
-	switch (below(8)) {
+	switch (below(9)) {
 	case 0: b[below(TS11_BLOCK)] ^= (uint8_t)(1 << below(8)); break;
 	case 1: b[below(TS11_BLOCK_BYTES)] = (uint8_t)below(one_in(2) ? 4 : 256); break;
 	case 2: b[TS11_BLOCK_CHECK - 1] = (uint8_t)below(256); break;
@@ -622,6 +642,7 @@ static void harm(uint8_t *b)
 	case 4: b[TS11_BLOCK_BYTES + below(TS11_BLOCK_DATA)] ^= (uint8_t)(1 + below(255)); break;
 	case 5: harm_length(b); break;
 	case 6: harm_index(b); break;
+	case 7: harm_place(b); break;
 	default: check_wrongly(b); break;
 	}
 }
@@ -631,8 +652,6 @@ static void damage(void)
 {
 	if (built_end == built_from)
 		return;
-	if (one_in(8))
-		build_too_long();
 	uint8_t *b = built_block();
 	harm(b);
 	if (one_in(3))
@@ -884,6 +903,150 @@ static void give_overhang(void)
 		try_back();
 }
 
+/* ---- long records ------------------------------------------------------------------------------------------------ */
+
+/* One of the ways in which a command waits that moves a long record. */
+struct long_way {
+	size_t length;
+	enum deed deed;
+	enum place place;
+	bool swb, byte_short; /* the journal has a byte too few for the entry */
+};
+
+static struct long_way long_way_by_number(size_t n)
+{
+	return (struct long_way){.length = long_lengths[n / 4 / PLACES / DEEDS], .deed = n / 4 / PLACES % DEEDS,
+	                         .place = n / 4 % PLACES, .swb = n & 1, .byte_short = n >> 1 & 1};
+}
+
+static bool reads(const struct long_way *w)
+{
+	return w->deed == READ_IT || w->deed == READ_IT_IN_REVERSE;
+}
+
+/* The blocks from the place on that the command reads or writes. */
+static size_t blocks_needed(const struct long_way *w)
+{
+	return blocks_of(w->length) + (w->deed == RETRY_IT);
+}
+
+/* The entry where it is answered 0: what does not fit on the reel saves no block. */
+static size_t entry_of(const struct long_way *w)
+{
+	size_t entry = TS11_ENTRY_HEAD + TS11_MESSAGE_BYTES;
+	if (reads(w))
+		return entry + w->length;
+	return entry + (w->place == A_BLOCK_SHORT ? 0 : blocks_needed(w) * TS11_BLOCK);
+}
+
+static void put_alike(size_t k, unsigned kind, size_t n, size_t i)
+{
+	put_block(k, kind, n, i);
+	memcpy(worlds[1].reel + k * TS11_BLOCK, worlds[0].reel + k * TS11_BLOCK, TS11_BLOCK);
+}
+
+/*
+ * The first block of the place. A block short, a write runs over the reel's end and a record that is read is cut off
+ * there; in reverse it reaches below block 0, and this is then the block of its second piece.
+ */
+static size_t place_of(const struct long_way *w)
+{
+	size_t reel = held.reel / TS11_BLOCK, needed = blocks_needed(w);
+	switch (w->place) {
+	case ANYWHERE: return below(reel - needed + 1);
+	case AT_THE_END: return reel - needed;
+	default: return w->deed == READ_IT_IN_REVERSE ? 0 : reel - needed + 1;
+	}
+}
+
+/* What the command finds on the reel, and where the tape stands: the record before or behind it, or a retry's mark. */
+static void put_tape(const struct long_way *w, size_t at)
+{
+	bool cut = reads(w) && w->place == A_BLOCK_SHORT, reverse = w->deed == READ_IT_IN_REVERSE;
+	size_t there = reads(w) ? blocks_needed(w) - cut : w->deed == RETRY_IT, end = at + there;
+	for (size_t i = 0; i < there; i++)
+		put_alike(at + i, reads(w) ? TS11_KIND_RECORD : TS11_KIND_MARK, reads(w) ? w->length : 0, i + (cut && reverse));
+	put_state(TS11_AT_POSITION, (uint32_t)(w->deed == READ_IT ? at : end));
+	put_state(TS11_AT_END, (uint32_t)end);
+}
+
+/* The packet waits, nothing else is in the command's way, and the journal has as much room as the way has it. */
+static void put_long(const struct long_way *w, size_t at)
+{
+	static const uint16_t headers[DEEDS] = {TS11_WRITE, TS11_WRITE_RETRY, TS11_READ_NEXT, TS11_READ_PREVIOUS};
+	uint16_t header = headers[w->deed] | TS11_ACK | TS11_CVC | (w->swb ? TS11_SWB : 0);
+	size_t packet = below(held.memory - TS11_PACKET_BYTES + 1), data = below(held.memory - w->length + 1);
+	size_t used = held.journal - entry_of(w) + w->byte_short;
+	const uint16_t words[4] = {header, (uint16_t)data, (uint16_t)(data >> 16), (uint16_t)w->length};
+	for (int i = 0; i < 2; i++)
+		for (size_t k = 0; k < 4; k++)
+			put_word(worlds[i].memory + packet + 2 * k, words[k]);
+	put_tape(w, at);
+	put_state(TS11_AT_POINTER, (uint32_t)packet);
+	put_state(TS11_AT_SSR, 0);
+	put_state(TS11_AT_NBA, 0);
+	put_state(TS11_AT_PENDING, 0);
+	put_state(TS11_AT_ONLINE, 1);
+	put_state(TS11_AT_LOCKED, 0);
+	make_up_message_buffer();
+	put_state(TS11_AT_USED, (uint32_t)used);
+	memcpy(worlds[1].journal, worlds[0].journal, used);
+}
+
+static ts11_answer answer_of(const struct long_way *w)
+{
+	if (reads(w) && w->place == A_BLOCK_SHORT)
+		return TS11_BAD_BLOCK;
+	return w->byte_short ? TS11_JOURNAL_FULL : TS11_DONE;
+}
+
+/* The class of a command that is answered 0; what it wrote may end at or past the EOT marker. */
+static uint32_t class_of_long(const struct long_way *w, size_t at)
+{
+	if (reads(w))
+		return TS11_CLASS_NORMAL;
+	if (w->place == A_BLOCK_SHORT)
+		return TS11_CLASS_REJECT;
+	return at + blocks_needed(w) + TS11_EOT_MARGIN >= held.reel / TS11_BLOCK ? TS11_CLASS_STATUS : TS11_CLASS_NORMAL;
+}
+
+/* How it ended. What has no room on the reel finds EOT set (step 11). */
+static void expect_long_end(const struct long_way *w, size_t at, const struct out *done)
+{
+	const uint8_t *message = worlds[0].memory + state_at(TS11_AT_MESSAGE);
+	bool short_of_blocks = w->place == A_BLOCK_SHORT;
+	if (done->answer != answer_of(w))
+		differ("advance", "%zu bytes, deed %d, place %d at block %zu: answer %zu, not %zu", w->length, (int)w->deed,
+		       (int)w->place, at, done->answer, answer_of(w));
+	if (done->answer == TS11_BAD_BLOCK && done->fault != TS11_FAULT_INDEX)
+		differ("advance", "%zu bytes, deed %d, cut off at block %zu: fault %u", w->length, (int)w->deed, at,
+		       done->fault);
+	if (done->answer == TS11_DONE && state_at(TS11_AT_CLASS) != class_of_long(w, at))
+		differ("advance", "%zu bytes, deed %d, place %d at block %zu: class %u, not %u", w->length, (int)w->deed,
+		       (int)w->place, at, (unsigned)state_at(TS11_AT_CLASS), (unsigned)class_of_long(w, at));
+	if (done->answer == TS11_DONE && short_of_blocks && !(word_at(message + TS11_MESSAGE_XST0) & TS11_XST0_EOT))
+		differ("advance", "%zu bytes, deed %d: no room at block %zu, and EOT is not set", w->length, (int)w->deed, at);
+}
+
+/* Each way in its turn; one that the buffers have no room for comes again. The round goes on with the state as it stood, over what was laid and stored. */
+static void give_long(void)
+{
+	static size_t given;
+	struct long_way w = long_way_by_number(given);
+	ts11_state kept = worlds[0].state;
+	if (held.journal < entry_of(&w) || held.reel / TS11_BLOCK + (w.place == A_BLOCK_SHORT) < blocks_needed(&w))
+		return;
+	size_t at = place_of(&w);
+	put_long(&w, at);
+	struct out done = try_advance();
+	expect_long_end(&w, at, &done);
+	if (done.answer == TS11_DONE)
+		try_back();
+	long_given[given]++;
+	given = (given + 1) % LONG_WAYS;
+	worlds[0].state = worlds[1].state = kept;
+}
+
 static void host_store(void)
 {
 	static uint8_t bytes[70000];
@@ -1027,6 +1190,8 @@ static void take_turn(void)
 		damage();
 	if (one_in(30))
 		give_overhang();
+	if (long_round && one_in(4))
+		give_long();
 	if (one_in(3))
 		odd_turn();
 	else
@@ -1035,6 +1200,7 @@ static void take_turn(void)
 
 static void run_round(void)
 {
+	long_round = one_in(LONG_ROUNDS);
 	held.memory = pick_memory();
 	held.reel = pick_blocks() * TS11_BLOCK;
 	held.journal = pick_journal();
@@ -1077,13 +1243,13 @@ static bool missed(const char *what, unsigned number, size_t times)
 	return times == 0;
 }
 
-static bool overhang_missed(void)
+static bool ways_missed(const char *what, const size_t *given, size_t ways)
 {
 	size_t times = 0;
-	for (size_t n = 0; n < OVERHANG_WAYS; n++)
-		times += overhung[n] == 0;
+	for (size_t n = 0; n < ways; n++)
+		times += given[n] == 0;
 	if (times != 0)
-		fprintf(stderr, "compare: %zu of %d ways of a packet past memory never occurred\n", times, OVERHANG_WAYS);
+		fprintf(stderr, "compare: %zu of %zu ways of %s never occurred\n", times, ways, what);
 	return times != 0;
 }
 
@@ -1102,7 +1268,9 @@ static bool fault_missed(void)
 
 static bool anything_missed(void)
 {
-	bool any = missed("idle advance", 0, idles) | overhang_missed() | fault_missed();
+	bool any = missed("idle advance", 0, idles) | fault_missed();
+	any |= ways_missed("a packet past memory", overhung, OVERHANG_WAYS);
+	any |= ways_missed("a long record", long_given, LONG_WAYS);
 	any |= missed("step back", 0, undone);
 	for (unsigned i = TS11_BAD_STATE; i <= TS11_JOURNAL_FULL; i++)
 		any |= missed("refusal", i, answers[i]);

@@ -15,7 +15,7 @@ _Static_assert(TS11_STACK_BYTES == 2048, "what hosts were told; stack.c shows th
 
 /* ---- the unit under test ----------------------------------------------------------------------------------------- */
 
-enum { MEMORY_BYTES = 4096, REEL_BLOCKS = 80, JOURNAL_BYTES = 65536, TAPE_END = 9, HERE = 3 };
+enum { MEMORY_BYTES = 4096, REEL_BLOCKS = 176, JOURNAL_BYTES = 65536, TAPE_END = 9, HERE = 3 };
 
 static struct unit u;
 
@@ -144,7 +144,7 @@ static void test_record_limits(void)
 		{ TS11_BLOCK_DATA, 1, TS11_CLASS_NORMAL },
 		{ TS11_BLOCK_DATA + 1, 2, TS11_CLASS_NORMAL },
 		{ TS11_RECORD_MAX, (TS11_RECORD_MAX + 503) / 504, TS11_CLASS_STATUS },
-		{ TS11_RECORD_MAX + 1, 0, TS11_CLASS_REJECT },
+		{ TS11_RECORD_MAX + 1, 0, TS11_CLASS_REJECT }, /* in the count's word this is 0 */
 	};
 	ROWS(k, rows) {
 		context("record of %zu bytes", rows[k].length);

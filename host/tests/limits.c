@@ -488,10 +488,13 @@ static void test_least_memory(void)
 	free_unit(&u);
 }
 
+/* Blocks of a reel on which the longest record ends well before the EOT marker. */
+enum { ROOMY = 400 };
+
 static struct unit unit_of_memory(size_t memory)
 {
 	static const uint8_t record[] = "to the last byte";
-	struct unit u = make_unit(memory, 128 * TS11_BLOCK, TS11_JOURNAL_MAX / 16, 0);
+	struct unit u = make_unit(memory, ROOMY * TS11_BLOCK, TS11_JOURNAL_MAX / 16, 0);
 	lay_record(u.reel.at, 0, record, 16);
 	EXPECT("the mount", mount(&u, 1, true, false).answer, TS11_DONE);
 	return u;
@@ -739,6 +742,11 @@ static const struct placed placed[] = {
 	{ "the same with a wrong check", 0, PIECE, HARMED_BLOCKS * 504 + 1, 0, WRONG_CHECK, 0, 0, C, 0, HARMED_BLOCKS },
 	{ "the longest record, cut off", 1, PIECE, TS11_RECORD_MAX, 0, 0, 1, 2, I, I, 0 },
 	{ "the same with a wrong check", 1, PIECE, TS11_RECORD_MAX, 0, WRONG_CHECK, 1, 2, C, C, 0 },
+	{ "a record of 16,385 bytes, cut off", 1, PIECE, 16385, 0, 0, 1, 2, I, I, 0 },
+	{ "the same with a wrong check", 1, PIECE, 16385, 0, WRONG_CHECK, 1, 2, C, C, 0 },
+	{ "the longest record's last piece", 4, PIECE, TS11_RECORD_MAX, 130, 0, 4, 5, I, I, 0 },
+	{ "the same with a wrong check", 4, PIECE, TS11_RECORD_MAX, 130, WRONG_CHECK, 4, 5, C, C, 0 },
+	{ "the same with a byte behind it", 4, PIECE, TS11_RECORD_MAX, 130, FIRST_PADDING, 4, 5, P, P, 0 },
 	{ "a record that reaches below block 0", 0, PIECE, LONG, 2, 0, 0, 1, I, I, 0 },
 	{ "the same with a wrong check", 0, PIECE, LONG, 2, WRONG_CHECK, 0, 1, C, C, 0 },
 	{ "the same with a byte behind it", 0, PIECE, LONG, 2, FIRST_PADDING, 0, 1, P, P, 0 },
@@ -748,14 +756,16 @@ static const struct placed placed[] = {
 	{ "an index past the last, for an object", 4, PIECE, LONG, 3, 0, 4, 5, I, I, 0 },
 	{ "the same with a wrong check", 4, PIECE, LONG, 3, WRONG_CHECK, 4, 5, I, I, 0 },
 	{ "an index past the last, for a piece", 2, PIECE, LONG, 3, WRONG_CHECK, 1, 4, I, I, 0 },
+	{ "an index past the last of the longest record", 4, PIECE, TS11_RECORD_MAX, 131, WRONG_CHECK, 4, 5, I, I, 0 },
 	{ "an index past the last of a full block", 4, PIECE, 504, 1, WRONG_CHECK, 4, 5, I, I, 0 },
 	{ "a byte more, and the index is the last", 4, PIECE, 505, 1, WRONG_CHECK, 4, 5, C, C, 0 },
 	{ "an index of all ones", 3, PIECE, LONG, 0xFFFF, 0, 1, 4, I, I, 0 },
 	{ "a mark with an index", 4, MARK, 0, 1, WRONG_CHECK, 4, 5, I, I, 0 },
 	{ "a gap with an index", 7, GAP, 0, 256, FIRST_PADDING, 7, 8, I, I, 0 },
-	{ "a length over the limit, for an object", 4, PIECE, TS11_RECORD_MAX + 1, 0, 0, 4, 5, N, N, 0 },
-	{ "a length over the limit, for a piece", 2, PIECE, TS11_RECORD_MAX + 1, 1, 0, 1, 4, N, N, 0 },
-	{ "a length of all ones", 3, PIECE, 0xFFFF, 2, 0, 1, 4, N, N, 0 },
+	{ "a piece of a record of 16,385 bytes", 2, PIECE, 16385, 1, 0, 1, 4, I, I, 0 },
+	{ "a piece of the longest record", 3, PIECE, TS11_RECORD_MAX, 2, 0, 1, 4, I, I, 0 },
+	{ "the same with a wrong check", 3, PIECE, TS11_RECORD_MAX, 2, WRONG_CHECK, 1, 4, C, C, 0 },
+	{ "a mark with a length of all ones", 4, MARK, 0xFFFF, 0, 0, 4, 5, N, N, 0 },
 	{ "a length of 0, for an object", 4, PIECE, 0, 0, 0, 4, 5, N, N, 0 },
 	{ "a length of 0, for a piece", 2, PIECE, 0, 1, 0, 1, 4, N, N, 0 },
 	{ "a data byte flipped in a first piece", 1, PIECE, LONG, 0, FLIPPED, 1, 4, C, C, 0 },
@@ -834,13 +844,13 @@ static const struct {
 static const uint8_t faults[] = { K, N, I, P, C };
 enum { FAULTS = COUNT(faults), PADDING_BIT = 1 << 3 };
 
-/* Makes each thing of a set wrong, whatever the rest of the block is. */
+/* Makes each thing of a set wrong, whatever the rest of the block is. Of a record 0 alone is a wrong length. */
 static void harm_block(uint8_t *block, unsigned set)
 {
+	if (set & 2)
+		put_word(block + TS11_BLOCK_LENGTH, word_at(block + TS11_BLOCK_KIND) == PIECE ? 0 : 0xFFFF);
 	if (set & 1)
 		put_word(block + TS11_BLOCK_KIND, GAP + 1);
-	if (set & 2)
-		put_word(block + TS11_BLOCK_LENGTH, 0xFFFF);
 	if (set & 4)
 		put_word(block + TS11_BLOCK_INDEX, 0xFFFF);
 	if (set & PADDING_BIT)
@@ -903,59 +913,127 @@ static void test_blocks_at_fault(void)
 
 /* ---- records and small reels ------------------------------------------------------------------------------------- */
 
-/* Written, then read back in both directions. */
-static void expect_record(size_t length, size_t blocks)
+/* A data buffer's bytes in their order: with SWB byte i lies at its address with the lowest bit flipped. */
+static void gather(uint8_t *bytes, const struct unit *u, size_t from, size_t length, bool swapped)
 {
-	struct unit u = unit_of_memory(TS11_MEMORY_MAX / 2);
-	size_t entry = TS11_ENTRY_HEAD + TS11_MESSAGE_BYTES;
+	for (size_t i = 0; i < length; i++)
+		bytes[i] = u->memory.at[(from + i) ^ swapped];
+}
+
+/* The record's blocks are those of the second writing of them. */
+static void expect_laid(const struct unit *u, size_t at, const uint8_t *bytes, size_t length)
+{
+	size_t n = pieces(length) * TS11_BLOCK;
+	uint8_t *wanted = need(malloc(n));
+	lay_record(wanted, 0, bytes, length);
+	EXPECT_BYTES("the blocks", u->reel.at + at * TS11_BLOCK, wanted, n);
+	free(wanted);
+}
+
+/* Back over the record and forward again, to another place. */
+static void expect_read_back(struct unit *u, const uint8_t *bytes, size_t length, uint16_t swb)
+{
+	size_t to = DATA + 2 * TS11_RECORD_MAX;
+	uint8_t *got = need(malloc(length));
+	for (int reverse = 1; reverse >= 0; reverse--) {
+		memset(u->memory.at + to, 0, length + 1);
+		struct ending e =
+			command(u, (reverse ? TS11_READ_PREVIOUS : TS11_READ_NEXT) | TS11_ACK | swb, to, (uint16_t)length);
+		expect_class("read", e, TS11_CLASS_NORMAL);
+		EXPECT("entry of the read", e.entry, TS11_ENTRY_HEAD + TS11_MESSAGE_BYTES + length);
+		EXPECT("position", number(u, TS11_AT_POSITION), reverse ? 0 : pieces(length));
+		gather(got, u, to, length, swb);
+		EXPECT_BYTES("data", got, bytes, length);
+	}
+	free(got);
+}
+
+/* A copy of what a step changes, to hold the buffers to after as many steps back. */
+struct kept {
+	uint8_t *state, *memory, *reel;
+};
+
+static uint8_t *kept_bytes(const struct buffer *b)
+{
+	return memcpy(need(malloc(b->length)), b->at, b->length);
+}
+
+static void expect_undone(struct unit *u, int steps, struct kept *before)
+{
+	for (int k = 0; k < steps; k++)
+		EXPECT("step back", step_back(u).answer, TS11_DONE);
+	EXPECT_BYTES("the state before", u->state.at, before->state, u->state.length);
+	EXPECT_BYTES("memory before", u->memory.at, before->memory, u->memory.length);
+	EXPECT_BYTES("the reel before", u->reel.at, before->reel, u->reel.length);
+	free(before->state);
+	free(before->memory);
+	free(before->reel);
+}
+
+/* Written, read back in both directions, and all of it undone: each command is a store of its packet, a TSDB write and an advance. */
+static void expect_record(size_t length, size_t blocks, uint16_t swb)
+{
+	struct unit u = unit_of_memory(TS11_MEMORY_MAX);
 	bool written = blocks > 0;
-	context("record of %zu bytes", length);
+	uint8_t *bytes = need(malloc(length + 1));
+	context("record of %zu bytes%s", length, swb ? ", SWB" : "");
 	characteristics(&u, TS11_CVC, MESSAGE, TS11_MESSAGE_BYTES, 0);
-	make_bytes(u.memory.at + DATA, length, 3);
-	struct ending e = command(&u, TS11_WRITE | TS11_ACK, DATA, (uint16_t)length);
+	make_bytes(u.memory.at + DATA, length + 1, 3);
+	gather(bytes, &u, DATA, length, swb);
+	struct kept before = { kept_bytes(&u.state), kept_bytes(&u.memory), kept_bytes(&u.reel) };
+	struct ending e = command(&u, TS11_WRITE | TS11_ACK | swb, DATA, (uint16_t)length);
 	expect_class("write", e, written ? TS11_CLASS_NORMAL : TS11_CLASS_REJECT);
 	EXPECT("XST0 of the write", e.xst0, READY | (written ? TS11_XST0_MOT : TS11_XST0_NEF | TS11_XST0_BOT));
-	EXPECT("entry of the write", e.entry, entry + blocks * TS11_BLOCK);
+	EXPECT("entry of the write", e.entry, TS11_ENTRY_HEAD + TS11_MESSAGE_BYTES + blocks * TS11_BLOCK);
 	EXPECT("position", number(&u, TS11_AT_POSITION), blocks);
 	EXPECT("recorded end", number(&u, TS11_AT_END), written ? blocks : 1);
-	for (int reverse = 1; written && reverse >= 0; reverse--) {
-		size_t to = DATA + 2 * TS11_RECORD_MAX;
-		memset(u.memory.at + to, 0, length);
-		e = command(&u, (reverse ? TS11_READ_PREVIOUS : TS11_READ_NEXT) | TS11_ACK, to, (uint16_t)length);
-		expect_class("read", e, TS11_CLASS_NORMAL);
-		EXPECT("entry of the read", e.entry, entry + length);
-		EXPECT("position", number(&u, TS11_AT_POSITION), reverse ? 0 : blocks);
-		EXPECT_BYTES("data", u.memory.at + to, u.memory.at + DATA, length);
+	if (written) {
+		expect_laid(&u, 0, bytes, length);
+		expect_read_back(&u, bytes, length, swb);
 	}
+	expect_undone(&u, written ? 9 : 3, &before);
+	free(bytes);
 	free_unit(&u);
 	context("");
 }
 
 static void test_records(void)
 {
-	expect_record(0, 0);
-	expect_record(1, 1);
-	expect_record(TS11_BLOCK_DATA, 1);
-	expect_record(TS11_BLOCK_DATA + 1, 2);
-	expect_record(TS11_RECORD_MAX, 33);
-	expect_record(TS11_RECORD_MAX + 1, 0);
-	expect_record(65535, 0);
+	static const struct {
+		size_t length, blocks;
+	} rows[] = {
+		{ 0, 0 },
+		{ 1, 1 },
+		{ TS11_BLOCK_DATA, 1 },
+		{ TS11_BLOCK_DATA + 1, 2 },
+		{ 16383, 33 },
+		{ 16384, 33 },
+		{ 16385, 33 },
+		{ 130 * TS11_BLOCK_DATA, 130 },
+		{ 130 * TS11_BLOCK_DATA + 1, 131 },
+		{ TS11_RECORD_MAX - 1, 131 },
+		{ TS11_RECORD_MAX, 131 },
+	};
+	ROWS(k, rows) {
+		expect_record(rows[k].length, rows[k].blocks, 0);
+		expect_record(rows[k].length, rows[k].blocks, TS11_SWB);
+	}
 }
 
 /* A reel of few blocks filled with marks: class 2 from the one that ends at the marker on, then no room. */
-static void test_small_reel(size_t blocks)
+static void test_small_reel(size_t blocks, size_t marker)
 {
-	size_t marker = blocks < TS11_EOT_MARGIN ? 0 : blocks - TS11_EOT_MARGIN;
 	struct unit u = make_unit(SMALL_JOURNAL, blocks * TS11_BLOCK, TS11_JOURNAL_MAX / 16, 0);
 	context("reel of %zu blocks", blocks);
 	EXPECT("the mount", mount(&u, 0, true, false).answer, TS11_DONE);
-	characteristics(&u, TS11_CVC, MESSAGE, TS11_MESSAGE_BYTES, 0);
+	struct ending e = characteristics(&u, TS11_CVC, MESSAGE, TS11_MESSAGE_BYTES, 0);
+	EXPECT("XST0 at block 0", e.xst0, READY | TS11_XST0_BOT | (marker == 0 ? TS11_XST0_EOT : 0));
 	for (size_t k = 1; k <= blocks; k++) {
-		struct ending e = command(&u, TS11_WRITE_MARK | TS11_ACK, 0, 0);
+		e = command(&u, TS11_WRITE_MARK | TS11_ACK, 0, 0);
 		expect_class("a mark", e, k < marker ? TS11_CLASS_NORMAL : TS11_CLASS_STATUS);
 		EXPECT("XST0", e.xst0, READY | TS11_XST0_TMK | TS11_XST0_MOT | (k < marker ? 0 : TS11_XST0_EOT));
 	}
-	struct ending e = command(&u, TS11_WRITE_MARK | TS11_ACK, 0, 0);
+	e = command(&u, TS11_WRITE_MARK | TS11_ACK, 0, 0);
 	expect_class("a mark too many", e, TS11_CLASS_REJECT);
 	EXPECT("XST0", e.xst0, READY | TS11_XST0_NEF | TS11_XST0_EOT);
 	EXPECT("position", number(&u, TS11_AT_POSITION), blocks);
@@ -963,17 +1041,122 @@ static void test_small_reel(size_t blocks)
 	context("");
 }
 
+static void test_small_reels(void)
+{
+	test_small_reel(1, 0);
+	test_small_reel(159, 0);
+	test_small_reel(160, 0);
+	test_small_reel(161, 1);
+	test_small_reel(162, 2);
+}
+
+/* ---- room for long records --------------------------------------------------------------------------------------- */
+
+/* The longest record's blocks, those from the EOT marker to the end, and memory in which such a record just lies. */
+enum { LONG_BLOCKS = 131, FROM_MARKER = 160, LONG_MEMORY = DATA + TS11_RECORD_MAX + 1 };
+
+/* At a made-up position, to which no block below it matters; a retry finds a mark before it. */
+static struct unit unit_with_room(size_t left, bool retry)
+{
+	struct unit u = unit_of_memory(LONG_MEMORY);
+	size_t at = ROOMY - left;
+	characteristics(&u, TS11_CVC, MESSAGE, TS11_MESSAGE_BYTES, 0);
+	make_bytes(u.memory.at + DATA, TS11_RECORD_MAX, (unsigned)left);
+	if (retry)
+		at = lay_mark(u.reel.at, at);
+	set_number(&u, TS11_AT_END, (uint32_t)at);
+	set_number(&u, TS11_AT_POSITION, (uint32_t)at);
+	return u;
+}
+
+/* A record, or a retry's gap and record in a mark's place, with so many blocks left: it fits, or finds EOT (step 11). */
+static void expect_room(size_t length, bool retry, size_t left)
+{
+	struct unit u = unit_with_room(left, retry);
+	size_t before = number(&u, TS11_AT_POSITION), needed = pieces(length) + retry;
+	bool fits = needed <= left, eot = !fits || left - needed <= FROM_MARKER;
+	size_t after = fits ? ROOMY - left + needed : before;
+	context("%s of %zu bytes with %zu blocks left", retry ? "retry" : "write", length, left);
+	struct ending e = command(&u, (retry ? TS11_WRITE_RETRY : TS11_WRITE) | TS11_ACK, DATA, (uint16_t)length);
+	expect_class("class", e, !fits ? TS11_CLASS_REJECT : eot ? TS11_CLASS_STATUS : TS11_CLASS_NORMAL);
+	EXPECT("XST0", e.xst0, READY | (fits ? TS11_XST0_MOT : TS11_XST0_NEF) | (eot ? TS11_XST0_EOT : 0));
+	EXPECT("XST3", e.xst3, 0);
+	EXPECT("residual", e.residual, 0);
+	EXPECT("entry", e.entry, TS11_ENTRY_HEAD + TS11_MESSAGE_BYTES + (fits ? needed * TS11_BLOCK : 0));
+	EXPECT("position", number(&u, TS11_AT_POSITION), after);
+	EXPECT("recorded end", number(&u, TS11_AT_END), after);
+	free_unit(&u);
+	context("");
+}
+
+static void test_room(void)
+{
+	static const size_t lengths[] = { 1, TS11_BLOCK_DATA + 1, 16384, 130 * TS11_BLOCK_DATA, TS11_RECORD_MAX };
+	for (int retry = 0; retry < 2; retry++) {
+		ROWS(k, lengths) {
+			size_t needed = pieces(lengths[k]) + (size_t)retry;
+			expect_room(lengths[k], retry, needed - 1);
+			expect_room(lengths[k], retry, needed);
+			expect_room(lengths[k], retry, needed + FROM_MARKER);
+			expect_room(lengths[k], retry, needed + FROM_MARKER + 1);
+		}
+		expect_room(TS11_RECORD_MAX, retry, 1);
+	}
+	expect_room(TS11_RECORD_MAX, false, 0);
+}
+
+/* Behind the longest record, with a command for such a one waiting. */
+static struct unit unit_with_long(size_t journal, uint16_t header)
+{
+	struct unit u = make_unit(LONG_MEMORY, ROOMY * TS11_BLOCK, journal, 0);
+	EXPECT("the longest record's blocks", lay_record(u.reel.at, 0, host, TS11_RECORD_MAX), LONG_BLOCKS);
+	EXPECT("the mount", mount(&u, LONG_BLOCKS, true, false).answer, TS11_DONE);
+	characteristics(&u, TS11_CVC, MESSAGE, TS11_MESSAGE_BYTES, 0);
+	set_number(&u, TS11_AT_POSITION, LONG_BLOCKS);
+	EXPECT("the packet's store", put_packet(&u, header | TS11_ACK, DATA, TS11_RECORD_MAX), TS11_DONE);
+	EXPECT("the TSDB write", write_tsdb(&u, TS11_TSDB(PACKET)).answer, TS11_DONE);
+	return u;
+}
+
+/* A journal with a byte less than the step's entry wants: nothing changes; and one with just enough, and back again. */
+static void test_long_entries(void)
+{
+	static const struct {
+		const char *name;
+		uint16_t header;
+		size_t entry;
+	} rows[] = {
+		{ "read", TS11_READ_PREVIOUS, 65677 },
+		{ "swapped read", TS11_READ_PREVIOUS | TS11_SWB, 65677 },
+		{ "write", TS11_WRITE, 67214 },
+		{ "write retry, which has the longest entry of all", TS11_WRITE_RETRY, 67726 },
+	};
+	ROWS(k, rows)
+		for (size_t less = 0; less < 2; less++) {
+			struct unit u = unit_with_long(SMALL_JOURNAL, rows[k].header);
+			size_t before = used(&u);
+			free_unit(&u);
+			context("%s of the longest record, with %zu bytes of room less", rows[k].name, less);
+			u = unit_with_long(before + rows[k].entry - less, rows[k].header);
+			struct kept bytes = { kept_bytes(&u.state), kept_bytes(&u.memory), kept_bytes(&u.reel) };
+			EXPECT("answer", advance(&u).answer, less ? TS11_JOURNAL_FULL : TS11_DONE);
+			EXPECT("used journal", used(&u), before + (less ? 0 : rows[k].entry));
+			expect_undone(&u, less ? 0 : 1, &bytes);
+			free_unit(&u);
+		}
+	context("");
+}
+
 /* ---- full size: the session -------------------------------------------------------------------------------------- */
 
 /*
- * On the reel: records of 1, 504 and 505 bytes, a gap, a mark, and records of 33 blocks up to PRERECORDED; the unit
- * writes WRITTEN more, then one that fills the reel to its very end.
+ * On the reel: records of 1, 504 and 505 bytes, a gap, a mark, and records of the greatest length up to PRERECORDED;
+ * the unit writes WRITTEN more, then one that fills the reel to its very end.
  */
 enum {
-	LONG_BLOCKS = 33,
 	AFTER_MARK = 6,
 	LONG_RECORDS = (TS11_REEL_BLOCKS_MAX - AFTER_MARK) / LONG_BLOCKS,
-	WRITTEN = 400,
+	WRITTEN = 200,
 	PRERECORDED = AFTER_MARK + (LONG_RECORDS - WRITTEN) * LONG_BLOCKS,
 	LONG_END = AFTER_MARK + LONG_RECORDS * LONG_BLOCKS,
 	LAST_BLOCKS = TS11_REEL_BLOCKS_MAX - LONG_END,
@@ -1057,22 +1240,27 @@ static void full_to_the_end(void)
 	EXPECT("XST3 past the end", e.xst3, TS11_XST3_OPI);
 }
 
+/* Where in memory record k comes from. */
+static size_t written_from(size_t k)
+{
+	return MEMORY_END - TS11_RECORD_MAX - 8 * k;
+}
+
 /* Records of the greatest length, the first from data that ends where memory ends; a byte further is no memory. */
 static void full_write(void)
 {
 	expect_command("data past memory", TS11_WRITE, MEMORY_END - TS11_RECORD_MAX + 1, TS11_RECORD_MAX,
 	               TS11_CLASS_UNMOVED, 0, 0, PRERECORDED);
 	for (size_t k = 0; k < WRITTEN; k++) {
-		size_t from = MEMORY_END - TS11_RECORD_MAX - 8 * k, end = PRERECORDED + (k + 1) * LONG_BLOCKS;
-		bool eot = end >= TS11_REEL_BLOCKS_MAX - TS11_EOT_MARGIN;
+		size_t from = written_from(k), end = PRERECORDED + (k + 1) * LONG_BLOCKS;
+		bool eot = end >= TS11_REEL_BLOCKS_MAX - FROM_MARKER;
 		struct ending e =
 			expect_command("write", TS11_WRITE, from, TS11_RECORD_MAX, eot ? TS11_CLASS_STATUS : TS11_CLASS_NORMAL,
 		                   TS11_XST0_MOT | (eot ? TS11_XST0_EOT : 0), 0, end);
 		EXPECT("entry", e.entry, TS11_ENTRY_HEAD + TS11_MESSAGE_BYTES + LONG_BLOCKS * TS11_BLOCK);
 		EXPECT("recorded end", number(&full, TS11_AT_END), end);
 	}
-	EXPECT_BYTES("the first record's first piece", full.reel.at + (size_t)PRERECORDED * TS11_BLOCK + TS11_BLOCK_BYTES,
-	             full.memory.at + MEMORY_END - TS11_RECORD_MAX, TS11_BLOCK_DATA);
+	expect_laid(&full, PRERECORDED, full.memory.at + written_from(0), TS11_RECORD_MAX);
 }
 
 /* Step 11: what does not fit is rejected, what just fits is written, and then nothing fits. */
@@ -1104,6 +1292,26 @@ static void full_read_last(void)
 	EXPECT("XST3", e.xst3, TS11_XST3_REV);
 	EXPECT("entry", e.entry, TS11_ENTRY_HEAD + TS11_MESSAGE_BYTES + LAST);
 	EXPECT_BYTES("its bytes", full.memory.at + MEMORY_END - LAST, bytes, LAST);
+	free(bytes);
+}
+
+/* The last of the longest records, in reverse and forward again; with SWB the bytes of each word change places. */
+static void full_read_long(void)
+{
+	enum { ENTRY = TS11_ENTRY_HEAD + TS11_MESSAGE_BYTES + TS11_RECORD_MAX, FIRST = LONG_END - LONG_BLOCKS };
+	size_t from = written_from(WRITTEN - 1);
+	uint8_t *bytes = need(malloc(TS11_RECORD_MAX));
+	struct ending e = expect_command("a long record in reverse", TS11_READ_PREVIOUS, DATA, TS11_RECORD_MAX,
+	                                 TS11_CLASS_NORMAL, TS11_XST0_MOT, 0, FIRST);
+	EXPECT("XST3", e.xst3, TS11_XST3_REV);
+	EXPECT("entry", e.entry, ENTRY);
+	EXPECT_BYTES("its bytes", full.memory.at + DATA, full.memory.at + from, TS11_RECORD_MAX);
+	e = expect_command("a long record forward, SWB", TS11_READ_NEXT | TS11_SWB, DATA, TS11_RECORD_MAX,
+	                   TS11_CLASS_NORMAL, TS11_XST0_MOT | TS11_XST0_EOT, 0, LONG_END);
+	EXPECT("XST3", e.xst3, 0);
+	EXPECT("entry", e.entry, ENTRY);
+	gather(bytes, &full, DATA, TS11_RECORD_MAX, true);
+	EXPECT_BYTES("its bytes", bytes, full.memory.at + from, TS11_RECORD_MAX);
 	free(bytes);
 }
 
@@ -1161,7 +1369,8 @@ static void full_fill_journal(void)
 	while (free_room() >= ENTRY) {
 		size_t before = used(&full);
 		make_bytes(host, TS11_HOST_STORE_MAX, (unsigned)before);
-		EXPECT("a store that fits", counted(&full, &store_most).answer, TS11_DONE);
+		if (!EXPECT("a store that fits", counted(&full, &store_most).answer, TS11_DONE))
+			return;
 		EXPECT("its entry", used(&full) - before, ENTRY);
 	}
 	EXPECT_BYTES("memory's end", full.memory.at + MEMORY_END - TS11_HOST_STORE_MAX, host, TS11_HOST_STORE_MAX);
@@ -1284,6 +1493,7 @@ static size_t test_full_size(void)
 	full_write();
 	full_fill_reel();
 	full_read_last();
+	full_read_long();
 	full_mount_whole();
 	full_to_bot();
 	full_write_at_bot();
@@ -1320,9 +1530,9 @@ int main(void)
 	test_memory_ends();
 	test_blocks_at_fault();
 	test_records();
-	test_small_reel(1);
-	test_small_reel(TS11_EOT_MARGIN);
-	test_small_reel(TS11_EOT_MARGIN + 2);
+	test_small_reels();
+	test_room();
+	test_long_entries();
 	size_t steps = test_full_size();
 	snprintf(done, sizeof done, "every limit and fault, and %zu steps of full size stepped back", steps);
 	return summary("limits", done);

@@ -8,8 +8,9 @@
 
 /* ---- a painted stack --------------------------------------------------------------------------------------------- */
 
-/* Room for scratch as long as a few records. */
-enum { WORDS = 8 * TS11_RECORD_MAX / sizeof(uint64_t), IN_REGISTERS = 6, ARGUMENTS = 11 };
+/* Room for scratch as long as a few records; an even number of words, so that the stack begins where one may. */
+enum { WORDS = 4 * (TS11_RECORD_MAX + 1) / sizeof(uint64_t), IN_REGISTERS = 6, ARGUMENTS = 11 };
+_Static_assert(WORDS % 2 == 0, "a call's stack is aligned to 16 bytes");
 
 static _Alignas(16) uint64_t painted[WORDS + ARGUMENTS - IN_REGISTERS];
 
@@ -92,7 +93,7 @@ static ts11_answer put_painted(struct unit *u, const struct call *c, struct outs
 
 /* ---- what was seen ----------------------------------------------------------------------------------------------- */
 
-static const size_t record_lengths[] = { 1, TS11_BLOCK_DATA, TS11_BLOCK_DATA + 1, TS11_RECORD_MAX };
+static const size_t record_lengths[] = { 1, TS11_BLOCK_DATA, TS11_BLOCK_DATA + 1, 16384, TS11_RECORD_MAX };
 
 enum { LENGTHS = COUNT(record_lengths) };
 
@@ -121,13 +122,13 @@ static void note(struct use *use)
 }
 
 static struct use calls[] = {
-	[MOUNT] = USE("ts11_mount", 352),
+	[MOUNT] = USE("ts11_mount", 344),
 	[WRITE_TSDB] = USE("ts11_write_tsdb", 168),
 	[WRITE_TSSR] = USE("ts11_write_tssr", 80),
 	[OPERATE] = USE("ts11_operate", 160),
 	[READ_REGISTER] = USE("ts11_read_register", 64),
 	[HOST_STORE] = USE("ts11_host_store", 192),
-	[ADVANCE] = USE("ts11_advance", 1248),
+	[ADVANCE] = USE("ts11_advance", 1240),
 	[STEP_BACK] = USE("ts11_step_back", 288),
 };
 
@@ -146,23 +147,23 @@ static struct {
 	uint16_t header;
 	bool behind;
 } commands[] = {
-	{ USE("read next", 1024), TS11_READ_NEXT, false },
-	{ USE("read previous", 1024), TS11_READ_PREVIOUS, true },
-	{ USE("reread next", 1200), TS11_REREAD_NEXT, false },
-	{ USE("reread previous", 1200), TS11_REREAD_PREVIOUS, true },
-	{ USE("reread next, OPP", 1200), TS11_REREAD_NEXT | TS11_OPP, false },
-	{ USE("reread previous, OPP", 1200), TS11_REREAD_PREVIOUS | TS11_OPP, true },
+	{ USE("read next", 1016), TS11_READ_NEXT, false },
+	{ USE("read previous", 1016), TS11_READ_PREVIOUS, true },
+	{ USE("reread next", 1192), TS11_REREAD_NEXT, false },
+	{ USE("reread previous", 1192), TS11_REREAD_PREVIOUS, true },
+	{ USE("reread next, OPP", 1192), TS11_REREAD_NEXT | TS11_OPP, false },
+	{ USE("reread previous, OPP", 1192), TS11_REREAD_PREVIOUS | TS11_OPP, true },
 	{ USE("write", 800), TS11_WRITE, true },
-	{ USE("write retry", 1248), TS11_WRITE_RETRY, true },
+	{ USE("write retry", 1240), TS11_WRITE_RETRY, true },
 	{ USE("write characteristics", 800), TS11_WRITE_CHARACTERISTICS, false },
-	{ USE("space records", 1184), TS11_SPACE_RECORDS, false },
-	{ USE("space records reverse", 1184), TS11_SPACE_RECORDS_REVERSE, true },
-	{ USE("skip marks", 1184), TS11_SKIP_MARKS, false },
-	{ USE("skip marks reverse", 1184), TS11_SKIP_MARKS_REVERSE, true },
+	{ USE("space records", 1176), TS11_SPACE_RECORDS, false },
+	{ USE("space records reverse", 1176), TS11_SPACE_RECORDS_REVERSE, true },
+	{ USE("skip marks", 1176), TS11_SKIP_MARKS, false },
+	{ USE("skip marks reverse", 1176), TS11_SKIP_MARKS_REVERSE, true },
 	{ USE("rewind", 800), TS11_REWIND, true },
 	{ USE("write mark", 800), TS11_WRITE_MARK, true },
 	{ USE("erase", 800), TS11_ERASE, true },
-	{ USE("write mark retry", 1248), TS11_WRITE_MARK_RETRY, true },
+	{ USE("write mark retry", 1240), TS11_WRITE_MARK_RETRY, true },
 	{ USE("release", 800), TS11_RELEASE, false },
 	{ USE("unload", 800), TS11_UNLOAD, true },
 	{ USE("clean", 800), TS11_CLEAN, false },

@@ -318,7 +318,7 @@ static void call_back(char **w)
 /* ---- set-up lines ------------------------------------------------------------------------------------------------ */
 
 /* The requests that the library has built in, a bit for each, and those that change no line of a script. */
-enum { OWN_RULES = 1 << 2 | 1 << 4, UNSEEN_RULES = 1 << 1 | 1 << 3 | 1 << 12 | 1 << 13 };
+enum { OWN_RULES = 1 << 2 | 1 << 4 | 1 << 7, UNSEEN_RULES = 1 << 1 | 1 << 3 | 1 << 12 | 1 << 13 };
 
 static void set_up_rules(char **w)
 {

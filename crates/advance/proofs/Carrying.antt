@@ -30,7 +30,7 @@ use Rattle.motions.specs.declared.parts.ObjectKind.{ObjectKind}
 use Rattle.motions.specs.declared.parts.ObjectKind.the-variants as kind
 use Rattle.motions.specs.declared.reads.Buffer.{Buffer}
 use Rattle.motions.proofs.Fit.{ReadFits, SpaceFits, WriteFits, read-one-fits, reread-fits, retry-fits, space-fits, write-fits}
-use Rattle.commands.specs.Commands.{asked, carriedOut, characteristicsAt, characterized, formatted, laidHere, laying, plainEffect, plainEnd, positionedBy, readBy, refusedCharacteristics, released, rereadBy, rewound, takenCharacteristics, unloaded, withCharacteristics, withNba, writtenBy}
+use Rattle.commands.specs.Commands.{asked, carriedOut, carriedOutUnder, characteristicsAt, characterized, characterizedUnder, formatted, formattedUnder, laidHere, laying, plainEffect, plainEffectUnder, plainEnd, positionedBy, positionedByUnder, readBy, readByUnder, refusedCharacteristics, refusedCharacteristicsUnder, released, rereadBy, rereadByUnder, rewound, rewoundUnder, takenCharacteristics, takenCharacteristicsUnder, unloaded, unloadedUnder, withCharacteristics, withNba, writtenBy, writtenByUnder}
 use Rattle.commands.specs.Ends.{told}
 use Rattle.advance.proofs.Extents.{hasData}
 use Rattle.advance.proofs.Sound.{EndingFits, SoundPlan, motion-sound, no-lay-fits, no-move-fits, resting-fits, told-sound, untold-sound}
@@ -69,17 +69,17 @@ module _ (u : Unit) (l : Legal u) where
 
   module _ (s : List ℕ) (h : Header) (p : Packet) where
     read-sound : (reverse : Bool) → p .pointer + p .count ≤ u .lengths .memory → SoundPlan u (readBy u s h p reverse)
-    unfolding readBy
+    unfolding readByUnder
     read-sound reverse k =
         motion-sound u l (h .ie) _ (λ x y. read-moves (asked h p) k x (read-one-fits s (u .tape) (l .place) (asked h p) reverse y))
 
     reread-sound : (reverse : Bool) → p .pointer + p .count ≤ u .lengths .memory → SoundPlan u (rereadBy u s h p reverse)
-    unfolding rereadBy
+    unfolding rereadByUnder
     reread-sound reverse k =
         motion-sound u l (h .ie) _ (λ x y. read-moves (asked h p) k x (reread-fits s (u .tape) (l .place) (asked h p) reverse (h .opp) y))
 
   position-sound : (s : List ℕ) (h : Header) (count : Count) (reverse : Bool) → SoundPlan u (positionedBy u s h count reverse)
-  unfolding positionedBy
+  unfolding positionedByUnder
   position-sound s h count reverse =
       motion-sound u l (h .ie) _ (λ x y. space-moves x (space-fits s (u .tape) (l .place) _ count (u .characteristics .enb) y))
 
@@ -89,12 +89,12 @@ module _ (u : Unit) (l : Legal u) where
   lay-moves s n mark false k x y = write-moves n k x (write-fits (u .tape) (u .lengths .blocks) (l .place) (l .capacity) n mark y)
 
   write-sound : (s : List ℕ) (h : Header) (p : Packet) (again : Bool) → p .pointer + p .count ≤ u .lengths .memory → SoundPlan u (writtenBy u s h p again)
-  unfolding writtenBy
+  unfolding writtenByUnder
   write-sound s h p again k =
       motion-sound u l (h .ie) _ (lay-moves s (laidHere (u .tape) kind.Record (p .pointer) (p .count) (h .swb)) false again k)
 
   format-sound : (s : List ℕ) (h : Header) (o : ObjectKind) (mark again : Bool) → SoundPlan u (formatted u s h o mark again)
-  unfolding formatted
+  unfolding formattedUnder
   format-sound s h o mark again =
       motion-sound u l (h .ie) _ (lay-moves s (laidHere (u .tape) o 0 0 false) mark again (omega arith))
 
@@ -104,7 +104,7 @@ module _ (u : Unit) (l : Legal u) where
     stands-sound v k x h = told-sound v k ie _ (resting-fits (v .lengths) x (v .tape) (k .place) (k .capacity) h)
 
     plain-sound : SoundPlan u (plainEffect u ie)
-    unfolding plainEffect
+    unfolding plainEffectUnder
     plain-sound = stands-sound u l plainEnd (omega arith)
 
     release-sound : SoundPlan u (released u ie)
@@ -116,16 +116,16 @@ module _ (u : Unit) (l : Legal u) where
     rewinds v k = told-sound v k ie _ (resting-fits (v .lengths) plainEnd (standing 0 (v .tape .end)) (omega arith) (k .capacity) (omega arith))
 
     rewind-sound : SoundPlan u (rewound u ie)
-    unfolding rewound
+    unfolding rewoundUnder
     rewind-sound = rewinds u l
 
     unload-sound : SoundPlan u (unloaded u ie)
-    unfolding unloaded
+    unfolding unloadedUnder
     unload-sound = rewinds _ (legal-panel u _ _ l)
 
     -- no buffer is named
     refused-sound : SoundPlan u (refusedCharacteristics u ie)
-    unfolding refusedCharacteristics
+    unfolding refusedCharacteristicsUnder
     refused-sound =
         stands-sound (withNba u true)
         (legal-with u (withNba u true) l refl (l .place) (l .capacity) (l .pointer) (l .class) (λ e. absurd (true≢false e)))
@@ -133,7 +133,7 @@ module _ (u : Unit) (l : Legal u) where
         (omega arith)
 
     taken-sound : (c : Characteristics) → BufferFits c (u .lengths .memory) → SoundPlan u (takenCharacteristics u c ie)
-    unfolding takenCharacteristics
+    unfolding takenCharacteristicsUnder
     taken-sound c f =
         stands-sound (withCharacteristics (withNba u false) c)
         (legal-with u (withCharacteristics (withNba u false) c) l refl (l .place) (l .capacity) (l .pointer) (l .class) (λ e. f))
@@ -141,7 +141,7 @@ module _ (u : Unit) (l : Legal u) where
         (omega arith)
 
     characterize-sound : (m : List ℕ) (p : Packet) → length m ≡ u .lengths .memory → SoundPlan u (characterized u m p ie)
-    unfolding characterized
+    unfolding characterizedUnder
     characterize-sound m p e =
         let c = characteristicsAt m p in
         either (SoundPlan u) (ltb (p .count) 6) _ _ refused-sound
@@ -151,7 +151,7 @@ module _ (u : Unit) (l : Legal u) where
 
 -- the data of a command that has any lie inside memory
 pub carried-sound : (u : Unit) → Legal u → (m s : List ℕ) (h : Header) (p : Packet) → length m ≡ u .lengths .memory → (c : Command) → (hasData c ≡ true → p .pointer + p .count ≤ u .lengths .memory) → SoundPlan u (carriedOut u m s h p c)
-unfolding carriedOut
+unfolding carriedOutUnder
 carried-sound u l m s h p e command.ReadNext k = read-sound u l s h p false (k refl)
 carried-sound u l m s h p e command.ReadPrevious k = read-sound u l s h p true (k refl)
 carried-sound u l m s h p e command.RereadPrevious k = reread-sound u l s h p true (k refl)

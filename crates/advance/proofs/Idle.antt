@@ -7,7 +7,7 @@ use Rattle.lists.specs.Pick.{pick}
 use Rattle.state.specs.declared.Unit.{Unit}
 use Rattle.commands.specs.Ends.{still}
 use Rattle.commands.specs.declared.plans.Answer.the-variants as answer
-use Rattle.advance.specs.Steps.{advanced, attended, stepHeader}
+use Rattle.advance.specs.Steps.{advanced, advancedUnder, attended, stepHeader}
 
 rests-pick : {A : Type 0} (b c : Bool) (x y z : A) → (b && not c) ≡ true → z ≡ pick b (pick c x z) y
 rests-pick true true x y z h = absurd (true≢false (sym h))
@@ -25,9 +25,9 @@ isIdle u = u .registers .ssr && not (u .attention .pending && u .attention .«un
 
 module _ (u : Unit) (m s : List ℕ) where
   pub idles : isIdle u ≡ true → still u answer.Idle ≡ advanced u m s
-  unfolding advanced
+  unfolding advancedUnder
   idles h = rests-pick (u .registers .ssr) (u .attention .pending && u .attention .«unit_owns») _ _ _ h
 
   pub runs : isIdle u ≡ false → pick (u .registers .ssr) (attended u (u .attention .«release_ie»)) (stepHeader u m s) ≡ advanced u m s
-  unfolding advanced
+  unfolding advancedUnder
   runs h = runs-pick (u .registers .ssr) (u .attention .pending && u .attention .«unit_owns») _ _ _ h

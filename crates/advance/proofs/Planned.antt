@@ -8,7 +8,7 @@ use Rattle.signals.specs.Codes.{commandOf}
 use Rattle.signals.specs.Message.{messageOf}
 use Rattle.state.specs.Legal.{Legal}
 use Rattle.state.specs.declared.Unit.{Unit}
-use Rattle.commands.specs.Ends.{ended, still, told, untold}
+use Rattle.commands.specs.Ends.{ended, still, toldUnder, untold}
 use Rattle.commands.specs.declared.plans.Plan.{Plan}
 use Rattle.commands.specs.declared.plans.Answer.the-variants as answer
 use Rattle.commands.proofs.Every.{Stands, ToldAll, every-carried}
@@ -29,7 +29,7 @@ module _ (u : Unit) (m s : List ℕ) where
 
   -- a message has seven words, whether it goes out or not
   pub advanced-seven : length (advanced u m s .message) ≡ 7
-  unfolding told still messageOf
+  unfolding toldUnder still messageOf
   advanced-seven = every-advanced (λ p. length (p .message) ≡ 7) (λ v b ie x. refl) (λ v b a n. refl) refl
 
   module _ (l : Legal u) (e : length m ≡ u .lengths .memory) where

@@ -17,7 +17,7 @@ use Rattle.motions.specs.declared.parts.Laid.{Laid}
 use Rattle.motions.specs.declared.parts.Motion.{Motion}
 use Rattle.motions.specs.declared.parts.Motion.the-variants as motion
 use Rattle.motions.specs.declared.parts.Moved.{Moved}
-use Rattle.commands.specs.Ends.{motionPlan, still, told, untold}
+use Rattle.commands.specs.Ends.{motionPlan, still, told, toldUnder, untold}
 use Rattle.commands.specs.declared.plans.Answer.{Answer}
 use Rattle.commands.specs.declared.plans.Plan.{Plan}
 use Rattle.commands.proofs.Told.{ends-legal, motion-either, told-ends, told-sends, untold-ends}
@@ -91,7 +91,7 @@ module _ (u : Unit) (l : Legal u) where
       }
 
   pub told-sound : (ie : Bool) (x : Ending) → EndingFits (u .lengths) x → SoundPlan u (told u ie x)
-  unfolding told
+  unfolding toldUnder
   told-sound ie x f =
       let v = told-ends u ie x in
       record {

@@ -25,8 +25,8 @@ use Rattle.commands.specs.Commands.{carriedOut}
 use Rattle.commands.specs.Ends.{still, told, untold}
 use Rattle.commands.specs.declared.plans.Answer.the-variants as answer
 use Rattle.commands.specs.declared.plans.Plan.{Plan}
-use Rattle.advance.specs.Rules.{hasExtent, isIllegal, isTape, lengthWrong, notExecutable, reverseFirst, writes}
-use Rattle.advance.specs.Steps.{advanced, attended, rejected, stepAttention, stepExecutable, stepExtent, stepFetch, stepHeader, stepIllegal, stepNoBuffer, stepOwner, stepPointer, stepVolume}
+use Rattle.advance.specs.Rules.{hasExtent, isIllegal, isTape, lengthWrong, notExecutable, notExecutableUnder, reverseFirst, writes}
+use Rattle.advance.specs.Steps.{advanced, advancedUnder, attended, attendedUnder, rejected, rejectedUnder, stepAttention, stepAttentionUnder, stepExecutable, stepExecutableUnder, stepExtent, stepExtentUnder, stepFetch, stepFetchUnder, stepHeader, stepHeaderUnder, stepIllegal, stepIllegalUnder, stepNoBuffer, stepNoBufferUnder, stepOwner, stepOwnerUnder, stepPointer, stepPointerUnder, stepVolume, stepVolumeUnder}
 use Rattle.advance.proofs.Extents.{extent, hasData}
 
 -- v differs from u in switches and attention alone
@@ -64,23 +64,23 @@ Carries u m s P =
 
 module _ (u : Unit) (m s : List ℕ) (P : Plan → Type 0) (rejects : Rejects u P) (untolds : Untold u P) (carries : Carries u m s P) where
   rejected-all : (v : Unit) → Akin u v → (ie : Bool) (class found : ℕ) (left : Residual) → class ≤ lastClass → P (rejected v ie class found left)
-  unfolding rejected
+  unfolding rejectedUnder
   rejected-all v a ie class found left h = rejects v a ie _ h
 
   attended-all : (v : Unit) → Akin u v → (ie : Bool) → P (attended v ie)
-  unfolding attended
+  unfolding attendedUnder
   attended-all v a ie =
       rejected-all _ (record { tape = a .tape; registers = a .registers; characteristics = a .characteristics; lengths = a .lengths }) ie 1 0 _ (omega arith)
 
   module _ (v : Unit) (a : Akin u v) (h : Header) where
     extent-all : (p : Packet) → lengthWrong h (p .count) ≡ false → P (stepExtent v m s h p)
-    unfolding stepExtent
+    unfolding stepExtentUnder
     extent-all p f =
         pick-told P (hasExtent h && ltb (length m) (p .pointer + p .count)) _ _ (λ t. rejected-all v a (h .ie) 5 0 _ (omega arith))
         (λ t. carries v a h p f (λ d. extent h p (length m) (hasExtent h) refl t d))
 
     executable-all : (p : Packet) → P (stepExecutable v m s h p)
-    unfolding stepExecutable notExecutable
+    unfolding stepExecutableUnder notExecutableUnder
     executable-all p =
         either P (isTape h && (not (v .panel .online) || v .panel .vck)) _ _ (rejected-all v a (h .ie) 3 _ _ (omega arith))
         (either P (writes h && v .panel .locked) _ _ (rejected-all v a (h .ie) 3 _ _ (omega arith))
@@ -88,49 +88,49 @@ module _ (u : Unit) (m s : List ℕ) (P : Plan → Type 0) (rejects : Rejects u 
         (λ t. extent-all p (neither (reverseFirst h && eqb (v .tape .position) 0) (lengthWrong h (p .count)) t .1))))
 
     pointer-all : (p : Packet) → P (stepPointer v m s h p)
-    unfolding stepPointer
+    unfolding stepPointerUnder
     pointer-all p = either P (p .high || (eqb (h .code) 4 && eqb (p .pointer % 2) 1)) _ _ (rejected-all v a (h .ie) 3 _ _ (omega arith)) (executable-all p)
 
     fetch-all : P (stepFetch v m s h)
-    unfolding stepFetch
+    unfolding stepFetchUnder
     fetch-all =
         either P (ltb (length m) (v .registers .pointer + packetBytes)) _ _ (rejected-all v a (h .ie) 5 _ _ (omega arith))
         (pointer-all (packetOf m (v .registers .pointer) (h .code)))
 
     no-buffer-all : P (stepNoBuffer v m s h)
-    unfolding stepNoBuffer
+    unfolding stepNoBufferUnder
     no-buffer-all = either P (v .registers .nba && not (eqb (h .code) 4)) _ _ (rejected-all v a (h .ie) 3 _ _ (omega arith)) fetch-all
 
     illegal-all : P (stepIllegal v m s h)
-    unfolding stepIllegal
+    unfolding stepIllegalUnder
     illegal-all =
         either P (not (h .plain) || isIllegal (commandOf (h .code) (h .mode))) _ _ (rejected-all v a (h .ie) 3 _ _ (omega arith)) no-buffer-all
 
   module _ (v : Unit) (a : Akin u v) (h : Header) where
     volume-all : P (stepVolume v m s h)
-    unfolding stepVolume
+    unfolding stepVolumeUnder
     volume-all =
         illegal-all _ (record { tape = a .tape; registers = a .registers; characteristics = a .characteristics; lengths = a .lengths }) h
 
     attention-all : P (stepAttention v m s h)
-    unfolding stepAttention
+    unfolding stepAttentionUnder
     attention-all = either P (v .attention .pending) _ _ (attended-all v a (h .ie)) volume-all
 
   owner-all : (h : Header) → P (stepOwner u m s h)
-  unfolding stepOwner
+  unfolding stepOwnerUnder
   owner-all h =
       either P (u .attention .«unit_owns» || h .ack) _ _
       (attention-all _ (record { tape = refl; registers = refl; characteristics = refl; lengths = refl }) h)
       (untolds _ (record { tape = refl; registers = refl; characteristics = refl; lengths = refl }) 0 (h .ie) (omega arith))
 
   header-all : P (stepHeader u m s)
-  unfolding stepHeader
+  unfolding stepHeaderUnder
   header-all =
       either P (ltb (length m) (u .registers .pointer + 2)) _ _ (untolds u (same u) 5 false (omega arith))
       (owner-all (headerOf (wordAt m (u .registers .pointer))))
 
   pub advanced-all : P (still u answer.Idle) → P (advanced u m s)
-  unfolding advanced
+  unfolding advancedUnder
   advanced-all idle =
       either P (u .registers .ssr) _ _
       (either P (u .attention .pending && u .attention .«unit_owns») _ _ (attended-all u (same u) (u .attention .«release_ie»)) idle)

@@ -36,17 +36,9 @@ reverseFirst h =
     || (eqb (h .code) 8 && (eqb (h .mode) 1 || eqb (h .mode) 3)))
     || (eqb (h .code) 9 && eqb (h .mode) 2)
 
--- "a written length out of range"
-abbrev pub lengthWrong : Header → ℕ → Bool
-lengthWrong h count = eqb (h .code) 5 && (eqb count 0 || ltb recordLimit count)
-
 -- "Codes 1, 4, 5: data extent"
 abbrev pub hasExtent : Header → Bool
 hasExtent h = hasPointer (h .code)
-
--- "reverse first stage at block 0 (not a rewind), NEF; a written length out of range, NEF"
-unfoldable pub notExecutable : Unit → Header → Packet → Bool
-notExecutable u h p = (reverseFirst h && eqb (u .tape .position) 0) || lengthWrong h (p .count)
 
 unfoldable pub isIllegal : Command → Bool
 isIllegal command.ReadNext = false
@@ -70,3 +62,20 @@ isIllegal command.Clean = false
 isIllegal command.Initialize = false
 isIllegal command.GetStatus = false
 isIllegal command.Illegal = true
+
+-- under any record limit
+module _ (limit : ℕ) where
+  -- "a written length out of range"
+  abbrev pub lengthWrongUnder : Header → ℕ → Bool
+  lengthWrongUnder h count = eqb (h .code) 5 && (eqb count 0 || ltb limit count)
+
+  -- "reverse first stage at block 0 (not a rewind), NEF; a written length out of range, NEF"
+  unfoldable pub notExecutableUnder : Unit → Header → Packet → Bool
+  notExecutableUnder u h p = (reverseFirst h && eqb (u .tape .position) 0) || lengthWrongUnder h (p .count)
+
+-- and under this unit's own
+abbrev pub lengthWrong : Header → ℕ → Bool
+lengthWrong = lengthWrongUnder recordLimit
+
+abbrev pub notExecutable : Unit → Header → Packet → Bool
+notExecutable = notExecutableUnder recordLimit

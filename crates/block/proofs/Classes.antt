@@ -8,7 +8,7 @@ use lib.ListN.{length}
 use Rattle.lists.specs.Pick.{pick}
 use Rattle.lists.specs.Words.{wordAt}
 use Rattle.tape.specs.Numbers.{blockBytes}
-use Rattle.tape.specs.Reading.{blockAt, checkRight, classAt, classBy, classOf, indexRight, kindOf, kindRight, lengthRight, orDamaged, paddingRight, usedOf}
+use Rattle.tape.specs.Reading.{blockAt, checkRight, classAt, classAtUnder, classBy, classByUnder, classOf, classOfUnder, indexRight, kindOf, kindRight, lengthRight, orDamaged, paddingRight, usedOf}
 use Rattle.tape.specs.declared.BlockFault.{BlockFault}
 use Rattle.tape.specs.declared.BlockFault.the-variants as fault
 use Rattle.tape.proofs.Accepted.{clash}
@@ -53,7 +53,7 @@ past-two true false x h = absurd (true-false (sym h))
 -- the three words go by the names under which a caller has read them
 module _ (b : List ℕ) (k n i : ℕ) (p : k ≡ wordAt b 0) (q : n ≡ wordAt b 2) (r : i ≡ wordAt b 4) where
   by-words : classBy b k n i ≡ classOf b
-  unfolding classOf
+  unfolding classOfUnder
   by-words = cc
 
   words-wrong : wrongBy b k n i ≡ wrongIn b
@@ -82,12 +82,12 @@ module _ (b : List ℕ) (k n i : ℕ) (p : k ≡ wordAt b 0) (q : n ≡ wordAt b
   fault-check a c d u e = rw (← words-wrong, a, c, d, ← u, e)
 
   pub class-head : {f : BlockFault} → headRight k n i ≡ false → f ≡ wrongIn b → block.Damaged f ≡ classOf b
-  unfolding classBy headRight wrongBy
+  unfolding classByUnder headRight wrongBy
   class-head h e = ap block.Damaged (e ∙ sym words-wrong) ∙ by-three (kindRight k) (lengthRight k n) (indexRight k n i) _ _ h ∙ by-words
 
   -- a right head leaves padding and check
   by-body : headRight k n i ≡ true → orDamaged fault.Padding (paddingRight b (usedOf k n i)) (orDamaged fault.Check (checkRight b) (kindOf k n i)) ≡ classOf b
-  unfolding classBy headRight
+  unfolding classByUnder headRight
   by-body h = sym (past-three (kindRight k) (lengthRight k n) (indexRight k n i) _ h) ∙ by-words
 
   body-wrong : headRight k n i ≡ true → wrongBy b k n i ≡ pick (paddingRight b (usedOf k n i)) fault.Check fault.Padding
@@ -105,9 +105,9 @@ module _ (b : List ℕ) (k n i : ℕ) (p : k ≡ wordAt b 0) (q : n ≡ wordAt b
 
 module _ (s : List ℕ) (k : ℕ) where
   pub class-outside : length s / blockBytes ≤ k → block.Damaged fault.Index ≡ classAt s k
-  unfolding classAt
+  unfolding classAtUnder
   class-outside h = simp (le-ltb k (length s / blockBytes) h)
 
   pub class-inside : {r : Block} → k < length s / blockBytes → r ≡ classOf (blockAt s k) → r ≡ classAt s k
-  unfolding classAt
+  unfolding classAtUnder
   class-inside h e = simp (lt-ltb k (length s / blockBytes) h) e

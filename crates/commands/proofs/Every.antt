@@ -22,7 +22,7 @@ use Rattle.state.proofs.Legal.{buffer-right}
 use Rattle.state.proofs.Tests.{either, neither}
 use Rattle.motions.specs.declared.parts.Ending.{Ending}
 use Rattle.motions.specs.declared.parts.Motion.{Motion}
-use Rattle.commands.specs.Commands.{carriedOut, characteristicsAt, characterized, formatted, plainEffect, positionedBy, readBy, refusedCharacteristics, released, rereadBy, rewound, takenCharacteristics, unloaded, writtenBy}
+use Rattle.commands.specs.Commands.{carriedOut, carriedOutUnder, characteristicsAt, characterized, characterizedUnder, formattedUnder, plainEffectUnder, positionedByUnder, readByUnder, refusedCharacteristicsUnder, released, rereadByUnder, rewoundUnder, takenCharacteristicsUnder, unloadedUnder, writtenByUnder}
 use Rattle.commands.specs.Ends.{ended, motionPlan, still, told, untold}
 use Rattle.commands.specs.declared.plans.Answer.{Answer}
 use Rattle.commands.specs.declared.plans.Answer.the-variants as answer
@@ -52,7 +52,7 @@ module _ (u : Unit) (m : List ℕ) (P : Plan → Type 0) (tells : ToldAll (u .ch
   moves ie y = motion-either u ie P y (λ x e. tells u (inl refl) ie x) (λ why k e. stands u (inl refl) (answer.BadBlock why k) tt)
 
   characterizes : (p : Packet) (ie : Bool) → P (characterized u m p ie)
-  unfolding characterized refusedCharacteristics takenCharacteristics
+  unfolding characterizedUnder refusedCharacteristicsUnder takenCharacteristicsUnder
   characterizes p ie =
       let c = characteristicsAt m p in
       either P (ltb (p .count) 6) _ _ (tells _ (inl refl) ie _)
@@ -60,7 +60,7 @@ module _ (u : Unit) (m : List ℕ) (P : Plan → Type 0) (tells : ToldAll (u .ch
       (λ t. tells _ (inr (buffer-right c (length m) (neither (leb pointerLimit (c .address)) (bufferWrong c (length m)) t .1))) ie _))
 
   pub every-carried : (s : List ℕ) (h : Header) (p : Packet) (c : Command) → P (carriedOut u m s h p c)
-  unfolding carriedOut readBy rereadBy positionedBy writtenBy formatted rewound released unloaded plainEffect untold ended
+  unfolding carriedOutUnder readByUnder rereadByUnder positionedByUnder writtenByUnder formattedUnder rewoundUnder released unloadedUnder plainEffectUnder untold ended
   every-carried s h p command.ReadNext = moves (h .ie) _
   every-carried s h p command.ReadPrevious = moves (h .ie) _
   every-carried s h p command.RereadPrevious = moves (h .ie) _

@@ -10,8 +10,8 @@ use Rattle.signals.specs.declared.packet.Header.{Header}
 use Rattle.signals.specs.declared.packet.Packet.{Packet}
 use Rattle.signals.proofs.codes.Command as variants
 use Rattle.state.specs.declared.Unit.{Unit}
-use Rattle.commands.specs.Ends.{motionPlan}
-use Rattle.commands.specs.Commands.{carriedOut, formatted, motionOf, plainEffect, positionedBy, readBy, rereadBy, rewound, writtenBy}
+use Rattle.commands.specs.Ends.{motionPlan, motionPlanUnder}
+use Rattle.commands.specs.Commands.{carriedOut, carriedOutUnder, formattedUnder, motionOf, motionOfUnder, plainEffectUnder, positionedByUnder, readByUnder, rereadByUnder, rewoundUnder, writtenByUnder}
 
 -- by their tags: none of these three
 abbrev notCharacteristics : List ℕ
@@ -25,7 +25,7 @@ notUnload = 0 ∷ 1 ∷ 2 ∷ 3 ∷ 4 ∷ 5 ∷ 6 ∷ 7 ∷ 8 ∷ 9 ∷ 10 ∷ 1
 
 module _ (u : Unit) (m s : List ℕ) (h : Header) (p : Packet) where
   pub ends-as-moved : (c : Command) → OneOf notCharacteristics (tagOf variants.the-type c) → OneOf notRelease (tagOf variants.the-type c) → OneOf notUnload (tagOf variants.the-type c) → motionPlan u (h .ie) (motionOf u s h p c) ≡ carriedOut u m s h p c
-  unfolding carriedOut motionOf readBy rereadBy positionedBy writtenBy formatted rewound plainEffect motionPlan
+  unfolding carriedOutUnder motionOfUnder readByUnder rereadByUnder positionedByUnder writtenByUnder formattedUnder rewoundUnder plainEffectUnder motionPlanUnder
   ends-as-moved command.ReadNext a b d = refl
   ends-as-moved command.ReadPrevious a b d = refl
   ends-as-moved command.RereadPrevious a b d = refl

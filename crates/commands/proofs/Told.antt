@@ -14,7 +14,7 @@ use Rattle.motions.specs.Parts.{noLay, noMove}
 use Rattle.motions.specs.declared.parts.Ending.{Ending}
 use Rattle.motions.specs.declared.parts.Motion.{Motion}
 use Rattle.motions.specs.declared.parts.Motion.the-variants as motion
-use Rattle.commands.specs.Ends.{ended, motionPlan, still, told, toldUnit, untold, withAttention, withTape}
+use Rattle.commands.specs.Ends.{ended, motionPlan, motionPlanUnder, still, told, toldUnder, toldUnit, untold, withAttention, withTape}
 use Rattle.commands.specs.declared.plans.Answer.{Answer}
 use Rattle.commands.specs.declared.plans.Answer.the-variants as answer
 use Rattle.commands.specs.declared.plans.Plan.{Plan}
@@ -47,7 +47,7 @@ ends-with u t class a =
     }
 
 pub told-ends : (u : Unit) (ie : Bool) (x : Ending) → EndsAs u (x .tape) (x .end .class) (told u ie x .unit)
-unfolding told toldUnit
+unfolding toldUnder toldUnit
 told-ends u ie x = ends-with u (x .tape) (x .end .class) _
 
 pub untold-ends : (u : Unit) (class : ℕ) (interrupts : Bool) → EndsAs u (u .tape) class (untold u class interrupts .unit)
@@ -66,12 +66,12 @@ ends-legal u l {v = v} e place capacity h =
 
 -- "A message goes out only if NBA is clear."
 pub told-sends : (u : Unit) (ie : Bool) (x : Ending) → told u ie x .sends ≡ true → u .registers .nba ≡ false
-unfolding told toldUnit ended
+unfolding toldUnder toldUnit ended
 told-sends u ie x = not-true (u .registers .nba)
 
 -- what holds of every end that is told and of every fault holds of every motion
 pub motion-either : (u : Unit) (ie : Bool) (P : Plan → Type 0) (y : Motion) → ((x : Ending) → y ≡ motion.Ended x → P (told u ie x)) → ((why : BlockFault) (k : ℕ) → y ≡ motion.Fault why k → P (still u (answer.BadBlock why k))) → P (motionPlan u ie y)
-unfolding motionPlan
+unfolding motionPlanUnder
 motion-either u ie P (motion.Ended x) p q = p x refl
 motion-either u ie P (motion.Fault why k) p q = q why k refl
 

@@ -4,7 +4,7 @@ use mathlib.Core.Bool.{Bool, true, false, _||_, not}
 use mathlib.Core.List.{List, [], _∷_}
 use Prim.Native.Nat.{ℕ}
 use lib.Dec.{eqb, leb}
-use Rattle.tape.specs.Numbers.{eotMarker}
+use Rattle.tape.specs.Numbers.{eotMarkerUnder, margin}
 use Rattle.signals.specs.Message.{messageOf}
 use Rattle.signals.specs.declared.message.Status.{Status}
 use Rattle.state.specs.declared.Unit.{Unit}
@@ -82,19 +82,6 @@ ended u class =
       ssr = true;
     })
 
--- "ONL 6, IE 5, VCK 4, .. WLK 2, BOT 1, EOT 0 (position at or past its marker)"
-unfoldable pub statusOf : Unit → Bool → Bool → Status
-statusOf u ie mot =
-    record {
-      mot = mot;
-      onl = u .panel .online;
-      ie = ie;
-      vck = u .panel .vck;
-      wlk = u .panel .locked;
-      bot = eqb (u .tape .position) 0;
-      eot = leb (eotMarker (u .lengths .blocks)) (u .tape .position);
-    }
-
 -- "MOT (house): the end position differs from the start, or blocks were written."
 abbrev pub motionSeen : ℕ → Ending → Bool
 motionSeen start x = not (eqb start (x .tape .position)) || not (eqb (laidBlocks (x .laid)) 0)
@@ -103,33 +90,64 @@ motionSeen start x = not (eqb start (x .tape .position)) || not (eqb (laidBlocks
 unfoldable pub toldUnit : Unit → Ending → Unit
 toldUnit u x = withOwner (ended (withTape u (x .tape)) (x .end .class)) false
 
--- an end that is told, of a command that began in the state u: message if NBA is clear, interrupt if IE
-unfoldable pub told : Unit → Bool → Ending → Plan
-told u ie x =
-    record {
-      answer = answer.Done ie;
-      unit = toldUnit u x;
-      moved = x .moved;
-      laid = x .laid;
-      sends = not (toldUnit u x .registers .nba);
-      message = messageOf (x .end) (statusOf (toldUnit u x) ie (motionSeen (u .tape .position) x));
-    }
-
 -- an end that is not told: step 1 and "a release carried out, which sends none and keeps the owner", with no interrupt, and step 2,
 -- which interrupts if IE
 unfoldable pub untold : Unit → ℕ → Bool → Plan
 untold u class interrupts = still (ended u class) (answer.Done interrupts)
 
--- what a motion of the tape comes to; a block at fault refuses with 7, and a plan that is refused is not carried out
-unfoldable pub motionPlan : Unit → Bool → Motion → Plan
-motionPlan u ie (motion.Ended x) = told u ie x
-motionPlan u ie (motion.Fault why k) = still u (answer.BadBlock why k)
+-- under any EOT margin
+module _ (eotMargin : ℕ) where
+  -- "ONL 6, IE 5, VCK 4, .. WLK 2, BOT 1, EOT 0 (position at or past its marker)"
+  unfoldable pub statusOfUnder : Unit → Bool → Bool → Status
+  statusOfUnder u ie mot =
+      record {
+        mot = mot;
+        onl = u .panel .online;
+        ie = ie;
+        vck = u .panel .vck;
+        wlk = u .panel .locked;
+        bot = eqb (u .tape .position) 0;
+        eot = leb (eotMarkerUnder eotMargin (u .lengths .blocks)) (u .tape .position);
+      }
 
--- told or not, as a plan
-unfoldable pub planBy : Unit → Bool → How → Plan
-planBy u ie (how.Told m) = motionPlan u ie m
-planBy u ie (how.Untold class) = untold u class ie
+  -- an end that is told, of a command that began in the state u: message if NBA is clear, interrupt if IE
+  unfoldable pub toldUnder : Unit → Bool → Ending → Plan
+  toldUnder u ie x =
+      record {
+        answer = answer.Done ie;
+        unit = toldUnit u x;
+        moved = x .moved;
+        laid = x .laid;
+        sends = not (toldUnit u x .registers .nba);
+        message = messageOf (x .end) (statusOfUnder (toldUnit u x) ie (motionSeen (u .tape .position) x));
+      }
 
--- the plan that an advance comes to, told or not
-unfoldable pub planOf : Course → Plan
-planOf c = planBy (c .unit) (c .ie) (c .how)
+  -- what a motion of the tape comes to; a block at fault refuses with 7, and a plan that is refused is not carried out
+  unfoldable pub motionPlanUnder : Unit → Bool → Motion → Plan
+  motionPlanUnder u ie (motion.Ended x) = toldUnder u ie x
+  motionPlanUnder u ie (motion.Fault why k) = still u (answer.BadBlock why k)
+
+  -- told or not, as a plan
+  unfoldable pub planByUnder : Unit → Bool → How → Plan
+  planByUnder u ie (how.Told m) = motionPlanUnder u ie m
+  planByUnder u ie (how.Untold class) = untold u class ie
+
+  -- the plan that an advance comes to, told or not
+  unfoldable pub planOfUnder : Course → Plan
+  planOfUnder c = planByUnder (c .unit) (c .ie) (c .how)
+
+-- and under this unit's own
+abbrev pub statusOf : Unit → Bool → Bool → Status
+statusOf = statusOfUnder margin
+
+abbrev pub told : Unit → Bool → Ending → Plan
+told = toldUnder margin
+
+abbrev pub motionPlan : Unit → Bool → Motion → Plan
+motionPlan = motionPlanUnder margin
+
+abbrev pub planBy : Unit → Bool → How → Plan
+planBy = planByUnder margin
+
+abbrev pub planOf : Course → Plan
+planOf = planOfUnder margin

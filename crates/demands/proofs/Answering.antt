@@ -4,7 +4,7 @@ use mathlib.Core.List.{List}
 use mathlib.Core.Path.{_≡_}
 use Prim.Native.Nat.{ℕ}
 use Rattle.state.specs.declared.Unit.{Unit}
-use Rattle.commands.specs.Ends.{still, told, untold}
+use Rattle.commands.specs.Ends.{still, toldUnder, untold}
 use Rattle.commands.specs.declared.plans.Plan.{Plan}
 use Rattle.commands.proofs.Every.{DoneOrBad, every-carried}
 use Rattle.advance.specs.Steps.{advanced}
@@ -13,7 +13,7 @@ use Rattle.demands.proofs.Ways.{advanced-way}
 
 module _ (u : Unit) (m s : List ℕ) (busy : u .registers .ssr ≡ true → (u .attention .pending && u .attention .«unit_owns») ≡ false → ⊥) where
   way-answers : {x : Plan} → Way u m s x → DoneOrBad (x .answer)
-  unfolding told untold still
+  unfolding toldUnder untold still
   way-answers (idle a b) = absurd (busy a b)
   way-answers (attention a b) = tt
   way-answers (no-header a b) = tt

@@ -6,11 +6,11 @@ use Rattle.signals.specs.Codes.{commandOf, controlMode, formatMode, positionMod
 use Rattle.signals.specs.declared.packet.Header.{Header}
 use Rattle.signals.specs.declared.packet.Packet.{Packet}
 use Rattle.state.specs.declared.Unit.{Unit}
-use Rattle.commands.specs.Commands.{carriedOut, formatted, plainEffect, positionedBy, readBy, rereadBy, rewound, writtenBy}
+use Rattle.commands.specs.Commands.{carriedOutUnder, formattedUnder, plainEffectUnder, positionedByUnder, readByUnder, rereadByUnder, rewoundUnder, writtenByUnder}
 use Rattle.demands.specs.Commands.{Carried}
 
 pub carried-as : (u : Unit) (m s : List ℕ) (h : Header) (p : Packet) → Carried u m s h p
-unfolding commandOf controlMode formatMode positionMode readMode singleMode writeMode carriedOut formatted plainEffect positionedBy readBy rereadBy rewound writtenBy
+unfolding commandOf controlMode formatMode positionMode readMode singleMode writeMode carriedOutUnder formattedUnder plainEffectUnder positionedByUnder readByUnder rereadByUnder rewoundUnder writtenByUnder
 carried-as u m s h p =
     record {
       read-next = refl;

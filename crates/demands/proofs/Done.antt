@@ -17,7 +17,7 @@ use Rattle.tape.specs.Bytes.{movedBytes, movedTo, readInto, recordBytes}
 use Rattle.tape.specs.Numbers.{blockBytes, piecesOf}
 use Rattle.tape.specs.Objects.{imagesOf}
 use Rattle.tape.specs.Pass.{beyond, lowest, passed}
-use Rattle.tape.specs.Reading.{blockAt, classAt, classOf}
+use Rattle.tape.specs.Reading.{blockAt, classAt, classAtUnder, classOf}
 use Rattle.tape.specs.declared.Block.the-variants as block
 use Rattle.tape.specs.declared.Met.{Met}
 use Rattle.tape.specs.declared.Met.the-variants as met
@@ -56,8 +56,8 @@ use Rattle.moves.proofs.Counting.{kind-asked, mark-number, mark-stops-number, n
 use Rattle.moves.proofs.Rounds.{spaced-keeps}
 use Rattle.moves.proofs.Turns.{Counts, SpanHas, mark-turns}
 use Rattle.motions.specs.Parts.{noLay, resting, standing}
-use Rattle.motions.specs.Reads.{firstBlock, markEnd, nothingEnd, onRecord, readEnd, readMotion, readOne, readThenSpace, reread, spaceBack, spaceThenRead, stageBy, stageOf, stopMotion}
-use Rattle.motions.specs.Spaces.{positioned, spaceMotion, spaceMotionBy, startSpan}
+use Rattle.motions.specs.Reads.{firstBlock, markEnd, nothingEnd, onRecord, readEnd, readMotion, readOne, readOneUnder, readThenSpaceUnder, reread, rereadUnder, spaceBack, spaceBackUnder, spaceThenReadUnder, stageBy, stageOf, stageOfUnder, stopMotion}
+use Rattle.motions.specs.Spaces.{positioned, positionedUnder, spaceMotion, spaceMotionBy, startSpan}
 use Rattle.motions.specs.declared.parts.Ending.{Ending}
 use Rattle.motions.specs.declared.parts.Laid.{Laid}
 use Rattle.motions.specs.declared.parts.Motion.{Motion}
@@ -66,8 +66,8 @@ use Rattle.motions.specs.declared.reads.Buffer.{Buffer}
 use Rattle.motions.specs.declared.reads.Stage.{Stage}
 use Rattle.motions.proofs.Ends.{flag-most}
 use Rattle.motions.proofs.Onward.{StageHas, on-record}
-use Rattle.commands.specs.Commands.{asked, carriedOut, positionedBy, readBy, rereadBy}
-use Rattle.commands.specs.Ends.{ended, motionPlan, motionSeen, statusOf, still, told, toldUnit}
+use Rattle.commands.specs.Commands.{asked, carriedOut, carriedOutUnder, positionedBy, positionedByUnder, readByUnder, rereadByUnder}
+use Rattle.commands.specs.Ends.{ended, motionPlan, motionPlanUnder, motionSeen, statusOf, still, told, toldUnder, toldUnit}
 use Rattle.commands.specs.declared.plans.Plan.{Plan}
 use Rattle.storing.specs.Stored.{laidObject, laidObjects, laidOn, memoryAfter, movedOn, reelAfter}
 use Rattle.storing.proofs.Lengths.{length-moved}
@@ -141,20 +141,20 @@ upper-word w x (z, l) = ap (λ (n : ℕ). n / 256 * 256) (xst0-sum w x l) ∙ ab
 -- of an end that is told, word 2 is its residual, word 3 shows what it found, word 6 is its XST3
 module _ (v : Unit) (ie : Bool) (x : Ending) (m s : List ℕ) (sends : told v ie x .sends ≡ true) (room : v .characteristics .address + messageBytes ≤ length m) where
   pub told-word : wordAt (memoryAfter (told v ie x) m s) (v .characteristics .address + 4) ≡ residualWord (x .end .residual)
-  unfolding told toldUnit ended messageOf
+  unfolding toldUnder toldUnit ended messageOf
   told-word = sent-word (told v ie x) m s sends refl room 2 (omega arith)
 
   pub told-found : Upper (x .end .found) → wordAt (memoryAfter (told v ie x) m s) (v .characteristics .address + 6) / 256 * 256 ≡ x .end .found
-  unfolding told toldUnit ended messageOf
+  unfolding toldUnder toldUnit ended messageOf
   told-found up = ap (λ (n : ℕ). n / 256 * 256) (sent-word (told v ie x) m s sends refl room 3 (omega arith)) ∙ upper-word (x .end .found) (statusOf (toldUnit v x) ie (motionSeen (v .tape .position) x)) up
 
   pub told-xst3 : wordAt (memoryAfter (told v ie x) m s) (v .characteristics .address + 12) ≡ x .end .xst3
-  unfolding told toldUnit ended messageOf
+  unfolding toldUnder toldUnit ended messageOf
   told-xst3 = sent-word (told v ie x) m s sends refl room 6 (omega arith)
 
 -- a block that is read as a piece lies on the reel
 piece-held : (s : List ℕ) (k n i : ℕ) → classAt s k ≡ block.Piece n i → blockBytes * (k + 1) ≤ length s
-unfolding classAt
+unfolding classAtUnder
 piece-held s k n i y =
     let held = pick-first (ltb k (length s / blockBytes)) (classOf (blockAt s k)) _ (block.Piece n i) y (λ h. clash cc) .0 in
     omega (arith, ltb-true k (length s / blockBytes) held)
@@ -323,14 +323,14 @@ module _ (u : Unit) (m s : List ℕ) where
   module _ (inside : u .tape .position ≤ u .tape .end) (ran : RunsOn u m s) (fits : asks .pointer + asks .count .0 ≤ length m) where
     -- what goes on from the first stage
     goes-on : (f : ℕ → ℕ → Motion) → ((n t : ℕ) → Passed n t → ReadComes (f n t)) → ReadComes (onRecord (stageOf s (u .tape) (asks .count) (way u m s)) f)
-    unfolding stageOf
+    unfolding stageOfUnder
     goes-on f on =
         on-record ReadComes Passed _ f
         (stage-by _ inside ran (first-met inside)) on
 
     -- a Read moves what it passed
     one-as : again u m s ≡ false → ReadComes (readOne s (u .tape) asks (way u m s))
-    unfolding readOne
+    unfolding readOneUnder
     one-as once =
         goes-on _
         (λ n t x.
@@ -350,14 +350,14 @@ module _ (u : Unit) (m s : List ℕ) where
           (record-so (not (way u m s)) (not (way u m s)) (x .from) x (rw (twice, last)) (rw twice) (rw twice)))
 
       then-space : header u m s .opp ≡ true → ReadComes (spaceBack s (u .tape .end) asks (way u m s) n t)
-      unfolding spaceBack stageOf stageBy onRecord
+      unfolding spaceBackUnder stageOfUnder stageBy onRecord
       then-space first =
           let k = passed-stands s (way u m s) (x .from) (u .tape .end) (x .met-as) in
           rw second
           (moves-as (way u m s) n t _ _ (not (way u m s)) fits (rw (twice, first)) (k .1) (k .0) (record-so (way u m s) (not (way u m s)) (x .from) x (rw (twice, first)) (rw twice) (rw twice)))
 
     reread-as : again u m s ≡ true → ReadComes (reread s (u .tape) asks (way u m s) (header u m s .opp))
-    unfolding reread readThenSpace spaceThenRead
+    unfolding rereadUnder readThenSpaceUnder spaceThenReadUnder
     reread-as twice =
         pick-told ReadComes (header u m s .opp) _ _ (λ z. goes-on _ (λ n t x. then-space twice x z)) (λ z. goes-on _ (λ n t x. then-read twice x z))
 
@@ -388,7 +388,7 @@ module _ (u : Unit) (m s : List ℕ) where
 
   -- a motion that sends ended: a fault sends nothing
   pub motion-sends : (P : Plan → Type 0) (Q : Ending → Type 0) (F : BlockFault → ℕ → Type 0) (v : Unit) (ie : Bool) → ((x : Ending) → Q x → Sends (told v ie x) → P (told v ie x)) → (y : Motion) → Comes Q F y → Sends (motionPlan v ie y) → P (motionPlan v ie y)
-  unfolding motionPlan still
+  unfolding motionPlanUnder still
   motion-sends P Q F v ie tells (motion.Ended x) k t = tells x k t
   motion-sends P Q F v ie tells (motion.Fault why b) k t = absurd (clash (cc (t .0)))
 
@@ -410,7 +410,7 @@ module _ (u : Unit) (m s : List ℕ) where
   none-laid l y = rw y refl
 
   read-told : (v : Unit) (ie : Bool) (x : Ending) → ReadAs x → Sends (told v ie x) → ReadTold (told v ie x)
-  unfolding told toldUnit ended reelAfter
+  unfolding toldUnder toldUnit ended reelAfter
   read-told v ie x k (t, room) =
       record {
         stored = k .stored;
@@ -448,7 +448,7 @@ module _ (u : Unit) (m s : List ℕ) (inside : u .tape .position ≤ u .tape .en
 
   -- a Read by its mode: every mode that is known reads
   mode-comes : RunsOn u m s → isIllegal (readMode (header u m s .mode)) ≡ false → Reads (readMode (header u m s .mode))
-  unfolding readMode isIllegal carriedOut readBy rereadBy
+  unfolding readMode isIllegal carriedOutUnder readByUnder rereadByUnder
   mode-comes ran known =
       let h : Header = header u m s in
       let mode : ℕ = h .mode in
@@ -583,7 +583,7 @@ module _ (s : List ℕ) (e : ℕ) (r : Rule) (p : ℕ) (count : Count) where
 
 -- "A Position count of 0 moves nothing"; any other reads over objects from where the tape stands
 position-past : (s : List ℕ) (t : Tape) (r : Rule) (count : Count) (enb : Bool) → MotionPast s (t .end) r (t .position) count (positioned s t r count enb)
-unfolding positioned spaceMotion
+unfolding positionedUnder spaceMotion
 position-past s t r count enb =
     let none : (left : ℕ) → left ≡ howMany count → CountPast s (t .end) r (t .position) count (t .position) left = past-none s (t .end) (r .reverse) (t .position) (howMany count) (ofMarks count) in
     pick-told (MotionPast s (t .end) r (t .position) count) (eqb (howMany count) 0) _ _
@@ -596,7 +596,7 @@ unfolding commandOf
 position-command code mode y = rw y
 
 pub position-mode : (v : Unit) (m s : List ℕ) (h : Header) (x : Packet) (mode : ℕ) → mode < 4 → carriedOut v m s h x (positionMode mode) ≡ positionedBy v s h (countOf (leb 2 mode) (x .count)) (eqb mode 1 || eqb mode 3)
-unfolding positionMode carriedOut
+unfolding positionMode carriedOutUnder
 position-mode v m s h x zero l = refl
 position-mode v m s h x (suc zero) l = refl
 position-mode v m s h x (suc (suc zero)) l = refl
@@ -619,13 +619,13 @@ module _ (u : Unit) (m s : List ℕ) where
   space-told : (reverse : Bool) (count : Count) (v : Unit) (ie : Bool) (x : Ending)
       → Past s (u .tape .end) reverse (u .tape .position) (howMany count) (ofMarks count) (x .tape .position) (residualWord (x .end .residual)) → Sends u m s (told v ie x)
       → SpaceTold reverse count (told v ie x)
-  unfolding told toldUnit ended
+  unfolding toldUnder toldUnit ended
   space-told reverse count v ie x (o, c) (t, room) = (o, rw (told-word v ie x m s t room) c)
 
   -- a Position either way, over records or marks
   position-told : (reverse : Bool) (count : Count) → Sends u m s (positionedBy (started u m s) s (header u m s) count reverse)
       → SpaceTold reverse count (positionedBy (started u m s) s (header u m s) count reverse)
-  unfolding positionedBy
+  unfolding positionedByUnder
   position-told reverse count =
       motion-sends u m s (SpaceTold reverse count) _ (λ why k. Always) (started u m s) (header u m s .ie) (space-told reverse count (started u m s) (header u m s .ie)) _
       (position-past s (u .tape) (record { reverse = reverse; ess = u .characteristics .ess }) count (u .characteristics .enb))

@@ -4,14 +4,14 @@ use mathlib.Core.List.{List}
 use mathlib.Core.Path.{_≡_, refl, sym, ap, subst, _∙_}
 use Prim.Native.Nat.{ℕ, zero, suc, _+_, _-_, _<_, _≤_}
 use native.Mathlib.Omega.{arith}
-use borrow.Author.Tests.{eq-eqb, eqb-false, eqb-true, le-leb, leb-true, ne-eqb}
+use borrow.Author.Tests.{eq-eqb, eqb-false, eqb-true, le-leb, leb-true}
 use lib.Dec.{eqb, leb}
 use Rattle.lists.specs.Pick.{Always}
 use Rattle.lists.proofs.Cases.{by-test, pick-told}
-use Rattle.tape.specs.Numbers.{piecesOf}
-use Rattle.tape.specs.Pass.{ahead, badAt, beyond, faultOf, firstMet, isPiece, lowest, metBy, orderMet, passed, piecesMet, recordMet}
+use Rattle.tape.specs.Numbers.{piecesOf, recordLimit}
+use Rattle.tape.specs.Pass.{ahead, badAt, beyond, faultOf, firstMet, isPiece, lowest, metBy, metByUnder, orderMet, passed, passedUnder, piecesMet, piecesMetUnder, recordMet, recordMetUnder}
 use Rattle.tape.specs.Reading.{classAt}
-use Rattle.tape.specs.Sweep.{sweptBelow, sweptFrom, sweptOn}
+use Rattle.tape.specs.Sweep.{sweptBelow, sweptBelowUnder, sweptFrom, sweptFromUnder, sweptOn}
 use Rattle.tape.specs.Wrong.{WrongAt}
 use Rattle.tape.specs.declared.BlockFault.{BlockFault}
 use Rattle.tape.specs.declared.BlockFault.the-variants as fault
@@ -24,8 +24,9 @@ use Rattle.tape.specs.declared.Swept.the-variants as swept
 use Rattle.tape.proofs.Accepted.{clash}
 use Rattle.tape.proofs.Blame.{bad-wrong}
 use Rattle.tape.proofs.Faulted.{wrong-told}
-use Rattle.tape.proofs.Outcomes.{Outcome, at-end, at-fault, outcome, over-gap, over-mark, over-record}
-use Rattle.tape.proofs.Passes.{PiecesAt, first-order, order-below, pieces-whole}
+use Rattle.tape.proofs.Below.{lowest-below}
+use Rattle.tape.proofs.Outcomes.{Outcome, at-end, at-fault, one-at-least, outcome, over-gap, over-mark, over-record}
+use Rattle.tape.proofs.Passes.{first-order, met-record, order-below, passed-by}
 use Rattle.tape.proofs.ReadBlocks.{piece-read}
 use Rattle.tape.proofs.Within.{RecordIn, gap-within, mark-within, pass-onward, pass-within}
 use Rattle.moves.specs.Seeking.{sought}
@@ -53,10 +54,6 @@ piece-false b n i h y = clash (cc (piece-is b n i y))
 piece-not : (b : Block) (n i : ℕ) → (b ≡ block.Piece n i → ⊥) → isPiece b n i ≡ false
 piece-not b n i f = by-test (isPiece b n i) (λ t. absurd (f (piece-true b n i t))) (λ t. t)
 
--- not none, so one or more
-one-at-least : (n : ℕ) → (n ≡ 0 → ⊥) → 1 ≤ n
-one-at-least n f = omega arith
-
 -- at most, and not the same
 below : (i j : ℕ) → i ≤ j → (i ≡ j → ⊥) → i < j
 below i j h f = omega arith
@@ -81,7 +78,7 @@ module _ (s : List ℕ) (e : ℕ) (reverse : Bool) (q : ℕ) where
   -- the pieces before number j were the ones due: the next that is not is the first at fault
   pieces-faulty : (n j c : ℕ) → piecesOf n ≤ ahead reverse q e → 1 ≤ j → c ≤ piecesOf n - j → ((i : ℕ) → i < j → Due n i)
       → Faulty (piecesMet s reverse n (lowest reverse q (piecesOf n)) (piecesOf n) j c (met.Record n (beyond reverse q (piecesOf n))))
-  unfolding piecesMet
+  unfolding piecesMetUnder
   pieces-faulty n j zero fits one all f = tt
   pieces-faulty n j (suc c) fits one all f =
       let m : ℕ = piecesOf n in
@@ -93,7 +90,7 @@ module _ (s : List ℕ) (e : ℕ) (reverse : Bool) (q : ℕ) where
 
   -- a record met at its piece i
   record-faulty : (n i : ℕ) → 1 ≤ ahead reverse q e → classAt s (firstMet reverse q) ≡ block.Piece n i → Faulty (recordMet s reverse q e n i)
-  unfolding recordMet
+  unfolding recordMetUnder
   record-faulty n i h c =
       let m : ℕ = piecesOf n in
       let first : Bool = eqb i (orderMet reverse m 0) in
@@ -109,7 +106,7 @@ module _ (s : List ℕ) (e : ℕ) (reverse : Bool) (q : ℕ) where
 
   -- whatever the first block met is
   block-faulty : (b : Block) → 1 ≤ ahead reverse q e → classAt s (firstMet reverse q) ≡ b → Faulty (metBy s reverse q e b)
-  unfolding metBy
+  unfolding metByUnder
   block-faulty (block.Piece n i) h c = record-faulty n i h c
   block-faulty block.Mark h c = tt
   block-faulty block.Gap h c = tt
@@ -117,7 +114,7 @@ module _ (s : List ℕ) (e : ℕ) (reverse : Bool) (q : ℕ) where
 
   -- and so the pass over it
   pass-faulty : Faulty (passed s reverse q e)
-  unfolding passed
+  unfolding passedUnder
   pass-faulty =
       let n : ℕ = ahead reverse q e in
       pick-told Faulty (eqb n 0) _ _ (λ t. tt) (λ t. block-faulty (classAt s (firstMet reverse q)) (one-at-least n (eqb-false n 0 t)) refl)
@@ -130,10 +127,6 @@ bad-first s e reverse q why k y = rw y at (pass-faulty s e reverse q)
 first-below : (reverse : Bool) (q e : ℕ) → q ≤ e → 1 ≤ ahead reverse q e → firstMet reverse q < e
 first-below true q e h k = omega arith
 first-below false q e h k = omega arith
-
-lowest-below : (reverse : Bool) (q e m : ℕ) → q ≤ e → m ≤ ahead reverse q e → lowest reverse q m + m ≤ e
-lowest-below true q e m h k = omega arith
-lowest-below false q e m h k = omega arith
 
 -- a block at fault lies below the recorded end
 pub bad-below : (s : List ℕ) (e : ℕ) (reverse : Bool) (q k : ℕ) → q ≤ e → FaultAt s e reverse q k → k < e
@@ -148,21 +141,6 @@ over-below s e reverse h nothing-yet = h
 over-below s e reverse h (then-record {q = q} o y) = pass-onward s reverse q e (over-below s e reverse h o) y .below
 over-below s e reverse h (then-mark {q = q} o y) = mark-within s reverse q e (over-below s e reverse h o) y .below
 over-below s e reverse h (then-gap {q = q} o y) = gap-within s reverse q e (over-below s e reverse h o) y .below
-
--- the first block met decides what is met
-pass-by : (s : List ℕ) (e : ℕ) (reverse : Bool) (q : ℕ) (b : Block) → 1 ≤ ahead reverse q e → classAt s (firstMet reverse q) ≡ b → passed s reverse q e ≡ metBy s reverse q e b
-unfolding passed
-pass-by s e reverse q b h c = rw (ne-eqb (ahead reverse q e) 0 (λ z. omega arith), c)
-
--- a record of n bytes, all of whose pieces stand ahead, is met whole
-record-whole : (s : List ℕ) (e : ℕ) (reverse : Bool) (q n : ℕ) → 1 ≤ n → piecesOf n ≤ ahead reverse q e → PiecesAt s (lowest reverse q (piecesOf n)) n → passed s reverse q e ≡ met.Record n (beyond reverse q (piecesOf n))
-unfolding metBy recordMet
-record-whole s e reverse q n some fits all =
-    let m : ℕ = piecesOf n in
-    let i : ℕ = orderMet reverse m 0 in
-    let c : classAt s (firstMet reverse q) ≡ block.Piece n i = rw (first-order reverse q e m (omega arith) fits) (all i (order-below reverse m 0 (omega arith))) in
-    pass-by s e reverse q (block.Piece n i) (omega arith) c
-    ∙ rw (eq-eqb i i refl, le-leb m (ahead reverse q e) fits) (pieces-whole s reverse n (lowest reverse q m) 1 (m - 1) _ all (omega arith))
 
 -- the way back from beyond m blocks: they lie ahead, from the same block on, and beyond them is where the way began
 back-ahead : (reverse : Bool) (q e m : ℕ) → q ≤ e → m ≤ ahead reverse q e → m ≤ ahead (not reverse) (beyond reverse q m) e
@@ -192,7 +170,7 @@ module _ (s : List ℕ) (e : ℕ) (reverse : Bool) (q : ℕ) (h : q ≤ e) where
       let m : ℕ = piecesOf n in
       let t : ℕ = beyond reverse q m in
       let w : passed s (not reverse) t e ≡ met.Record n (beyond (not reverse) t m) =
-      record-whole s e (not reverse) t n some (back-ahead reverse q e m h fits) (rw (back-lowest reverse q m) all) in
+      met-record recordLimit s (not reverse) t e n some (back-ahead reverse q e m h fits) (rw (back-lowest reverse q m) all) in
       rw y (rw (back-beyond reverse q e m fits) at w)
   back-by x (over-mark f c y) = rw y tt
   back-by x (over-gap f c y) = rw y tt
@@ -211,7 +189,7 @@ module _ (s : List ℕ) (e : ℕ) (reverse : Bool) (q : ℕ) (h : q ≤ e) where
 module _ (s : List ℕ) (e : ℕ) (reverse : Bool) (q : ℕ) where
   -- a piece that is not met first, or of a record that is cut off
   record-cut : (n i : ℕ) → (i ≡ orderMet reverse (piecesOf n) 0 → piecesOf n ≤ ahead reverse q e → ⊥) → recordMet s reverse q e n i ≡ met.Bad fault.Index (firstMet reverse q)
-  unfolding recordMet
+  unfolding recordMetUnder
   record-cut n i f =
       let m : ℕ = piecesOf n in
       let first : Bool = eqb i (orderMet reverse m 0) in
@@ -225,7 +203,7 @@ module _ (s : List ℕ) (e : ℕ) (reverse : Bool) (q : ℕ) where
   -- the pieces before number j are the ones due and number j is not: from number i on it is the one named
   pieces-bad : (n j i c : ℕ) (x : Met) → i ≤ j → j < i + c → ((i : ℕ) → i < j → Due s e reverse q n i) → (Due s e reverse q n j → ⊥)
       → piecesMet s reverse n (lowest reverse q (piecesOf n)) (piecesOf n) i c x ≡ badAt s (metAt s e reverse q (piecesOf n) j)
-  unfolding piecesMet
+  unfolding piecesMetUnder
   pieces-bad n j i zero x h l f g = absurd (omega arith)
   pieces-bad n j i (suc c) x h l f g =
       let m : ℕ = piecesOf n in
@@ -237,14 +215,14 @@ module _ (s : List ℕ) (e : ℕ) (reverse : Bool) (q : ℕ) where
 
 -- and the other way: a block at fault in one of the three ways is the one that the pass names
 pub first-bad : (s : List ℕ) (e : ℕ) (reverse : Bool) (q k : ℕ) → FaultAt s e reverse q k → passed s reverse q e ≡ badAt s k
-unfolding metBy recordMet faultOf
-first-bad s e reverse q k (damaged {f = f} h c) = pass-by s e reverse q (block.Damaged f) h c ∙ rw c
-first-bad s e reverse q k (out-of-place {n = n} {i = i} h c f) = pass-by s e reverse q (block.Piece n i) h c ∙ record-cut s e reverse q n i f ∙ rw c
+unfolding metByUnder recordMetUnder faultOf
+first-bad s e reverse q k (damaged {f = f} h c) = passed-by recordLimit s reverse q e (block.Damaged f) h c ∙ rw c
+first-bad s e reverse q k (out-of-place {n = n} {i = i} h c f) = passed-by recordLimit s reverse q e (block.Piece n i) h c ∙ record-cut s e reverse q n i f ∙ rw c
 first-bad s e reverse q k (not-due {n = n} {j = j} fits one l f g) =
     let m : ℕ = piecesOf n in
     let i : ℕ = orderMet reverse m 0 in
     let c : classAt s (firstMet reverse q) ≡ block.Piece n i = rw (first-order reverse q e m (omega arith) fits) (f 0 one) in
-    pass-by s e reverse q (block.Piece n i) (omega arith) c
+    passed-by recordLimit s reverse q e (block.Piece n i) (omega arith) c
     ∙ rw (eq-eqb i i refl, le-leb m (ahead reverse q e) fits) (pieces-bad s e reverse q n j 1 (m - 1) _ one (omega arith) f g)
 
 -- read this way on the reel s, recorded up to e
@@ -314,11 +292,11 @@ module _ (s : List ℕ) (e : ℕ) where
 
   -- every turn, from a position that was read over to
   swept-from : (turns q : ℕ) → ReadOver s e false 0 q → SweptOver (sweptFrom turns s q e)
-  unfolding sweptFrom
+  unfolding sweptFromUnder
   swept-from zero q o = tt
   swept-from (suc turns) q o = swept-on q (passed s false q e) (λ t. sweptFrom turns s t e) o refl (λ t a. swept-from turns t a)
 
   -- "Mount reads every block below the end it is given": the sweep names the first block at fault
   pub swept-first : (why : BlockFault) (k : ℕ) → sweptBelow s e ≡ swept.Bad why k → FirstFault s e false 0 why k
-  unfolding sweptBelow
+  unfolding sweptBelowUnder
   swept-first why k y = rw y at (swept-from e 0 nothing-yet)

@@ -19,7 +19,7 @@ use Rattle.moves.specs.declared.spacing.Rule.{Rule}
 use Rattle.motions.specs.Parts.{laidBlocks, noLay}
 use Rattle.motions.specs.Reads.{readOne, reread}
 use Rattle.motions.specs.Spaces.{positioned}
-use Rattle.motions.specs.Writes.{behindGap, noRoom, retried, retriedBy, writtenAt, writtenMotion}
+use Rattle.motions.specs.Writes.{behindGap, noRoom, retried, retriedUnder, retriedBy, retriedByUnder, writtenAt, writtenAtUnder, writtenMotionUnder}
 use Rattle.motions.specs.declared.parts.Laid.{Laid}
 use Rattle.motions.specs.declared.parts.Motion.the-variants as motion
 use Rattle.motions.specs.declared.parts.Ending.{Ending}
@@ -59,7 +59,7 @@ module _ (s m : List ℕ) where
 
   module _ (t : Tape) (blocks : ℕ) where
     write-has : (l : Laid) (mark : Bool) → Has (KeptBelow s m (l .at)) (writtenAt t blocks l mark)
-    unfolding writtenAt noRoom writtenMotion
+    unfolding writtenAtUnder noRoom writtenMotionUnder
     write-has l mark =
         either (Has (KeptBelow s m (l .at))) (ltb blocks (l .at + laidBlocks l)) _ _
         (λ j h. ap (λ (r : List ℕ). getD r j 0) none-laid)
@@ -70,7 +70,7 @@ module _ (s m : List ℕ) where
     write-keeps-below l mark e y = rw (← e) (rw y at (write-has l mark))
 
     retry-by : (l : Laid) (mark : Bool) (q : ℕ) (f : Sought) → StopsAt q f → Has (KeptBelow s m q) (retriedBy t blocks l mark f)
-    unfolding retriedBy behindGap
+    unfolding retriedByUnder behindGap
     retry-by l mark q (sought-as.Record n q′) e = rw e (write-has (behindGap l q′) mark)
     retry-by l mark q (sought-as.Mark q′) e = rw e (write-has (behindGap l q′) mark)
     retry-by l mark q (sought-as.Nothing q′) e = λ j h. ap (λ (r : List ℕ). getD r j 0) none-laid
@@ -78,5 +78,5 @@ module _ (s m : List ℕ) where
 
     -- "Retry: space reverse over gaps and one record or mark, then a one-block gap, then the new object. None found: .. nothing written."
     pub retry-keeps-below : (l : Laid) (mark : Bool) (q : ℕ) {x : Ending} → StopsAt q (sought s true (t .position) (t .end)) → retried s t blocks l mark ≡ motion.Ended x → KeptBelow s m q x
-    unfolding retried
+    unfolding retriedUnder
     retry-keeps-below l mark q e y = rw y at (retry-by l mark q (sought s true (t .position) (t .end)) e)

@@ -11,14 +11,14 @@ use Rattle.tape.specs.declared.Met.the-variants as met
 use Rattle.tape.proofs.Within.{Onward, PassIn, fewer-ahead, pass-in}
 use Rattle.tape.specs.declared.BlockFault.{BlockFault}
 use Rattle.state.specs.declared.Unit.{Unit}
-use Rattle.moves.specs.Seeking.{sought, soughtFrom, soughtOn}
+use Rattle.moves.specs.Seeking.{sought, soughtUnder, soughtFrom, soughtFromUnder, soughtOn}
 use Rattle.moves.specs.declared.seeking.Sought.{Sought}
 use Rattle.moves.specs.declared.seeking.Sought.the-variants as sought-as
 use Rattle.moves.proofs.Finds.{ahead-most}
 use Rattle.motions.specs.declared.parts.Ending.{Ending}
 use Rattle.motions.specs.declared.parts.Motion.{Motion}
 use Rattle.motions.specs.declared.parts.Motion.the-variants as motion
-use Rattle.commands.specs.Ends.{motionPlan, still, told}
+use Rattle.commands.specs.Ends.{motionPlan, motionPlanUnder, still, toldUnder}
 use Rattle.commands.specs.declared.plans.Answer.{Answer}
 use Rattle.commands.specs.declared.plans.Answer.the-variants as answer
 
@@ -42,14 +42,14 @@ module _ (s : List ℕ) (e : ℕ) (reverse : Bool) (At : ℕ → Type 0) (behind
 
   -- a gap takes a block, so the turns are enough
   meets-from : (turns q : ℕ) → (p ≤ e → (q ≤ e) × (ahead reverse q e ≤ turns)) → At q → Meets (soughtFrom turns s reverse q e)
-  unfolding soughtFrom
+  unfolding soughtFromUnder
   meets-from zero q l a = (a, λ h. omega (arith, l h .1))
   meets-from (suc turns) q l a =
       meets-on q (passed s reverse q e) (λ t. soughtFrom turns s reverse t e) a refl (λ h. pass-in s reverse q e (l h .0))
       (λ t o b. meets-from turns t (λ h. (o h .below, omega (arith, l h .1, fewer-ahead reverse q e t (l h .0) (o h)))) b)
 
   pub meets : At p → Meets (sought s reverse p e)
-  unfolding sought
+  unfolding soughtUnder
   meets a = meets-from e p (λ h. (h, ahead-most reverse p e h)) a
 
 -- where a search from inside the recorded part finds nothing, nothing more lies ahead
@@ -70,6 +70,6 @@ Answers F (answer.Refused n) = Always
 
 -- a motion's fault is its plan's answer
 pub motion-answers : (Q : Ending → Type 0) (F : BlockFault → ℕ → Type 0) (u : Unit) (ie : Bool) (x : Motion) → Comes Q F x → Answers F (motionPlan u ie x .answer)
-unfolding motionPlan told still
+unfolding motionPlanUnder toldUnder still
 motion-answers Q F u ie (motion.Ended x) c = tt
 motion-answers Q F u ie (motion.Fault why k) c = c

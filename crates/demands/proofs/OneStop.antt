@@ -7,7 +7,7 @@ use native.Mathlib.Omega.{arith}
 use borrow.Author.Tests.{eq-eqb, le-ltb, lt-ltb}
 use lib.Dec.{eqb, ltb}
 use Rattle.lists.specs.Pick.{pick}
-use Rattle.tape.specs.Pass.{ahead, passed}
+use Rattle.tape.specs.Pass.{ahead, passed, passedUnder}
 use Rattle.tape.specs.declared.Met.{Met}
 use Rattle.tape.specs.declared.Met.the-variants as met
 use Rattle.tape.specs.declared.BlockFault.{BlockFault}
@@ -119,7 +119,7 @@ module _ (s : List ℕ) (t : Tape) (rule : Rule) (count : Count) where
 
   -- where nothing lies ahead nothing is met
   none-ahead : (reverse : Bool) (q : ℕ) → ahead reverse q (t .end) ≡ 0 → passed s reverse q (t .end) ≡ met.Nothing
-  unfolding passed
+  unfolding passedUnder
   none-ahead reverse q h = rw (eq-eqb (ahead reverse q (t .end)) 0 h)
 
   -- the five ends, with so much left

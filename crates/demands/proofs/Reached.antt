@@ -25,11 +25,11 @@ use Rattle.moves.specs.Seeking.{sought}
 use Rattle.moves.specs.declared.seeking.Sought.{Sought}
 use Rattle.moves.specs.declared.seeking.Sought.the-variants as sought-as
 use Rattle.motions.specs.Parts.{laidBlocks}
-use Rattle.motions.specs.Writes.{behindGap, noRoom, retried, retriedBy, writtenAt, writtenMotion}
+use Rattle.motions.specs.Writes.{behindGap, noRoom, retried, retriedUnder, retriedBy, retriedByUnder, writtenAt, writtenAtUnder, writtenMotionUnder}
 use Rattle.motions.specs.declared.parts.Laid.{Laid}
 use Rattle.motions.specs.declared.parts.Motion.{Motion}
-use Rattle.commands.specs.Commands.{carriedOut, characteristicsAt, characterized, formatted, plainEffect, positionedBy, refusedCharacteristics, released, rewound, takenCharacteristics, unloaded, writtenBy}
-use Rattle.commands.specs.Ends.{motionPlan, still, told, untold}
+use Rattle.commands.specs.Commands.{carriedOut, carriedOutUnder, characteristicsAt, characterized, characterizedUnder, formattedUnder, plainEffectUnder, positionedBy, positionedByUnder, refusedCharacteristicsUnder, released, rewoundUnder, takenCharacteristicsUnder, unloadedUnder, writtenByUnder}
+use Rattle.commands.specs.Ends.{motionPlan, still, toldUnder, untold}
 use Rattle.commands.specs.declared.plans.Answer.{Answer}
 use Rattle.commands.specs.declared.plans.Answer.the-variants as answer
 use Rattle.commands.specs.declared.plans.Plan.{Plan}
@@ -70,12 +70,12 @@ format-one h y z = (rw (y, z), rw (y, z))
 module _ (F : BlockFault → ℕ → Type 0) where
   -- nothing is read where an object is written
   written-none : (t : Tape) (blocks : ℕ) (l : Laid) (mark : Bool) → Comes (λ x. Always) F (writtenAt t blocks l mark)
-  unfolding writtenAt noRoom writtenMotion
+  unfolding writtenAtUnder noRoom writtenMotionUnder
   written-none t blocks l mark = either (Comes (λ x. Always) F) (ltb blocks (l .at + laidBlocks l)) _ _ tt tt
 
   -- nor by Write Characteristics, taken or refused
   characterized-none : (v : Unit) (m : List ℕ) (x : Packet) (ie : Bool) → Answers F (characterized v m x ie .answer)
-  unfolding characterized refusedCharacteristics takenCharacteristics told
+  unfolding characterizedUnder refusedCharacteristicsUnder takenCharacteristicsUnder toldUnder
   characterized-none v m x ie =
       let c = characteristicsAt m x in
       let P : Plan → Type 0 = λ q. Answers F (q .answer) in
@@ -83,7 +83,7 @@ module _ (F : BlockFault → ℕ → Type 0) where
 
   -- nor by a rewind
   rewind-none : (v : Unit) (m s : List ℕ) (h : Header) (x : Packet) (mode : ℕ) → 4 ≤ mode → Answers F (carriedOut v m s h x (positionMode mode) .answer)
-  unfolding positionMode carriedOut rewound plainEffect told
+  unfolding positionMode carriedOutUnder rewoundUnder plainEffectUnder toldUnder
   rewind-none v m s h x mode l =
       let other : (k : ℕ) → k < 4 → eqb mode k ≡ false = λ k j. ne-eqb mode k (λ z. omega arith) in
       rw (other 0 (omega arith), other 1 (omega arith), other 2 (omega arith), other 3 (omega arith))
@@ -110,14 +110,14 @@ module _ (u : Unit) (m s : List ℕ) (inside : u .tape .position ≤ u .tape .en
     module _ (l : Laid) (mark : Bool) (one : readsOne (header u m s) ≡ true) where
       retry-by : (f : Sought) → Meets s (u .tape .end) (way u m s) (Gapped u m s) (λ q t g y. behind-gap g y) (u .tape .position) f
           → Comes (λ x. Always) (MustRead u m s) (retriedBy (u .tape) (u .lengths .blocks) l mark f)
-      unfolding retriedBy
+      unfolding retriedByUnder
       retry-by (sought-as.Record n q) o = written-none (MustRead u m s) (u .tape) (u .lengths .blocks) (behindGap l q) mark
       retry-by (sought-as.Mark q) o = written-none (MustRead u m s) (u .tape) (u .lengths .blocks) (behindGap l q) mark
       retry-by (sought-as.Nothing q) o = tt
       retry-by (sought-as.Bad why k) (q, g, y) = of-one ran one g y
 
       retry-must : way u m s ≡ true → Moves (retried s (u .tape) (u .lengths .blocks) l mark)
-      unfolding retried
+      unfolding retriedUnder
       retry-must back =
           let by : Bool → Motion = λ b. retriedBy (u .tape) (u .lengths .blocks) l mark (sought s b (u .tape .position) (u .tape .end)) in
           subst (λ b. Moves (by b)) back
@@ -130,13 +130,13 @@ module _ (u : Unit) (m s : List ℕ) (inside : u .tape .position ≤ u .tape .en
         motion-answers (λ x. Always) (MustRead u m s) (started u m s) (header u m s .ie) (writtenAt (u .tape) (u .lengths .blocks) l mark) (written-none (MustRead u m s) (u .tape) (u .lengths .blocks) l mark)
 
     write-must : header u m s .code ≡ 5 → Must (writeMode (header u m s .mode))
-    unfolding writeMode carriedOut writtenBy plainEffect told
+    unfolding writeMode carriedOutUnder writtenByUnder plainEffectUnder toldUnder
     write-must code =
         let mode : ℕ = header u m s .mode in
         either Must (eqb mode 0) _ _ (written-must _ _) (pick-told Must (eqb mode 2) _ _ (λ t. let w = write-one (header u m s) code (eqb-true mode 2 t) in retry-must _ _ (w .0) (w .1)) (λ t. tt))
 
     format-must : header u m s .code ≡ 9 → Must (formatMode (header u m s .mode))
-    unfolding formatMode carriedOut formatted plainEffect told
+    unfolding formatMode carriedOutUnder formattedUnder plainEffectUnder toldUnder
     format-must code =
         let mode : ℕ = header u m s .mode in
         either Must (eqb mode 0) _ _ (written-must _ _)
@@ -147,7 +147,7 @@ module _ (u : Unit) (m s : List ℕ) (inside : u .tape .position ≤ u .tape .en
     Refuses = SpaceRefused s (u .tape) (ruleAsked u m s) (countAsked u m s) (markAtStart u m s)
 
     space-answers : Answers Refuses (positionedBy (started u m s) s (header u m s) (countAsked u m s) (way u m s) .answer)
-    unfolding positionedBy
+    unfolding positionedByUnder
     space-answers =
         let v : Unit = started u m s in
         let ie : Bool = header u m s .ie in
@@ -169,7 +169,7 @@ module _ (u : Unit) (m s : List ℕ) (inside : u .tape .position ≤ u .tape .en
 
     -- every command, by its code
     command-must : Must (commandOf (header u m s .code) (header u m s .mode))
-    unfolding commandOf singleMode controlMode carriedOut released unloaded plainEffect told untold still
+    unfolding commandOf singleMode controlMode carriedOutUnder released unloadedUnder plainEffectUnder toldUnder untold still
     command-must =
         let code : ℕ = header u m s .code in
         let mode : ℕ = header u m s .mode in
@@ -184,7 +184,7 @@ module _ (u : Unit) (m s : List ℕ) (inside : u .tape .position ≤ u .tape .en
 
   -- only a command carried out can answer with a block: the other ways answer Done or Idle
   way-must : {x : Plan} → Way u m s x → Answers (MustRead u m s) (x .answer)
-  unfolding told untold still
+  unfolding toldUnder untold still
   way-must (idle a b) = tt
   way-must (attention a b) = tt
   way-must (no-header a b) = tt

@@ -19,11 +19,11 @@ use Rattle.tape.specs.declared.Met.the-variants as met
 use Rattle.tape.proofs.Passes.{pass-forward, pass-reverse}
 use Rattle.tape.proofs.Recorded.{record-stands}
 use Rattle.tape.proofs.Written.{laid-stands}
-use Rattle.moves.specs.Seeking.{sought, soughtOn}
+use Rattle.moves.specs.Seeking.{sought, soughtUnder, soughtOn}
 use Rattle.moves.specs.declared.seeking.Sought.the-variants as sought-as
 use Rattle.moves.proofs.Seeks.{seek-turn}
 use Rattle.motions.specs.Parts.{laidBlocks, objectBlocks, standing}
-use Rattle.motions.specs.Reads.{firstBlock, onRecord, readEnd, readMotion, readOne, stageBy, stageOf}
+use Rattle.motions.specs.Reads.{firstBlock, onRecord, readEnd, readMotion, readOne, readOneUnder, stageBy, stageOfUnder}
 use Rattle.motions.specs.declared.parts.Laid.{Laid}
 use Rattle.motions.specs.declared.parts.ObjectKind.{ObjectKind}
 use Rattle.motions.specs.declared.parts.ObjectKind.the-variants as kind
@@ -34,12 +34,12 @@ use Rattle.storing.proofs.Ways.{blocks-after-gap, blocks-alone, laid-after-gap,
 
 -- a record met at once is what the search finds
 pub found-at-once : (s : List ℕ) (reverse : Bool) (p e n q : ℕ) → 0 < e → passed s reverse p e ≡ met.Record n q → sought s reverse p e ≡ sought-as.Record n q
-unfolding sought soughtOn
+unfolding soughtUnder soughtOn
 found-at-once s reverse p e n q h k = sym (seek-turn e s reverse p e {m = met.Record n q} {r = sought-as.Record n q} h (sym k) refl)
 
 -- and a Read that finds one moves it
 pub read-found : (s : List ℕ) (reverse : Bool) (p e n q : ℕ) (r : Buffer) → sought s reverse p e ≡ sought-as.Record n q → readOne s (standing p e) r reverse ≡ readMotion r reverse n q (standing q e) reverse
-unfolding readOne stageOf stageBy onRecord
+unfolding readOneUnder stageOfUnder stageBy onRecord
 read-found s reverse p e n q r k = rw k
 
 -- the whole record is moved where the count is its length

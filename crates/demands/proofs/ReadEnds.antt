@@ -14,7 +14,7 @@ use Rattle.moves.specs.declared.seeking.Sought.{Sought}
 use Rattle.moves.proofs.Finds.{finds}
 use Rattle.moves.proofs.FoundAt.{found-bytes}
 use Rattle.motions.specs.Parts.{standing}
-use Rattle.motions.specs.Reads.{firstBlock, onRecord, readMotion, readOne, stageBy, stageOf, stopMotion}
+use Rattle.motions.specs.Reads.{firstBlock, onRecord, readMotion, readOne, readOneUnder, stageBy, stageOfUnder, stopMotion}
 use Rattle.motions.specs.declared.reads.Buffer.{Buffer}
 use Rattle.storing.specs.Stored.{movedOn}
 use Rattle.demands.specs.Reading.{Moves, ReadEnds, met-mark, met-nothing, met-record}
@@ -37,5 +37,5 @@ module _ {s : List ℕ} {e : ℕ} {os : List Object} (h : Holds s e os) (r : Buf
 
     -- "Read 1 / 0 next, 1 previous", from a bound between two objects
     pub read-ends : ReadEnds os p e r reverse (λ d q. Moves s e r d reverse reverse q) (readOne s (standing p e) r reverse)
-    unfolding readOne stageOf
+    unfolding readOneUnder stageOfUnder
     read-ends = one-by (finds h reverse b)

@@ -24,7 +24,7 @@ use Rattle.moves.proofs.Finds.{finds}
 use Rattle.moves.proofs.FoundAt.{found-stands}
 use Rattle.moves.proofs.Within.{sought-record}
 use Rattle.motions.specs.Parts.{standing}
-use Rattle.motions.specs.Reads.{firstBlock, onRecord, readOne, readThenSpace, reread, spaceBack, spaceThenRead, stageBy, stageOf, stopMotion}
+use Rattle.motions.specs.Reads.{firstBlock, onRecord, readOne, readThenSpaceUnder, reread, rereadUnder, spaceBack, spaceBackUnder, spaceThenReadUnder, stageBy, stageOfUnder, stopMotion}
 use Rattle.motions.specs.declared.parts.Motion.{Motion}
 use Rattle.motions.specs.declared.reads.Buffer.{Buffer}
 use Rattle.demands.specs.Reading.{BothStages, Moves, ReadEnds, met-mark, met-nothing, met-record}
@@ -67,7 +67,7 @@ module _ {s : List ℕ} {e : ℕ} {os : List Object} (h : Holds s e os) (r : Buf
         rw (read-found s (not reverse) q e (length d) q′ r second) (moves-found h r reverse d gaps w (not reverse) (not reverse) q′ q′ (back-first reverse (length d) q))
 
     then-space : BothStages s e r reverse true d q (spaceBack s e r reverse (length d) q)
-    unfolding spaceBack stageOf stageBy onRecord firstBlock
+    unfolding spaceBackUnder stageOfUnder stageBy onRecord firstBlock
     then-space = rw second (moves-found h r reverse d gaps w reverse (not reverse) q _ refl)
 
   -- by what the first stage found, with the read last or, with OPP, first
@@ -89,7 +89,7 @@ module _ {s : List ℕ} {e : ℕ} {os : List Object} (h : Holds s e os) (r : Buf
 
   -- every end of a reread on a well formed reel, from a bound between two objects
   pub reread-ends : (opp : Bool) → ReadEnds os p e r reverse (BothStages s e r reverse opp) (reread s (standing p e) r reverse opp)
-  unfolding reread spaceThenRead readThenSpace stageOf
+  unfolding rereadUnder spaceThenReadUnder readThenSpaceUnder stageOfUnder
   reread-ends opp = by-first opp refl (finds h reverse b)
 
 -- a record behind nothing but gaps: the Read moves it, and the reread runs both stages over it
@@ -99,6 +99,6 @@ module _ {s : List ℕ} {e : ℕ} {os : List Object} (h : Holds s e os) (r : Buf
   read-record = rw (read-found s reverse p e (length d) q r (nearest h reverse d gaps g w)) (moves-found h r reverse d gaps w reverse reverse q q refl)
 
   pub reread-record : (opp : Bool) → BothStages s e r reverse opp d q (reread s (standing p e) r reverse opp)
-  unfolding reread spaceThenRead readThenSpace stageOf stageBy onRecord
+  unfolding rereadUnder spaceThenReadUnder readThenSpaceUnder stageOfUnder stageBy onRecord
   reread-record false = rw (nearest h reverse d gaps g w) (then-read h r reverse (bound-from reverse w) d gaps w (nearest h reverse d gaps g w))
   reread-record true = rw (nearest h reverse d gaps g w) (then-space h r reverse (bound-from reverse w) d gaps w (nearest h reverse d gaps g w))

@@ -30,8 +30,8 @@ use Rattle.moves.specs.declared.spacing.Stop.the-variants as stop-as
 use Rattle.moves.proofs.Bounds.{bound-below, stays}
 use Rattle.moves.proofs.Counts.{spaced-between, spaced-sound, spaced-why}
 use Rattle.motions.specs.Parts.{end, movedLength, standing, stops}
-use Rattle.motions.specs.Reads.{markEnd, nothingEnd, onRecord, readEnd, readMotion, readOne, readThenSpace, reread, spaceBack, spaceThenRead, stageBy, stageOf, stopMotion}
-use Rattle.motions.specs.Spaces.{positioned, residualOf, spaceEnd, spaceMotion, spaceMotionBy, startSpan}
+use Rattle.motions.specs.Reads.{markEnd, nothingEnd, onRecord, readEnd, readMotion, readOne, readOneUnder, readThenSpace, readThenSpaceUnder, reread, rereadUnder, spaceBack, spaceBackUnder, spaceThenRead, spaceThenReadUnder, stageBy, stageOf, stageOfUnder, stopMotion}
+use Rattle.motions.specs.Spaces.{positioned, positionedUnder, residualOf, spaceEnd, spaceMotion, spaceMotionBy, startSpan}
 use Rattle.motions.specs.declared.parts.Motion.{Motion}
 use Rattle.motions.specs.declared.parts.Motion.the-variants as motion
 use Rattle.motions.specs.declared.parts.Ending.{Ending}
@@ -72,7 +72,7 @@ module _ (r : Buffer) where
 
   module _ (s : List ℕ) where
     stage-adds : (t : Tape) (reverse : Bool) → StageAdds (stageOf s t (r .count) reverse)
-    unfolding stageOf
+    unfolding stageOfUnder
     stage-adds t reverse = stage-by t reverse _
 
     -- what goes on from a stage
@@ -80,23 +80,23 @@ module _ (r : Buffer) where
     goes-on t reverse f h = on-record (Has Adds) (λ n q. Always) _ f (stage-adds t reverse) (λ n q i. h n q)
 
     one-adds : (t : Tape) (reverse : Bool) → Has Adds (readOne s t r reverse)
-    unfolding readOne
+    unfolding readOneUnder
     one-adds t reverse = goes-on t reverse _ (λ n q. record-adds reverse n q _ reverse)
 
     then-read-adds : (t : Tape) (reverse : Bool) → Has Adds (spaceThenRead s t r reverse)
-    unfolding spaceThenRead
+    unfolding spaceThenReadUnder
     then-read-adds t reverse = goes-on t reverse _ (λ n q. one-adds _ (not reverse))
 
     back-adds : (e : ℕ) (reverse : Bool) (n q : ℕ) → Has Adds (spaceBack s e r reverse n q)
-    unfolding spaceBack
+    unfolding spaceBackUnder
     back-adds e reverse n q = goes-on _ (not reverse) _ (λ n′ b. record-adds reverse n q _ (not reverse))
 
     then-space-adds : (t : Tape) (reverse : Bool) → Has Adds (readThenSpace s t r reverse)
-    unfolding readThenSpace
+    unfolding readThenSpaceUnder
     then-space-adds t reverse = goes-on t reverse _ (λ n q. back-adds (t .end) reverse n q)
 
     reread-adds : (t : Tape) (reverse opp : Bool) → Has Adds (reread s t r reverse opp)
-    unfolding reread
+    unfolding rereadUnder
     reread-adds t reverse opp = either (Has Adds) opp _ _ (then-space-adds t reverse) (then-read-adds t reverse)
 
 module _ (s : List ℕ) (t : Tape) (r : Buffer) (reverse : Bool) {x : Ending} where
@@ -173,7 +173,7 @@ module _ {s : List ℕ} {os : List Object} (t : Tape) (h : Holds s (t .end) os) 
     motion-by (stop-as.Bad why k) e = tt
 
     passes : Has (SpacedPast os r (t .position) count) (positioned s t r count enb)
-    unfolding positioned spaceMotion
+    unfolding positionedUnder spaceMotion
     passes = pick-told (Has (SpacedPast os r (t .position) count)) (eqb (howMany count) 0) _ _ none-asked (λ e. motion-by (spaces .stop) refl)
 
     module _ {x : Ending} (y : positioned s t r count enb ≡ motion.Ended x) where

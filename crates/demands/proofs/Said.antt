@@ -19,8 +19,8 @@ use Rattle.moves.proofs.Counting.{number-asked}
 use Rattle.motions.specs.Parts.{end, resting}
 use Rattle.motions.specs.Spaces.{residualOf}
 use Rattle.motions.specs.declared.parts.Ending.{Ending}
-use Rattle.commands.specs.Commands.{carriedOut, positionedBy}
-use Rattle.commands.specs.Ends.{ended, motionPlan, told, toldUnit}
+use Rattle.commands.specs.Commands.{carriedOut, positionedBy, positionedByUnder}
+use Rattle.commands.specs.Ends.{ended, motionPlan, motionPlanUnder, told, toldUnder, toldUnit}
 use Rattle.commands.specs.declared.plans.Plan.{Plan}
 use Rattle.storing.specs.Stored.{memoryAfter}
 use Rattle.advance.specs.Rules.{reverseFirst}
@@ -72,7 +72,7 @@ module _ (u : Unit) (m s : List ℕ) where
     xst3 : wordAt (memoryAfter q m s) (q .unit .characteristics .address + 12) ≡ ending .end .xst3
 
   says : (rule : Rule) (v : Unit) (ie : Bool) (x : Ending) → EndedBy rule x → Sends u m s (told v ie x) → SaysBy rule (told v ie x)
-  unfolding told toldUnit ended
+  unfolding toldUnder toldUnit ended
   says rule v ie x k (t, room) =
       record {
         ending = x;
@@ -90,7 +90,7 @@ module _ (u : Unit) (m s : List ℕ) where
   -- a Position either way
   position-says : (reverse : Bool) → u .tape .position ≤ u .tape .end → eqb (packet u m s .count) 0 ≡ false → Sends u m s (positionedBy (started u m s) s (header u m s) (countAsked u m s) reverse)
       → SaysBy (byRule reverse) (positionedBy (started u m s) s (header u m s) (countAsked u m s) reverse)
-  unfolding positionedBy
+  unfolding positionedByUnder
   position-says reverse inside some =
       let asked = rw (← number-asked (leb 2 (header u m s .mode)) (packet u m s .count)) at some in
       motion-sends u m s (SaysBy (byRule reverse)) (EndedBy (byRule reverse)) _ (started u m s) (header u m s .ie) (says (byRule reverse) (started u m s) (header u m s .ie)) _
@@ -117,7 +117,7 @@ module _ (u : Unit) (m s : List ℕ) where
   NoneBy q = SpacedNone u m s (q .unit) (memoryAfter q m s)
 
   none-says : (ie : Bool) → howMany (countAsked u m s) ≡ 0 → Sends u m s (told (started u m s) ie (resting (end 0 0 0 (residualOf (countAsked u m s))) (u .tape))) → NoneBy (told (started u m s) ie (resting (end 0 0 0 (residualOf (countAsked u m s))) (u .tape)))
-  unfolding told toldUnit ended
+  unfolding toldUnder toldUnit ended
   none-says ie z (t, room) =
       let x : Ending = resting (end 0 0 0 (residualOf (countAsked u m s))) (u .tape) in
       record {
@@ -129,7 +129,7 @@ module _ (u : Unit) (m s : List ℕ) where
       }
 
   pub space-none : RunsOn u m s → header u m s .code ≡ 8 → header u m s .mode < 4 → packet u m s .count ≡ 0 → Sent u m s → NoneBy (advanced u m s)
-  unfolding positionedBy motionPlan
+  unfolding positionedByUnder motionPlanUnder
   space-none runs code few none sent =
       let h : Header = header u m s in
       let asked : howMany (countAsked u m s) ≡ 0 = number-asked (leb 2 (h .mode)) (packet u m s .count) ∙ none in

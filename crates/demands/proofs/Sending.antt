@@ -16,8 +16,8 @@ use Rattle.state.specs.declared.Unit.{Unit}
 use Rattle.state.proofs.Tests.{either}
 use Rattle.motions.specs.declared.parts.Motion.{Motion}
 use Rattle.motions.specs.declared.parts.Motion.the-variants as motion
-use Rattle.commands.specs.Commands.{carriedOut, formatted, plainEffect, positionedBy, readBy, rereadBy, rewound, unloaded, writtenBy}
-use Rattle.commands.specs.Ends.{ended, motionPlan, still, told, toldUnit}
+use Rattle.commands.specs.Commands.{carriedOut, carriedOutUnder, formattedUnder, plainEffectUnder, positionedByUnder, readByUnder, rereadByUnder, rewoundUnder, unloadedUnder, writtenByUnder}
+use Rattle.commands.specs.Ends.{ended, motionPlan, motionPlanUnder, still, toldUnder, toldUnit}
 use Rattle.commands.specs.declared.plans.Answer.the-variants as answer
 use Rattle.commands.specs.declared.plans.Plan.{Plan}
 use Rattle.advance.specs.Steps.{advanced}
@@ -70,12 +70,12 @@ Done x = (i : Bool) → x .answer ≡ answer.Done i → x .sends ≡ true
 
 module _ (v : Unit) (clear : v .registers .nba ≡ false) where
   motion-done : (ie : Bool) (y : Motion) → Done (motionPlan v ie y)
-  unfolding motionPlan told toldUnit ended still
+  unfolding motionPlanUnder toldUnder toldUnit ended still
   motion-done ie (motion.Ended x) i e = rw clear
   motion-done ie (motion.Fault why k) i e = absurd (clash (cc e))
 
   carried-done : (m s : List ℕ) (h : Header) (p : Packet) (c : Command) → Telling c → Done (carriedOut v m s h p c)
-  unfolding carriedOut readBy rereadBy positionedBy writtenBy formatted rewound unloaded plainEffect told toldUnit ended
+  unfolding carriedOutUnder readByUnder rereadByUnder positionedByUnder writtenByUnder formattedUnder rewoundUnder unloadedUnder plainEffectUnder toldUnder toldUnit ended
   carried-done m s h p command.ReadNext t = motion-done (h .ie) _
   carried-done m s h p command.ReadPrevious t = motion-done (h .ie) _
   carried-done m s h p command.RereadPrevious t = motion-done (h .ie) _
@@ -108,7 +108,7 @@ module _ (u : Unit) (m s : List ℕ) (f : Fetched u m s) (four : eqb (header u m
   clear-buffer = both-clear (u .registers .nba) (eqb (header u m s .code) 4) (f .buffer) four
 
   way-done : {x : Plan} → Way u m s x → Done x
-  unfolding told toldUnit ended
+  unfolding toldUnder toldUnit ended
   way-done (idle a b) = absurd (clash (cc (a, f .begins .waits .waiting)))
   way-done (attention a b) = absurd (clash (cc (a, f .begins .waits .waiting)))
   way-done (no-header a b) = absurd (omega (arith, f .begins .waits .within))

@@ -13,7 +13,7 @@ use Rattle.tape.specs.declared.Met.the-variants as met
 use Rattle.signals.specs.declared.message.End.{End}
 use Rattle.state.specs.declared.Tape.{Tape}
 use Rattle.moves.specs.Counting.{howMany, marks, ofMarks}
-use Rattle.moves.specs.Spacing.{recordTurn, span, spaced, turnOf}
+use Rattle.moves.specs.Spacing.{recordTurn, span, spaced, spacedUnder, turnOf}
 use Rattle.moves.specs.declared.seeking.Sought.{Sought}
 use Rattle.moves.specs.declared.seeking.Sought.the-variants as sought-as
 use Rattle.moves.specs.declared.spacing.Count.{Count}
@@ -28,7 +28,7 @@ use Rattle.moves.proofs.Counts.{spaced-why}
 use Rattle.moves.proofs.Rounds.{rounds}
 use Rattle.moves.proofs.Turns.{Counts, TurnHas, mark-turns}
 use Rattle.motions.specs.Parts.{end, resting, standing, stops}
-use Rattle.motions.specs.Spaces.{positioned, residualOf, spaceEnd, spaceMotion, spaceMotionBy, startSpan}
+use Rattle.motions.specs.Spaces.{positioned, positionedUnder, residualOf, spaceEnd, spaceMotion, spaceMotionBy, startSpan}
 use Rattle.motions.specs.declared.parts.Motion.{Motion}
 use Rattle.demands.specs.Done.{passedIn}
 use Rattle.demands.specs.Faults.{nothing-yet, then-gap, then-mark, then-record}
@@ -141,7 +141,7 @@ module _ (s : List ℕ) (t : Tape) (rule : Rule) (count : Count) (first : Bool) 
 
   -- so where the space stops
   spaced-kept : (x : Span) → t .position ≤ t .end → Counts (ofMarks count) x → KeptAt x → Why (spaced s rule (t .end) x .span) (spaced s rule (t .end) x .stop)
-  unfolding spaced
+  unfolding spacedUnder
   spaced-kept x below-end same i =
       rounds s rule (t .end) (ofMarks count) (λ turns y. KeptAt y) (λ z. Why (z .span) (z .stop))
       (λ turns y c k some.
@@ -170,7 +170,7 @@ module _ (s : List ℕ) (t : Tape) (rule : Rule) (count : Count) (first : Bool) 
 -- how a Position mode 0 to 3 with a count comes out, from where the tape stands: a block refuses it only where it has to be read
 pub space-comes : (s : List ℕ) (t : Tape) (rule : Rule) (count : Count) (enb : Bool) → t .position ≤ t .end → eqb (howMany count) 0 ≡ false
     → SpaceComes s t rule count (enb && eqb (t .position) 0) (positioned s t rule count enb)
-unfolding positioned spaceMotion
+unfolding positionedUnder spaceMotion
 space-comes s t rule count enb below-end some =
     let first : Bool = enb && eqb (t .position) 0 in
     let x : Span = startSpan t count enb in
@@ -180,5 +180,5 @@ space-comes s t rule count enb below-end some =
 
 -- "A Position count of 0 moves nothing, class 0"
 pub space-of-none : (s : List ℕ) (t : Tape) (rule : Rule) (count : Count) (enb : Bool) → howMany count ≡ 0 → positioned s t rule count enb ≡ stops (end 0 0 0 (residualOf count)) t
-unfolding positioned
+unfolding positionedUnder
 space-of-none s t rule count enb z = rw (eq-eqb (howMany count) 0 z)

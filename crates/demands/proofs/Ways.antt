@@ -11,31 +11,31 @@ use Rattle.signals.specs.Codes.{commandOf}
 use Rattle.signals.specs.Numbers.{packetBytes}
 use Rattle.state.specs.declared.Unit.{Unit}
 use Rattle.commands.specs.declared.plans.Plan.{Plan}
-use Rattle.advance.specs.Rules.{hasExtent, isIllegal, isTape, notExecutable, writes}
-use Rattle.advance.specs.Steps.{advanced, attended, rejected, stepAttention, stepExecutable, stepExtent, stepFetch, stepHeader, stepIllegal, stepNoBuffer, stepOwner, stepPointer, stepVolume}
+use Rattle.advance.specs.Rules.{hasExtent, isIllegal, isTape, notExecutable, notExecutableUnder, writes}
+use Rattle.advance.specs.Steps.{advanced, advancedUnder, attendedUnder, rejectedUnder, stepAttentionUnder, stepExecutableUnder, stepExtent, stepExtentUnder, stepFetchUnder, stepHeaderUnder, stepIllegal, stepIllegalUnder, stepNoBufferUnder, stepOwner, stepOwnerUnder, stepPointer, stepPointerUnder, stepVolumeUnder}
 use Rattle.demands.specs.Ways.{Begins, Fetched, Runs, Waits, Way, attention, bad-pointer, carried, header, idle, locked, lost, no-buffer, no-extent, no-header, no-words, not-executable, not-mounted, not-owned, packet, started, unknown}
 
 module _ (u : Unit) (m s : List ℕ) where
   -- what each set of conditions leaves to do
   waits-on : Waits u m s → advanced u m s ≡ stepOwner u m s (header u m s)
-  unfolding advanced stepHeader
+  unfolding advancedUnder stepHeaderUnder
   waits-on w = rw (w .waiting, le-ltb (length m) (u .registers .pointer + 2) (w .within))
 
   begins-on : Begins u m s → advanced u m s ≡ stepIllegal (started u m s) m s (header u m s)
-  unfolding stepOwner stepAttention stepVolume
+  unfolding stepOwnerUnder stepAttentionUnder stepVolumeUnder
   begins-on b = waits-on (b .waits) ∙ rw (b .owns, b .quiet)
 
   fetched-on : Fetched u m s → advanced u m s ≡ stepPointer (started u m s) m s (header u m s) (packet u m s)
-  unfolding stepIllegal stepNoBuffer stepFetch
+  unfolding stepIllegalUnder stepNoBufferUnder stepFetchUnder
   fetched-on f = begins-on (f .begins) ∙ rw (f .known, f .buffer, le-ltb (length m) (u .registers .pointer + packetBytes) (f .words))
 
   runs-on : Runs u m s → advanced u m s ≡ stepExtent (started u m s) m s (header u m s) (packet u m s)
-  unfolding stepPointer stepExecutable notExecutable
+  unfolding stepPointerUnder stepExecutableUnder notExecutableUnder
   runs-on r = fetched-on (r .fetched) ∙ rw (r .pointer, r .mounted, r .unlocked, r .executable)
 
   -- under a way's conditions the advance is that way
   pub advanced-is : {q : Plan} → Way u m s q → advanced u m s ≡ q
-  unfolding advanced stepHeader stepOwner stepAttention stepIllegal stepNoBuffer stepFetch stepPointer stepExecutable stepExtent notExecutable attended rejected
+  unfolding advancedUnder stepHeaderUnder stepOwnerUnder stepAttentionUnder stepIllegalUnder stepNoBufferUnder stepFetchUnder stepPointerUnder stepExecutableUnder stepExtentUnder notExecutableUnder attendedUnder rejectedUnder
   advanced-is (idle a b) = rw (a, b)
   advanced-is (attention a b) = rw (a, b)
   advanced-is (no-header a b) = rw (a, lt-ltb (length m) (u .registers .pointer + 2) b)

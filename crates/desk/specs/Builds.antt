@@ -41,7 +41,7 @@ checkBytes s k = wordBytes (checkOf (take summedBytes (drop (blockBytes * k) s))
 abbrev pub checkPlace : ℕ → ℕ
 checkPlace k = blockBytes * k + summedBytes
 
--- a record of n bytes, out of an even room for them, at block p of a reel of so many bytes
+-- a record of n bytes, no more than a block's length word can say, out of an even room for them, at block p of a reel of so many bytes
 unfoldable pub recordAnswer : ℕ → ℕ → ℕ → ℕ → Value
 recordAnswer room p held n =
     pick (ltb 65535 n) (value.Wrong fault.RecordTooLong)

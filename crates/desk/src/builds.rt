@@ -76,6 +76,7 @@ pub fn lay_bytes(reel: &mut [u8], p: usize, data: &[u8], n: usize) -> Value
     ensures answer { λ r. ⌜ r ≡ recordAnswer (length (now (reel .entry))) p (length (now («data» .entry))) n ⌝ }
     ensures stored { λ _. ⌜ now (reel .exit) ≡ ifTaken (recordAnswer (length (now (reel .entry))) p (length (now («data» .entry))) n) (laidAt (now (reel .entry)) p (Object.record-of (take n (now («data» .entry))))) (now (reel .entry)) ⌝ }
 {
+    // What a block's length word can say, whatever a unit's limit: a script may lay a record that no unit takes.
     if 65535 < n {
         return Value::Wrong(Fault::RecordTooLong);
     }

@@ -24,7 +24,7 @@ use Rattle.moves.specs.declared.spacing.Count.{Count}
 use Rattle.motions.specs.Parts.{resting, standing}
 use Rattle.motions.specs.declared.parts.ObjectKind.{ObjectKind}
 use Rattle.motions.specs.declared.parts.ObjectKind.the-variants as kind
-use Rattle.commands.specs.Commands.{asked, carriedOut, characteristicsAt, characterized, formatted, laidHere, laying, plainEffect, positionedBy, readBy, refusedCharacteristics, released, rereadBy, rewound, takenCharacteristics, unloaded, writtenBy}
+use Rattle.commands.specs.Commands.{asked, carriedOut, carriedOutUnder, characteristicsAt, characterized, characterizedUnder, formatted, formattedUnder, laidHere, laying, plainEffect, plainEffectUnder, positionedBy, positionedByUnder, readBy, readByUnder, refusedCharacteristicsUnder, released, rereadBy, rereadByUnder, rewound, rewoundUnder, takenCharacteristicsUnder, unloaded, unloadedUnder, writtenBy, writtenByUnder}
 use Rattle.commands.specs.Ends.{told}
 use Rattle.kept.specs.Formed.{Formed}
 use Rattle.kept.proofs.Standing.{KeptMotion, KeptPlan, motion-kept, told-kept, unlaid, untold-kept}
@@ -68,7 +68,7 @@ module _ (s m : List ℕ) where
 
   module _ (u : Unit) (whole : length s ≡ blockBytes * u .lengths .blocks) (k : Formed s (u .tape)) where
     plain-kept : (ie : Bool) → KeptPlan s m (plainEffect u ie)
-    unfolding plainEffect
+    unfolding plainEffectUnder
     plain-kept ie = rests u ie _ (u .tape) k
 
     released-kept : (ie : Bool) → KeptPlan s m (released u ie)
@@ -76,30 +76,30 @@ module _ (s m : List ℕ) where
     released-kept ie = untold-kept s m _ 0 false k
 
     rewound-kept : (ie : Bool) → KeptPlan s m (rewound u ie)
-    unfolding rewound
+    unfolding rewoundUnder
     rewound-kept ie = rests u ie _ _ (at-start (u .tape) k)
 
     unloaded-kept : (ie : Bool) → KeptPlan s m (unloaded u ie)
-    unfolding unloaded
+    unfolding unloadedUnder
     unloaded-kept ie = rests _ ie _ _ (at-start (u .tape) k)
 
     characterized-kept : (p : Packet) (ie : Bool) → KeptPlan s m (characterized u m p ie)
-    unfolding characterized refusedCharacteristics takenCharacteristics
+    unfolding characterizedUnder refusedCharacteristicsUnder takenCharacteristicsUnder
     characterized-kept p ie =
         let c = characteristicsAt m p in
         either (KeptPlan s m) (ltb (p .count) 6) _ _ (rests _ ie _ (u .tape) k)
         (either (KeptPlan s m) (leb pointerLimit (c .address) || bufferWrong c (length m)) _ _ (rests _ ie _ (u .tape) k) (rests _ ie _ (u .tape) k))
 
     read-kept : (h : Header) (p : Packet) (reverse : Bool) → KeptPlan s m (readBy u s h p reverse)
-    unfolding readBy
+    unfolding readByUnder
     read-kept h p reverse = motion-kept s m u (h .ie) _ (read-one-kept s m (k .1) (asked h p) (u .tape .position) reverse (k .2))
 
     reread-by-kept : (h : Header) (p : Packet) (reverse : Bool) → KeptPlan s m (rereadBy u s h p reverse)
-    unfolding rereadBy
+    unfolding rereadByUnder
     reread-by-kept h p reverse = motion-kept s m u (h .ie) _ (reread-kept s m (k .1) (asked h p) (u .tape .position) reverse (h .opp) (k .2))
 
     position-kept : (h : Header) (count : Count) (reverse : Bool) → KeptPlan s m (positionedBy u s h count reverse)
-    unfolding positionedBy
+    unfolding positionedByUnder
     position-kept h count reverse = motion-kept s m u (h .ie) _ (positioned-kept s m (u .tape) (k .1) (k .2) _ count (u .characteristics .enb))
 
     -- an object laid where the tape stands, or behind a retry's gap
@@ -110,15 +110,15 @@ module _ (s m : List ℕ) where
         (written-kept s m (u .tape) (u .lengths .blocks) whole (k .1) (k .2) l mark r (k .2))
 
     write-kept : (h : Header) (p : Packet) (again : Bool) → (1 ≤ p .count) × (p .count ≤ recordLimit) → KeptPlan s m (writtenBy u s h p again)
-    unfolding writtenBy
+    unfolding writtenByUnder
     write-kept h p again r = motion-kept s m u (h .ie) _ (lays kind.Record (p .pointer) (p .count) (h .swb) false again (λ e. r))
 
     format-kept : (h : Header) (o : ObjectKind) (mark again : Bool) → (o ≡ kind.Record → ⊥) → KeptPlan s m (formatted u s h o mark again)
-    unfolding formatted
+    unfolding formattedUnder
     format-kept h o mark again f = motion-kept s m u (h .ie) _ (lays o 0 0 false mark again (λ e. absurd (f e)))
 
     pub carried-kept : (h : Header) (p : Packet) (c : Command) → RightCount c (p .count) → KeptPlan s m (carriedOut u m s h p c)
-    unfolding carriedOut
+    unfolding carriedOutUnder
     carried-kept h p command.ReadNext r = read-kept h p false
     carried-kept h p command.ReadPrevious r = read-kept h p true
     carried-kept h p command.RereadPrevious r = reread-by-kept h p true

@@ -21,16 +21,16 @@ use Rattle.state.proofs.Tests.{neither}
 use Rattle.moves.specs.Seeking.{sought}
 use Rattle.moves.specs.declared.seeking.Sought.{Sought}
 use Rattle.motions.specs.Parts.{laidBlocks}
-use Rattle.motions.specs.Writes.{behindGap, retried, retriedBy, writtenAt}
+use Rattle.motions.specs.Writes.{behindGap, retriedUnder, retriedBy, retriedByUnder, writtenAt}
 use Rattle.motions.specs.declared.parts.Laid.{Laid}
 use Rattle.motions.specs.declared.parts.ObjectKind.{ObjectKind}
 use Rattle.motions.specs.declared.parts.ObjectKind.the-variants as kind
-use Rattle.commands.specs.Commands.{carriedOut, formatted, laidHere, laying, writtenBy}
+use Rattle.commands.specs.Commands.{carriedOut, carriedOutUnder, formatted, formattedUnder, laidHere, laying, writtenBy, writtenByUnder}
 use Rattle.commands.specs.Ends.{motionPlan}
 use Rattle.commands.specs.declared.plans.Plan.{Plan}
 use Rattle.storing.specs.Stored.{laidObject, laidObjects}
 use Rattle.storing.proofs.Lengths.{blocks-laid}
-use Rattle.advance.specs.Rules.{isIllegal, lengthWrong, notExecutable, reverseFirst, writes}
+use Rattle.advance.specs.Rules.{isIllegal, lengthWrong, notExecutableUnder, reverseFirst, writes}
 use Rattle.advance.specs.Steps.{advanced}
 use Rattle.demands.specs.Ways.{carried, header, packet, started}
 use Rattle.demands.proofs.Ways.{advanced-is}
@@ -99,17 +99,17 @@ module _ (v : Unit) (m s : List ℕ) (h : Header) (p : Packet) where
     pub plan : q ≡ motionPlan v (h .ie) (laying s (v .tape) (v .lengths .blocks) (laidHere (v .tape) kind pointer count swb) mark (eqb (h .mode) 2))
 
   lays-record : (again : Bool) → h .code ≡ 5 → eqb (h .mode) 2 ≡ again → (1 ≤ p .count) × (p .count ≤ recordLimit) → Lay (writtenBy v s h p again)
-  unfolding writtenBy laidObject
+  unfolding writtenByUnder laidObject
   lays-record again c a r =
       record { kind = kind.Record; pointer = p .pointer; count = p .count; swb = h .swb; mark = false; object = rw c; marked = rw c; right = λ e. r; short = r .1; plan = rw a }
 
   lays-format : (k : ObjectKind) (mark again : Bool) → h .code ≡ 9 → eqb (h .mode) 2 ≡ again → laidObject m (laidHere (v .tape) k 0 0 false) k ≡ objectFor m h p ∷ [] → mark ≡ isMark (objectFor m h p) → (k ≡ kind.Record → ⊥) → Lay (formatted v s h k mark again)
-  unfolding formatted
+  unfolding formattedUnder
   lays-format k mark again c a o i f =
       record { kind = k; pointer = 0; count = 0; swb = false; mark = mark; object = o; marked = i; right = λ e. absurd (f e); short = omega arith; plan = rw a }
 
   lays-by : {c : Command} → Writer (h .code) (h .mode) c → RightCount c (p .count) → Lay (carriedOut v m s h p c)
-  unfolding carriedOut laidObject
+  unfolding carriedOutUnder laidObject
   lays-by (write c z) r = lays-record false c (rw z) r
   lays-by (write-retry c z) r = lays-record true c (rw z) r
   lays-by (write-mark c z) r = lays-format kind.Mark true false c (rw z) (rw (c, z)) (rw (c, z)) (λ e. clash (cc))
@@ -121,7 +121,7 @@ module _ (v : Unit) (m s : List ℕ) (h : Header) (p : Packet) where
 
 -- an advance that carries out a Write or Format lays the object that is asked for
 pub advance-lays : (u : Unit) (m s : List ℕ) → WriteRuns u m s → Lay (started u m s) m s (header u m s) (packet u m s) (advanced u m s)
-unfolding notExecutable
+unfolding notExecutableUnder
 advance-lays u m s w =
     let h = header u m s in
     let p = packet u m s in
@@ -143,7 +143,7 @@ gap-and-object m l q e = ap (λ (os : List Object). gap ∷ os) (behind m l q (l
 
 -- a retry whose search found something lays it where the search stopped
 found-again : (t : Tape) (blocks : ℕ) (l : Laid) (mark : Bool) {at : ℕ} {f : Sought} → Found at f → retriedBy t blocks l mark f ≡ writtenAt t blocks (behindGap l at) mark
-unfolding retriedBy
+unfolding retriedByUnder
 found-again t blocks l mark found-record = refl
 found-again t blocks l mark found-mark = refl
 
@@ -164,5 +164,5 @@ module _ (v : Unit) (m s : List ℕ) (h : Header) (p : Packet) {q : Plan} (y : L
   here-plan e = rw (y .plan, e)
 
   pub again-plan : {at : ℕ} → h .mode ≡ 2 → Found at (sought s true (v .tape .position) (v .tape .end)) → q ≡ motionPlan v (h .ie) (writtenAt (v .tape) (v .lengths .blocks) (behindGap Here at) (y .mark))
-  unfolding retried
+  unfolding retriedUnder
   again-plan e found = rw (y .plan, e, found-again (v .tape) (v .lengths .blocks) Here (y .mark) found)

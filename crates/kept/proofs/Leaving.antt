@@ -23,13 +23,13 @@ use Rattle.moves.specs.declared.seeking.Sought.{Sought}
 use Rattle.moves.proofs.Bounds.{bound-below, stays}
 use Rattle.moves.proofs.Finds.{Finds, finds, finds-mark, finds-nothing, finds-record}
 use Rattle.motions.specs.Parts.{laidBlocks, noLay, objectBlocks}
-use Rattle.motions.specs.Writes.{behindGap, noRoom, retried, retriedBy, writtenAt, writtenMotion}
+use Rattle.motions.specs.Writes.{behindGap, noRoom, retriedUnder, retriedBy, retriedByUnder, writtenAt, writtenAtUnder, writtenMotion, writtenMotionUnder}
 use Rattle.motions.specs.declared.parts.Laid.{Laid}
 use Rattle.motions.specs.declared.parts.Motion.{Motion}
 use Rattle.motions.specs.declared.parts.Motion.the-variants as motion
 use Rattle.motions.specs.declared.parts.ObjectKind.{ObjectKind}
 use Rattle.commands.specs.Commands.{laidHere, laying}
-use Rattle.commands.specs.Ends.{ended, motionPlan, told, toldUnit}
+use Rattle.commands.specs.Ends.{ended, motionPlan, motionPlanUnder, toldUnder, toldUnit}
 use Rattle.commands.specs.declared.plans.Plan.{Plan}
 use Rattle.storing.specs.Stored.{laidObject, laidObjects, laidOn, reelAfter}
 use Rattle.storing.proofs.Lengths.{blocks-laid}
@@ -65,7 +65,7 @@ module _ (s m : List ℕ) (t : Tape) (os : List Object) (o : Object) (mode : ℕ
 
   -- a plan leaves what its motion leaves
   plan-leaves : (u : Unit) (ie : Bool) (y : Motion) → MotionLeaves y → PlanLeaves (motionPlan u ie y)
-  unfolding motionPlan told toldUnit ended reelAfter
+  unfolding motionPlanUnder toldUnder toldUnit ended reelAfter
   plan-leaves u ie (motion.Ended x) k = k
   plan-leaves u ie (motion.Fault why b) k = absurd k
 
@@ -73,7 +73,7 @@ module _ (s m : List ℕ) (t : Tape) (os : List Object) (o : Object) (mode : ℕ
     -- objects laid where the stretch that it goes over begins
     module _ (l : Laid) (r : RightLength (l .object) (l .length)) {over : List Object} (c : Between os true (t .position) (l .at) over) (y : Lays o mode over (laidObjects m l)) where
       laid-leaves : l .at + laidBlocks l ≤ blocks → MotionLeaves (writtenMotion l blocks mark)
-      unfolding writtenMotion laidOn
+      unfolding writtenMotionUnder laidOn
       laid-leaves fits =
           let at : Bound os (l .at) = record { before = c .before; after = over ++ c .after; whole = c .whole; place = sym (c .to) } in
           inl
@@ -88,7 +88,7 @@ module _ (s m : List ℕ) (t : Tape) (os : List Object) (o : Object) (mode : ℕ
           })
 
       written-leaves : MotionLeaves (writtenAt t blocks l mark)
-      unfolding writtenAt noRoom
+      unfolding writtenAtUnder noRoom
       written-leaves =
           pick-told MotionLeaves (ltb blocks (l .at + laidBlocks l)) _ _ (λ f. inr (refl, refl)) (λ f. laid-leaves (ltb-false blocks (l .at + laidBlocks l) f))
 
@@ -106,13 +106,13 @@ module _ (s m : List ℕ) (t : Tape) (os : List Object) (o : Object) (mode : ℕ
           written-leaves (behindGap l q) r c (subst (λ (new : List Object). Lays o mode over new) (sym (gap-and-object m l q one)) y)
 
       again-by : mode ≡ 2 → {f : Sought} → Finds os true (t .position) f → MotionLeaves (retriedBy t blocks (laidHere t k pointer n swb) mark f)
-      unfolding retriedBy
+      unfolding retriedByUnder
       again-by e (finds-record d g c) = again-leaves c (again-over-record e g)
       again-by e (finds-mark g c) = again-leaves c (again-over-mark e g)
       again-by e (finds-nothing g c z) = inr (refl, refl)
 
       laying-leaves : MotionLeaves (laying s t blocks (laidHere t k pointer n swb) mark (eqb mode 2))
-      unfolding retried
+      unfolding retriedUnder
       laying-leaves = pick-told MotionLeaves (eqb mode 2) _ _ (λ e. again-by (eqb-true mode 2 e) (finds h true b)) plain-leaves
 
 -- a plan that lays one object leaves what its motion leaves
@@ -124,7 +124,7 @@ lay-leaves v m s h p {q} {os} whole f b y =
 
 -- where there is room, it is laid
 laid-there : (v : Unit) (ie : Bool) (l : Laid) (mark : Bool) {q : Plan} → q ≡ motionPlan v ie (writtenAt (v .tape) (v .lengths .blocks) l mark) → ltb (v .lengths .blocks) (l .at + laidBlocks l) ≡ false → q .laid ≡ l
-unfolding motionPlan told writtenAt writtenMotion
+unfolding motionPlanUnder toldUnder writtenAtUnder writtenMotionUnder
 laid-there v ie l mark e room = rw (e, room)
 
 -- the object asked for takes a block or more

@@ -8,6 +8,7 @@ pub mod Carrying
 pub mod Lengths
 pub mod Advanced
 pub mod Laying
+pub mod Unwriting
 pub mod Unwritten
 pub mod Leaving
 pub mod NoRoom

@@ -22,10 +22,10 @@ use Rattle.moves.specs.declared.seeking.Sought.{Sought}
 use Rattle.moves.specs.declared.seeking.Sought.the-variants as sought-as
 use Rattle.moves.proofs.Within.{SoughtIn, sought-in}
 use Rattle.motions.specs.Parts.{end, laidBlocks, objectBlocks, resting, standing}
-use Rattle.motions.specs.Writes.{behindGap, noRoom, retried, retriedBy, writtenAt}
+use Rattle.motions.specs.Writes.{behindGap, noRoom, retriedUnder, retriedByUnder, writtenAt, writtenAtUnder}
 use Rattle.motions.specs.declared.parts.Ending.{Ending}
 use Rattle.motions.specs.declared.parts.Laid.{Laid}
-use Rattle.commands.specs.Ends.{ended, motionPlan, statusOf, told, toldUnit}
+use Rattle.commands.specs.Ends.{ended, motionPlan, motionPlanUnder, statusOf, told, toldUnder, toldUnit}
 use Rattle.commands.specs.declared.plans.Plan.{Plan}
 use Rattle.storing.specs.Stored.{memoryAfter, reelAfter}
 use Rattle.advance.specs.Steps.{advanced}
@@ -66,7 +66,7 @@ nothingFound v at = resting (end 2 0 (REV + RIB) residual.Nothing) (standing at 
 
 module _ (m s : List ℕ) (v : Unit) (ie : Bool) where
   told-no-room : (l : Laid) → l .length ≤ recordLimit → l .at ≤ v .tape .position → ltb (v .lengths .blocks) (l .at + laidBlocks l) ≡ true → Sends v m s (ends v ie 3 NEF residual.Nothing) → After m s v NoRoom (ends v ie 3 NEF residual.Nothing)
-  unfolding told toldUnit ended laidBlocks objectBlocks messageOf reelAfter
+  unfolding toldUnder toldUnit ended laidBlocks objectBlocks messageOf reelAfter
   told-no-room l short below full (sends, room) =
       let x = resting (end 3 NEF 0 residual.Nothing) (v .tape) in
       let still : eqb (v .tape .position) (v .tape .position) ≡ true = eq-eqb (v .tape .position) (v .tape .position) refl in
@@ -91,14 +91,14 @@ found-before p e found-mark i = omega (arith, i .down refl)
 module _ (m s : List ℕ) (v : Unit) (ie : Bool) where
   -- a write that does not fit
   full : (l : Laid) (mark : Bool) {q : Plan} → q ≡ motionPlan v ie (writtenAt (v .tape) (v .lengths .blocks) l mark) → l .length ≤ recordLimit → l .at ≤ v .tape .position → ltb (v .lengths .blocks) (l .at + laidBlocks l) ≡ true → Sends v m s q → After m s v NoRoom q
-  unfolding motionPlan writtenAt noRoom
+  unfolding motionPlanUnder writtenAtUnder noRoom
   full l mark {q} e short below f =
       let is : q ≡ ends v ie 3 NEF residual.Nothing = rw (e, f) in
       subst (λ (x : Plan). Sends v m s x → After m s v NoRoom x) (sym is) (told-no-room m s v ie l short below f)
 
   -- a retry that found nothing, from inside the recorded part
   told-none : {at : ℕ} → v .tape .position ≤ v .tape .end → sought s true (v .tape .position) (v .tape .end) ≡ sought-as.Nothing at → Sends v m s (told v ie (nothingFound v at)) → After m s v NoneFound (told v ie (nothingFound v at))
-  unfolding told toldUnit ended reelAfter
+  unfolding toldUnder toldUnit ended reelAfter
   told-none {at} below none (sends, room) =
       let x = nothingFound v at in
       record {
@@ -116,7 +116,7 @@ module _ (v : Unit) (m s : List ℕ) (h : Header) (p : Packet) {q : Plan} (y : L
   full-here e f = full m s v (h .ie) (Here v m s h p y) (y .mark) (here-plan v m s h p y e) (y .short) (omega arith) (rw (here-blocks v m s h p y) f)
 
   none-again : {at : ℕ} → h .mode ≡ 2 → v .tape .position ≤ v .tape .end → sought s true (v .tape .position) (v .tape .end) ≡ sought-as.Nothing at → Sends v m s q → After m s v NoneFound q
-  unfolding retried retriedBy motionPlan
+  unfolding retriedUnder retriedByUnder motionPlanUnder
   none-again {at} e below none =
       let is : q ≡ told v (h .ie) (nothingFound v at) = rw (y .plan, e, none) in
       subst (λ (x : Plan). Sends v m s x → After m s v NoneFound x) (sym is) (told-none m s v (h .ie) below none)

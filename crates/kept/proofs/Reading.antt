@@ -10,7 +10,7 @@ use Rattle.moves.specs.declared.seeking.Sought.{Sought}
 use Rattle.moves.proofs.Bounds.{bound-to}
 use Rattle.moves.proofs.Finds.{finds}
 use Rattle.motions.specs.Parts.{standing}
-use Rattle.motions.specs.Reads.{onRecord, readMotion, readOne, readThenSpace, reread, spaceBack, spaceThenRead, stageBy, stageOf, stopMotion}
+use Rattle.motions.specs.Reads.{onRecord, readMotion, readOne, readOneUnder, readThenSpace, readThenSpaceUnder, reread, rereadUnder, spaceBack, spaceBackUnder, spaceThenRead, spaceThenReadUnder, stageBy, stageOf, stageOfUnder, stopMotion}
 use Rattle.motions.specs.declared.reads.Buffer.{Buffer}
 use Rattle.motions.specs.declared.reads.Stage.{Stage}
 use Rattle.motions.specs.declared.parts.Motion.{Motion}
@@ -29,7 +29,7 @@ module _ (s m : List ℕ) {e : ℕ} {os : List Object} (h : Holds s e os) (r : B
   stage-by p reverse (finds-nothing g b z) = halts s m h (bound-to reverse b)
 
   stage-kept : (p : ℕ) (reverse : Bool) → Bound os p → StageKept (stageOf s (standing p e) (r .count) reverse)
-  unfolding stageOf
+  unfolding stageOfUnder
   stage-kept p reverse b = stage-by p reverse (finds h reverse b)
 
   -- the record is moved, and the tape stands at b
@@ -42,21 +42,21 @@ module _ (s m : List ℕ) {e : ℕ} {os : List Object} (h : Holds s e os) (r : B
   goes-on p reverse f b on = on-record (KeptMotion s m) (λ n q. Bound os q) _ f (stage-kept p reverse b) on
 
   pub read-one-kept : (p : ℕ) (reverse : Bool) → Bound os p → KeptMotion s m (readOne s (standing p e) r reverse)
-  unfolding readOne
+  unfolding readOneUnder
   read-one-kept p reverse b = goes-on p reverse _ b (λ n q i. record-kept reverse reverse n q q i)
 
   then-read-kept : (p : ℕ) (reverse : Bool) → Bound os p → KeptMotion s m (spaceThenRead s (standing p e) r reverse)
-  unfolding spaceThenRead
+  unfolding spaceThenReadUnder
   then-read-kept p reverse b = goes-on p reverse _ b (λ n q i. read-one-kept q (not reverse) i)
 
   back-kept : (reverse : Bool) (n q : ℕ) → Bound os q → KeptMotion s m (spaceBack s e r reverse n q)
-  unfolding spaceBack
+  unfolding spaceBackUnder
   back-kept reverse n q b = goes-on q (not reverse) _ b (λ n′ k i. record-kept reverse (not reverse) n q k i)
 
   then-space-kept : (p : ℕ) (reverse : Bool) → Bound os p → KeptMotion s m (readThenSpace s (standing p e) r reverse)
-  unfolding readThenSpace
+  unfolding readThenSpaceUnder
   then-space-kept p reverse b = goes-on p reverse _ b (λ n q i. back-kept reverse n q i)
 
   pub reread-kept : (p : ℕ) (reverse opp : Bool) → Bound os p → KeptMotion s m (reread s (standing p e) r reverse opp)
-  unfolding reread
+  unfolding rereadUnder
   reread-kept p reverse opp b = either (KeptMotion s m) opp _ _ (then-space-kept p reverse b) (then-read-kept p reverse b)

@@ -17,7 +17,7 @@ use Rattle.moves.specs.declared.spacing.Span.{Span}
 use Rattle.moves.specs.declared.spacing.Stop.{Stop}
 use Rattle.moves.specs.declared.spacing.Stop.the-variants as stop-as
 use Rattle.moves.proofs.Counts.{spaced-bound, spaced-sound}
-use Rattle.motions.specs.Spaces.{positioned, spaceMotion, spaceMotionBy, startSpan}
+use Rattle.motions.specs.Spaces.{positioned, positionedUnder, spaceMotion, spaceMotionBy, startSpan}
 use Rattle.kept.proofs.Standing.{KeptMotion, halts}
 
 module _ (s m : List ℕ) where
@@ -30,7 +30,7 @@ module _ (s m : List ℕ) where
   space-by h r y (stop-as.Bad why k) n b = n why k refl
 
   pub positioned-kept : (t : Tape) {os : List Object} → Holds s (t .end) os → Bound os (t .position) → (r : Rule) (count : Count) (enb : Bool) → KeptMotion s m (positioned s t r count enb)
-  unfolding positioned spaceMotion
+  unfolding positionedUnder spaceMotion
   positioned-kept t h b r count enb =
       let from = startSpan t count enb in
       either (KeptMotion s m) (eqb (howMany count) 0) _ _ (halts s m h b)

@@ -12,7 +12,7 @@ use Rattle.motions.specs.Parts.{noLay, standing}
 use Rattle.motions.specs.declared.parts.Ending.{Ending}
 use Rattle.motions.specs.declared.parts.Motion.{Motion}
 use Rattle.motions.specs.declared.parts.Motion.the-variants as motion
-use Rattle.commands.specs.Ends.{ended, motionPlan, still, told, toldUnit, untold}
+use Rattle.commands.specs.Ends.{ended, motionPlan, motionPlanUnder, still, told, toldUnder, toldUnit, untold}
 use Rattle.commands.specs.declared.plans.Answer.{Answer}
 use Rattle.commands.specs.declared.plans.Answer.the-variants as answer
 use Rattle.commands.specs.declared.plans.Plan.{Plan}
@@ -41,7 +41,7 @@ module _ (s m : List ℕ) {e : ℕ} {os : List Object} (h : Holds s e os) where
 
 module _ (s m : List ℕ) where
   pub told-kept : (u : Unit) (ie : Bool) (x : Ending) → Formed (laidOn s m (x .laid)) (x .tape) → KeptPlan s m (told u ie x)
-  unfolding told toldUnit ended reelAfter
+  unfolding toldUnder toldUnit ended reelAfter
   told-kept u ie x k = record { stands = k; sound = λ why b c. clash (cc) }
 
   pub still-kept : (u : Unit) (a : Answer) → Formed s (u .tape) → ((why : BlockFault) (k : ℕ) → a ≡ answer.BadBlock why k → ⊥) → KeptPlan s m (still u a)
@@ -53,6 +53,6 @@ module _ (s m : List ℕ) where
   untold-kept u class interrupts k = still-kept _ _ k (λ why b c. clash (cc))
 
   pub motion-kept : (u : Unit) (ie : Bool) (y : Motion) → KeptMotion s m y → KeptPlan s m (motionPlan u ie y)
-  unfolding motionPlan
+  unfolding motionPlanUnder
   motion-kept u ie (motion.Ended x) k = told-kept u ie x k
   motion-kept u ie (motion.Fault why b) k = absurd k

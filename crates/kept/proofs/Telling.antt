@@ -14,10 +14,10 @@ use Rattle.signals.specs.declared.counts.Residual.the-variants as residual
 use Rattle.state.specs.declared.Unit.{Unit}
 use Rattle.moves.specs.Seeking.{sought}
 use Rattle.motions.specs.Parts.{end, laidBlocks, noMove, standing}
-use Rattle.motions.specs.Writes.{behindGap, writtenAt, writtenMotion}
+use Rattle.motions.specs.Writes.{behindGap, writtenAt, writtenAtUnder, writtenMotionUnder}
 use Rattle.motions.specs.declared.parts.Ending.{Ending}
 use Rattle.motions.specs.declared.parts.Laid.{Laid}
-use Rattle.commands.specs.Ends.{ended, motionPlan, told, toldUnit}
+use Rattle.commands.specs.Ends.{ended, motionPlan, motionPlanUnder, told, toldUnder, toldUnit}
 use Rattle.commands.specs.declared.plans.Plan.{Plan}
 use Rattle.storing.specs.Stored.{memoryAfter}
 use Rattle.advance.specs.Steps.{advanced}
@@ -45,7 +45,7 @@ writtenEnding l blocks mark =
 module _ (m s : List ℕ) (v : Unit) (ie : Bool) (l : Laid) (o : Object) where
   -- and what its message says
   laid-told : Sends v m s (told v ie (writtenEnding l (v .lengths .blocks) (isMark o))) → WriteTold o (told v ie (writtenEnding l (v .lengths .blocks) (isMark o)) .unit) (memoryAfter (told v ie (writtenEnding l (v .lengths .blocks) (isMark o))) m s)
-  unfolding told toldUnit ended
+  unfolding toldUnder toldUnit ended
   laid-told (sends, room) =
       let x : Ending = writtenEnding l (v .lengths .blocks) (isMark o) in
       record {
@@ -56,7 +56,7 @@ module _ (m s : List ℕ) (v : Unit) (ie : Bool) (l : Laid) (o : Object) where
       }
 
   fits : (mark : Bool) {q : Plan} → mark ≡ isMark o → q ≡ motionPlan v ie (writtenAt (v .tape) (v .lengths .blocks) l mark) → ltb (v .lengths .blocks) (l .at + laidBlocks l) ≡ false → Sends v m s q → WriteTold o (q .unit) (memoryAfter q m s)
-  unfolding motionPlan writtenAt writtenMotion
+  unfolding motionPlanUnder writtenAtUnder writtenMotionUnder
   fits mark {q} i e f =
       let is : q ≡ told v ie (writtenEnding l (v .lengths .blocks) (isMark o)) = rw (e, f, i) in
       subst (λ (x : Plan). Sends v m s x → WriteTold o (x .unit) (memoryAfter x m s)) (sym is) laid-told

@@ -19,7 +19,7 @@ use Rattle.moves.specs.declared.seeking.Sought.{Sought}
 use Rattle.moves.proofs.Bounds.{bound-to}
 use Rattle.moves.proofs.Finds.{Finds, finds, finds-mark, finds-nothing, finds-record}
 use Rattle.motions.specs.Parts.{laidBlocks}
-use Rattle.motions.specs.Writes.{behindGap, noRoom, retried, retriedBy, writtenAt, writtenMotion}
+use Rattle.motions.specs.Writes.{behindGap, noRoom, retried, retriedUnder, retriedBy, retriedByUnder, writtenAt, writtenAtUnder, writtenMotion, writtenMotionUnder}
 use Rattle.motions.specs.declared.parts.Laid.{Laid}
 use Rattle.motions.specs.declared.parts.ObjectKind.{ObjectKind}
 use Rattle.motions.specs.declared.parts.ObjectKind.the-variants as kind
@@ -28,7 +28,7 @@ use Rattle.storing.proofs.Lengths.{blocks-laid}
 use Rattle.kept.proofs.Standing.{KeptMotion, halts}
 use Rattle.kept.proofs.Overlaid.{overlaid, overlaid-end}
 
--- "Records: 1 to 16,384 bytes."
+-- "Records: 1 to [65,535] bytes."
 abbrev pub RightLength : ObjectKind → ℕ → Type 0
 RightLength k n = k ≡ kind.Record → (1 ≤ n) × (n ≤ recordLimit)
 
@@ -50,24 +50,24 @@ laid-allowed m l r =
 module _ (s m : List ℕ) (t : Tape) (blocks : ℕ) (whole : length s ≡ blockBytes * blocks) {os : List Object} (h : Holds s (t .end) os) (b : Bound os (t .position)) where
   module _ (l : Laid) (mark : Bool) (r : RightLength (l .object) (l .length)) (at : Bound os (l .at)) where
     laid-kept : l .at + laidBlocks l ≤ blocks → KeptMotion s m (writtenMotion l blocks mark)
-    unfolding writtenMotion laidOn
+    unfolding writtenMotionUnder laidOn
     laid-kept fits =
         let new = laidObjects m l in
         let size = blocks-laid m l in
         (at .before ++ new, overlaid h at new (laidBlocks l) size (laid-allowed m l r) (omega arith), overlaid-end h at new (laidBlocks l) size)
 
     pub written-kept : KeptMotion s m (writtenAt t blocks l mark)
-    unfolding writtenAt noRoom
+    unfolding writtenAtUnder noRoom
     written-kept =
         pick-told (KeptMotion s m) (ltb blocks (l .at + laidBlocks l)) _ _ (λ f. halts s m h b) (λ f. laid-kept (ltb-false blocks (l .at + laidBlocks l) f))
 
   module _ (l : Laid) (mark : Bool) (r : RightLength (l .object) (l .length)) where
     retried-by : {f : Sought} → Finds os true (t .position) f → KeptMotion s m (retriedBy t blocks l mark f)
-    unfolding retriedBy behindGap
+    unfolding retriedByUnder behindGap
     retried-by (finds-record d {q = q} g c) = written-kept (behindGap l q) mark r (bound-to true c)
     retried-by (finds-mark {q = q} g c) = written-kept (behindGap l q) mark r (bound-to true c)
     retried-by (finds-nothing g c z) = halts s m h (bound-to true c)
 
     pub retried-kept : KeptMotion s m (retried s t blocks l mark)
-    unfolding retried
+    unfolding retriedUnder
     retried-kept = retried-by (finds h true b)

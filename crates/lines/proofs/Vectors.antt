@@ -78,12 +78,12 @@ no-bytes : lineOf (82 ∷ []) 0 ≡ wrongLine fault.WordMissing
 unfolding lineOf lineFrom lineBy hasWord startOf startWords mostWords laying recordLine placeFrom eqs wordFrom wordStart wordEnd over spanned
 no-bytes = refl
 
--- "rules 2 4", and with it a request that no script shows; "rules" names none, "rules 2" not all that the program has
-own-rules : lineOf (114 ∷ 117 ∷ 108 ∷ 101 ∷ 115 ∷ 32 ∷ 50 ∷ 32 ∷ 52 ∷ []) 0 ≡ plainLine does.Nothing
+-- "rules 2 4 7", and with it a request that no script shows; "rules" names none, "rules 2 4" not all that the program has
+own-rules : lineOf (114 ∷ 117 ∷ 108 ∷ 101 ∷ 115 ∷ 32 ∷ 50 ∷ 32 ∷ 52 ∷ 32 ∷ 55 ∷ []) 0 ≡ plainLine does.Nothing
 unfolding lineOf lineFrom lineBy hasWord startOf startWords mostWords rulesLine ownRules within heldBy named numberIn hexed said joined digitOf placeFrom eqs wordFrom wordStart wordEnd over spanned
 own-rules = refl
 
-own-rules-and : lineOf (114 ∷ 117 ∷ 108 ∷ 101 ∷ 115 ∷ 32 ∷ 52 ∷ 32 ∷ 49 ∷ 51 ∷ 32 ∷ 50 ∷ []) 0 ≡ plainLine does.Nothing
+own-rules-and : lineOf (114 ∷ 117 ∷ 108 ∷ 101 ∷ 115 ∷ 32 ∷ 55 ∷ 32 ∷ 52 ∷ 32 ∷ 49 ∷ 51 ∷ 32 ∷ 50 ∷ []) 0 ≡ plainLine does.Nothing
 unfolding lineOf lineFrom lineBy hasWord startOf startWords mostWords rulesLine ownRules within heldBy named numberIn hexed said joined digitOf placeFrom eqs wordFrom wordStart wordEnd over spanned
 own-rules-and = refl
 
@@ -91,6 +91,6 @@ no-rules : lineOf (114 ∷ 117 ∷ 108 ∷ 101 ∷ 115 ∷ []) 0 ≡ wrongLine f
 unfolding lineOf lineFrom lineBy hasWord startOf startWords mostWords rulesLine ownRules within heldBy named numberIn hexed said joined digitOf placeFrom eqs wordFrom wordStart wordEnd over spanned
 no-rules = refl
 
-other-rules : lineOf (114 ∷ 117 ∷ 108 ∷ 101 ∷ 115 ∷ 32 ∷ 50 ∷ []) 0 ≡ wrongLine fault.OtherRules
+other-rules : lineOf (114 ∷ 117 ∷ 108 ∷ 101 ∷ 115 ∷ 32 ∷ 50 ∷ 32 ∷ 52 ∷ []) 0 ≡ wrongLine fault.OtherRules
 unfolding lineOf lineFrom lineBy hasWord startOf startWords mostWords rulesLine ownRules within heldBy named numberIn hexed said joined digitOf placeFrom eqs wordFrom wordStart wordEnd over spanned
 other-rules = refl

@@ -18,6 +18,8 @@ fn main() {
     list_named(b"paper");
     list_named(b"full");
     list_named(b"long");
+    list_named(b"longest");
+    list_named(b"about_16384");
     list_named(b"ragged");
     list_named(b"kind");
     list_named(b"kind_of_a_piece");
@@ -35,6 +37,7 @@ fn main() {
     list_named(b"padding_and_check");
     list_named(b"cut_off");
     list_named(b"cut_off_damaged");
+    list_named(b"cut_off_longest");
     list_named(b"out_of_place");
     list_named(b"mark_for_a_piece");
     list_named(b"mark_for_a_piece_damaged");

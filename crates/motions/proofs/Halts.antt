@@ -17,7 +17,7 @@ use Rattle.moves.specs.declared.spacing.Stop.the-variants as stop-as
 use Rattle.moves.proofs.Within.{spaced-within}
 use Rattle.signals.specs.declared.message.End.{End}
 use Rattle.motions.specs.Parts.{noLay, noMove, standing, stops}
-use Rattle.motions.specs.Spaces.{positioned, spaceMotion, spaceMotionBy, startSpan}
+use Rattle.motions.specs.Spaces.{positioned, positionedUnder, spaceMotion, spaceMotionBy, startSpan}
 use Rattle.motions.specs.declared.parts.Ending.{Ending}
 use Rattle.motions.proofs.Ends.{EndFits, Has, space-end-fits}
 
@@ -42,7 +42,7 @@ module _ (e : ℕ) where
   space-by r y (stop-as.Bad why k) h = tt
 
 pub space-has : (s : List ℕ) (t : Tape) (r : Rule) (count : Count) (enb : Bool) → t .position ≤ t .end → Has (SpaceFits (t .end)) (positioned s t r count enb)
-unfolding positioned spaceMotion
+unfolding positionedUnder spaceMotion
 space-has s t r count enb h =
     let from = startSpan t count enb in
     either (Has (SpaceFits (t .end))) (eqb (howMany count) 0) _ _

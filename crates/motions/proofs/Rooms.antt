@@ -16,7 +16,7 @@ use Rattle.moves.specs.declared.seeking.Sought.{Sought}
 use Rattle.moves.specs.declared.seeking.Sought.the-variants as sought-as
 use Rattle.moves.proofs.Within.{SoughtIn, sought-in}
 use Rattle.motions.specs.Parts.{laidBlocks, noMove, objectBlocks, stops}
-use Rattle.motions.specs.Writes.{behindGap, noRoom, retried, retriedBy, writtenAt, writtenMotion}
+use Rattle.motions.specs.Writes.{behindGap, noRoom, retried, retriedUnder, retriedBy, retriedByUnder, writtenAt, writtenAtUnder, writtenMotion, writtenMotionUnder}
 use Rattle.motions.specs.declared.parts.Laid.{Laid}
 use Rattle.motions.specs.declared.parts.Ending.{Ending}
 use Rattle.motions.proofs.Ends.{EndFits, Has, flag-most}
@@ -38,7 +38,7 @@ module _ (blocks : ℕ) (l : Laid) where
 
   module _ (n : Laid) (mark : Bool) (same : n .pointer + n .length ≤ l .pointer + l .length) where
     laid-has : n .at + laidBlocks n ≤ blocks → Has (WriteFits blocks l) (writtenMotion n blocks mark)
-    unfolding writtenMotion
+    unfolding writtenMotionUnder
     laid-has f =
         record {
           place = omega arith;
@@ -64,7 +64,7 @@ module _ (blocks : ℕ) (l : Laid) where
       by-room false y = laid-has (ltb-false blocks (n .at + laidBlocks n) y)
 
       pub written-has : Has (WriteFits blocks l) (writtenAt t blocks n mark)
-      unfolding writtenAt
+      unfolding writtenAtUnder
       written-has = by-room (ltb blocks (n .at + laidBlocks n)) refl
 
   module _ (t : Tape) (mark : Bool) (h : t .position ≤ t .end) (k : t .end ≤ blocks) where
@@ -73,12 +73,12 @@ module _ (blocks : ℕ) (l : Laid) where
     behind-has q = written-has (behindGap l q) mark (omega arith) t h k
 
     retried-by : (f : Sought) → SoughtIn true (t .position) (t .end) f → Has (WriteFits blocks l) (retriedBy t blocks l mark f)
-    unfolding retriedBy
+    unfolding retriedByUnder
     retried-by (sought-as.Record n q) i = behind-has q
     retried-by (sought-as.Mark q) i = behind-has q
     retried-by (sought-as.Nothing q) i = unlaid-has _ _ (record { class = omega arith; found = omega arith; xst3 = omega arith }) i k
     retried-by (sought-as.Bad why b) i = tt
 
     pub retried-has : (s : List ℕ) → Has (WriteFits blocks l) (retried s t blocks l mark)
-    unfolding retried
+    unfolding retriedUnder
     retried-has s = retried-by _ (sought-in s true (t .position) (t .end) h)

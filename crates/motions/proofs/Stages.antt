@@ -12,7 +12,7 @@ use Rattle.moves.specs.declared.seeking.Sought.{Sought}
 use Rattle.moves.specs.declared.seeking.Sought.the-variants as sought-as
 use Rattle.moves.proofs.Within.{SoughtIn, sought-in}
 use Rattle.motions.specs.Parts.{noLay, standing}
-use Rattle.motions.specs.Reads.{firstBlock, markEnd, nothingEnd, readMotion, readOne, readThenSpace, reread, spaceBack, spaceThenRead, stageBy, stageOf, stopMotion}
+use Rattle.motions.specs.Reads.{firstBlock, markEnd, nothingEnd, readMotion, readOne, readOneUnder, readThenSpace, readThenSpaceUnder, reread, rereadUnder, spaceBack, spaceBackUnder, spaceThenRead, spaceThenReadUnder, stageBy, stageOf, stageOfUnder, stopMotion}
 use Rattle.motions.specs.declared.parts.Ending.{Ending}
 use Rattle.motions.specs.declared.reads.Buffer.{Buffer}
 use Rattle.motions.specs.declared.reads.Stage.{Stage}
@@ -52,29 +52,29 @@ module _ (e : ℕ) (r : Buffer) where
 
   module _ (s : List ℕ) where
     stage-has : (p : ℕ) (reverse : Bool) → p ≤ e → StageFits reverse (stageOf s (standing p e) (r .count) reverse)
-    unfolding stageOf
+    unfolding stageOfUnder
     stage-has p reverse h = stage-by p reverse _ (sought-in s reverse p e h)
 
     pub one-has : (p : ℕ) (reverse : Bool) → p ≤ e → Has (ReadFits e r) (readOne s (standing p e) r reverse)
-    unfolding readOne
+    unfolding readOneUnder
     one-has p reverse h =
         on-record (Has (ReadFits e r)) (RecordIn reverse e) _ _ (stage-has p reverse h) (λ n q i. record-has reverse reverse n q q i (i .below))
 
     then-read-has : (p : ℕ) (reverse : Bool) → p ≤ e → Has (ReadFits e r) (spaceThenRead s (standing p e) r reverse)
-    unfolding spaceThenRead
+    unfolding spaceThenReadUnder
     then-read-has p reverse h =
         on-record (Has (ReadFits e r)) (RecordIn reverse e) _ _ (stage-has p reverse h) (λ n q i. one-has q (not reverse) (i .below))
 
     back-has : (reverse : Bool) (n q : ℕ) → RecordIn reverse e n q → Has (ReadFits e r) (spaceBack s e r reverse n q)
-    unfolding spaceBack
+    unfolding spaceBackUnder
     back-has reverse n q i =
         on-record (Has (ReadFits e r)) (RecordIn (not reverse) e) _ _ (stage-has q (not reverse) (i .below)) (λ m b j. record-has reverse (not reverse) n q b i (j .below))
 
     then-space-has : (p : ℕ) (reverse : Bool) → p ≤ e → Has (ReadFits e r) (readThenSpace s (standing p e) r reverse)
-    unfolding readThenSpace
+    unfolding readThenSpaceUnder
     then-space-has p reverse h =
         on-record (Has (ReadFits e r)) (RecordIn reverse e) _ _ (stage-has p reverse h) (λ n q i. back-has reverse n q i)
 
     pub reread-has : (p : ℕ) (reverse opp : Bool) → p ≤ e → Has (ReadFits e r) (reread s (standing p e) r reverse opp)
-    unfolding reread
+    unfolding rereadUnder
     reread-has p reverse opp h = either (Has (ReadFits e r)) opp _ _ (then-space-has p reverse h) (then-read-has p reverse h)

@@ -4,15 +4,15 @@ use mathlib.Core.List.{List}
 use Prim.Native.Nat.{ℕ, _+_, _-_, min}
 use lib.Dec.{eqb, ltb}
 use Rattle.lists.specs.Pick.{pick}
-use Rattle.tape.specs.Numbers.{piecesOf}
-use Rattle.signals.specs.Bits.{TMK, RLS, RLL, OPI, REV, RIB}
+use Rattle.tape.specs.Numbers.{piecesOf, recordLimit}
+use Rattle.signals.specs.Bits.{OPI, REV, RIB, RLL, RLS, TMK}
 use Rattle.signals.specs.Message.{flagOf}
 use Rattle.signals.specs.declared.message.End.{End}
 use Rattle.signals.specs.declared.counts.ByteCount.{ByteCount}
 use Rattle.signals.specs.declared.counts.Residual.{Residual}
 use Rattle.signals.specs.declared.counts.Residual.the-variants as residual
 use Rattle.state.specs.declared.Tape.{Tape}
-use Rattle.moves.specs.Seeking.{sought}
+use Rattle.moves.specs.Seeking.{soughtUnder}
 use Rattle.moves.specs.declared.seeking.Sought.{Sought}
 use Rattle.moves.specs.declared.seeking.Sought.the-variants as sought-as
 use Rattle.motions.specs.Parts.{end, noLay, resting, standing, stops}
@@ -48,10 +48,6 @@ stageBy t count reverse (sought-as.Mark q) = stage.Over (resting (markEnd count 
 stageBy t count reverse (sought-as.Nothing q) = stage.Over (resting (nothingEnd count reverse) (standing q (t .end)))
 stageBy t count reverse (sought-as.Bad why k) = stage.Bad why k
 
--- one stage: gaps are passed over; "A mark, BOT or end in the first stage ends it, residual as if nothing moved."
-unfoldable pub stageOf : List ℕ → Tape → ByteCount → Bool → Stage
-stageOf s t count reverse = stageBy t count reverse (sought s reverse (t .position) (t .end))
-
 -- the first block of a record of n bytes beyond which the position is q
 unfoldable pub firstBlock : Bool → ℕ → ℕ → ℕ
 firstBlock reverse n q = pick reverse q (q - piecesOf n)
@@ -81,24 +77,49 @@ onRecord (stage.Record n q) f = f n q
 onRecord (stage.Over x) f = motion.Ended x
 onRecord (stage.Bad why k) f = motion.Fault why k
 
--- "Read 1 / 0 next, 1 previous"
-unfoldable pub readOne : List ℕ → Tape → Buffer → Bool → Motion
-readOne s t r reverse =
-    onRecord (stageOf s t (r .count) reverse) (λ n q. readMotion r reverse n q (standing q (t .end)) reverse)
+-- under any record limit
+module _ (limit : ℕ) where
+  -- one stage: gaps are passed over; "A mark, BOT or end in the first stage ends it, residual as if nothing moved."
+  unfoldable pub stageOfUnder : List ℕ → Tape → ByteCount → Bool → Stage
+  stageOfUnder s t count reverse = stageBy t count reverse (soughtUnder limit s reverse (t .position) (t .end))
 
--- "Mode 2 reread: space reverse, read forward. Mode 3: space forward, read reverse."
-unfoldable pub spaceThenRead : List ℕ → Tape → Buffer → Bool → Motion
-spaceThenRead s t r reverse =
-    onRecord (stageOf s t (r .count) reverse) (λ n q. readOne s (standing q (t .end)) r (not reverse))
+  -- "Read 1 / 0 next, 1 previous"
+  unfoldable pub readOneUnder : List ℕ → Tape → Buffer → Bool → Motion
+  readOneUnder s t r reverse =
+      onRecord (stageOfUnder s t (r .count) reverse) (λ n q. readMotion r reverse n q (standing q (t .end)) reverse)
 
--- the space back over the record of n bytes that was read up to q
-unfoldable pub spaceBack : List ℕ → ℕ → Buffer → Bool → ℕ → ℕ → Motion
-spaceBack s e r reverse n q =
-    onRecord (stageOf s (standing q e) (r .count) (not reverse)) (λ n′ b. readMotion r reverse n q (standing b e) (not reverse))
+  -- "Mode 2 reread: space reverse, read forward. Mode 3: space forward, read reverse."
+  unfoldable pub spaceThenReadUnder : List ℕ → Tape → Buffer → Bool → Motion
+  spaceThenReadUnder s t r reverse =
+      onRecord (stageOfUnder s t (r .count) reverse) (λ n q. readOneUnder s (standing q (t .end)) r (not reverse))
 
--- "OPP puts the read first, same direction as the space had, then the space back."
-unfoldable pub readThenSpace : List ℕ → Tape → Buffer → Bool → Motion
-readThenSpace s t r reverse = onRecord (stageOf s t (r .count) reverse) (λ n q. spaceBack s (t .end) r reverse n q)
+  -- the space back over the record of n bytes that was read up to q
+  unfoldable pub spaceBackUnder : List ℕ → ℕ → Buffer → Bool → ℕ → ℕ → Motion
+  spaceBackUnder s e r reverse n q =
+      onRecord (stageOfUnder s (standing q e) (r .count) (not reverse)) (λ n′ b. readMotion r reverse n q (standing b e) (not reverse))
 
-unfoldable pub reread : List ℕ → Tape → Buffer → Bool → Bool → Motion
-reread s t r reverse opp = pick opp (readThenSpace s t r reverse) (spaceThenRead s t r reverse)
+  -- "OPP puts the read first, same direction as the space had, then the space back."
+  unfoldable pub readThenSpaceUnder : List ℕ → Tape → Buffer → Bool → Motion
+  readThenSpaceUnder s t r reverse = onRecord (stageOfUnder s t (r .count) reverse) (λ n q. spaceBackUnder s (t .end) r reverse n q)
+
+  unfoldable pub rereadUnder : List ℕ → Tape → Buffer → Bool → Bool → Motion
+  rereadUnder s t r reverse opp = pick opp (readThenSpaceUnder s t r reverse) (spaceThenReadUnder s t r reverse)
+
+-- and under this unit's own
+abbrev pub stageOf : List ℕ → Tape → ByteCount → Bool → Stage
+stageOf = stageOfUnder recordLimit
+
+abbrev pub readOne : List ℕ → Tape → Buffer → Bool → Motion
+readOne = readOneUnder recordLimit
+
+abbrev pub spaceThenRead : List ℕ → Tape → Buffer → Bool → Motion
+spaceThenRead = spaceThenReadUnder recordLimit
+
+abbrev pub spaceBack : List ℕ → ℕ → Buffer → Bool → ℕ → ℕ → Motion
+spaceBack = spaceBackUnder recordLimit
+
+abbrev pub readThenSpace : List ℕ → Tape → Buffer → Bool → Motion
+readThenSpace = readThenSpaceUnder recordLimit
+
+abbrev pub reread : List ℕ → Tape → Buffer → Bool → Bool → Motion
+reread = rereadUnder recordLimit

@@ -4,14 +4,15 @@ use mathlib.Core.List.{List}
 use Prim.Native.Nat.{ℕ, _+_}
 use lib.Dec.{eqb}
 use Rattle.lists.specs.Pick.{pick}
-use Rattle.signals.specs.Bits.{TMK, RLS, LET, OPI, REV, RIB}
+use Rattle.tape.specs.Numbers.{recordLimit}
+use Rattle.signals.specs.Bits.{LET, OPI, REV, RIB, RLS, TMK}
 use Rattle.signals.specs.Message.{flagOf}
 use Rattle.signals.specs.declared.message.End.{End}
 use Rattle.signals.specs.declared.counts.Residual.{Residual}
 use Rattle.signals.specs.declared.counts.Residual.the-variants as residual
 use Rattle.state.specs.declared.Tape.{Tape}
 use Rattle.moves.specs.Counting.{howMany}
-use Rattle.moves.specs.Spacing.{spaced, span}
+use Rattle.moves.specs.Spacing.{spacedUnder, span}
 use Rattle.moves.specs.declared.spacing.Count.{Count}
 use Rattle.moves.specs.declared.spacing.Count.the-variants as count-as
 use Rattle.moves.specs.declared.spacing.Rule.{Rule}
@@ -65,8 +66,14 @@ spaceMotion r y e = spaceMotionBy r (y .span) e (y .stop)
 abbrev pub startSpan : Tape → Count → Bool → Span
 startSpan t count enb = span (t .position) count false (enb && eqb (t .position) 0)
 
--- "A Position count of 0 moves nothing, class 0"
-unfoldable pub positioned : List ℕ → Tape → Rule → Count → Bool → Motion
-positioned s t r count enb =
-    pick (eqb (howMany count) 0) (stops (end 0 0 0 (residualOf count)) t)
-    (spaceMotion r (spaced s r (t .end) (startSpan t count enb)) (t .end))
+-- under any record limit
+module _ (limit : ℕ) where
+  -- "A Position count of 0 moves nothing, class 0"
+  unfoldable pub positionedUnder : List ℕ → Tape → Rule → Count → Bool → Motion
+  positionedUnder s t r count enb =
+      pick (eqb (howMany count) 0) (stops (end 0 0 0 (residualOf count)) t)
+      (spaceMotion r (spacedUnder limit s r (t .end) (startSpan t count enb)) (t .end))
+
+-- and under this unit's own
+abbrev pub positioned : List ℕ → Tape → Rule → Count → Bool → Motion
+positioned = positionedUnder recordLimit

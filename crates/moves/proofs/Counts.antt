@@ -13,7 +13,7 @@ use Rattle.tape.proofs.Within.{Onward, fewer-ahead}
 use Rattle.tape.specs.declared.BlockFault.{BlockFault}
 use Rattle.moves.specs.Between.{Between, Bound, Gaps, countIn, no-gap, one-gap, withGaps}
 use Rattle.moves.specs.Counting.{howMany, ofMarks}
-use Rattle.moves.specs.Spacing.{markTurn, recordTurn, spaced, turnOf}
+use Rattle.moves.specs.Spacing.{markTurn, recordTurn, spaced, spacedUnder, turnOf}
 use Rattle.moves.specs.declared.seeking.Sought.{Sought}
 use Rattle.moves.specs.declared.seeking.Sought.the-variants as sought-as
 use Rattle.moves.specs.declared.spacing.Rule.{Rule}
@@ -98,7 +98,7 @@ module _ {s : List ℕ} {e : ℕ} {os : List Object} (h : Holds s e os) (r : Rul
       turn-more _ _ _ _ more (λ z j. (more (z .span) (j .0), j .1)) (turnAt s r e y) (rw k at (turn-done r y n (finds h (r .reverse) (bound-to (r .reverse) (i .1)))))
 
   all-done : Bound os (x .position) → Since (spaced s r e x .span) × NoFault (spaced s r e x)
-  unfolding spaced countIn
+  unfolding spacedUnder countIn
   all-done b =
       rounds s r e (ofMarks (x .left)) (λ _ y. Since y) (λ z. Since (z .span) × NoFault z) (λ turns y k i n. turn-on y k i n) (λ turns y i w. (i, λ why k z. clash (cc)))
       (e + 1) x refl ([], stays (r .reverse) b, omega arith)
@@ -135,7 +135,7 @@ module _ (s : List ℕ) (r : Rule) (e : ℕ) where
       (turn-moves r e y _ (sought-in s (r .reverse) (y .position) e (i .0)))
 
   pub spaced-why : (x : Span) → x .position ≤ e → spaced s r e x .stop ≡ stop-as.Count → howMany (spaced s r e x .span .left) ≡ 0
-  unfolding spaced
+  unfolding spacedUnder
   spaced-why x h =
       rounds s r e (ofMarks (x .left)) Enough (λ z. z .stop ≡ stop-as.Count → howMany (z .span .left) ≡ 0) (λ turns y k i n. turn-enough turns y i) (λ turns y i w k. ⊎-elim (λ z. absurd (omega arith)) (λ z. z) w)
       (e + 1) x refl (h, omega (arith, ahead-most (r .reverse) (x .position) e h))

@@ -11,7 +11,7 @@ use Rattle.tape.specs.Pass.{ahead, passed}
 use Rattle.tape.specs.declared.Met.{Met}
 use Rattle.tape.proofs.Within.{fewer-ahead, gap-within}
 use Rattle.moves.specs.Between.{Between, Bound, Gaps, no-gap, one-gap, withGaps}
-use Rattle.moves.specs.Seeking.{sought, soughtFrom, soughtOn}
+use Rattle.moves.specs.Seeking.{sought, soughtUnder, soughtFrom, soughtFromUnder, soughtOn}
 use Rattle.moves.specs.declared.seeking.Sought.{Sought}
 pub use Rattle.moves.specs.Finding.{Finds, finds-mark, finds-nothing, finds-record}
 use Rattle.moves.proofs.Bounds.{bound-below, bound-to, joins, stays}
@@ -57,10 +57,10 @@ module _ {s : List ℕ} {e : ℕ} {os : List Object} (h : Holds s e os) where
 
   -- each gap takes a block, so that there are turns for all that are ahead
   finds-from : (reverse : Bool) (turns : ℕ) (p : ℕ) → Bound os p → ahead reverse p e ≤ turns → Finds os reverse p (soughtFrom turns s reverse p e)
-  unfolding soughtFrom
+  unfolding soughtFromUnder
   finds-from reverse zero p b a = finds-nothing no-gap (stays reverse b) (rw (h .ends) (nothing-ahead reverse p e (bound-below h b) a))
   finds-from reverse (suc turns) p b a = on-step reverse turns (passed s reverse p e) b refl (steps h reverse b) a (λ q c l. finds-from reverse turns q c l)
 
   pub finds : (reverse : Bool) {p : ℕ} → Bound os p → Finds os reverse p (sought s reverse p e)
-  unfolding sought
+  unfolding soughtUnder
   finds reverse {p} b = finds-from reverse e p b (ahead-most reverse p e (bound-below h b))

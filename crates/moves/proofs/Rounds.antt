@@ -8,7 +8,7 @@ use borrow.Author.Tests.{eqb-true, eqb-false}
 use lib.Dec.{eqb}
 use Rattle.lists.specs.Pick.{pick}
 use Rattle.moves.specs.Counting.{howMany, ofMarks}
-use Rattle.moves.specs.Spacing.{spaced, spacedFrom, spacedOn, stopped}
+use Rattle.moves.specs.Spacing.{spaced, spacedUnder, spacedFrom, spacedFromUnder, spacedOn, stopped}
 use Rattle.moves.specs.declared.spacing.Rule.{Rule}
 use Rattle.moves.specs.declared.spacing.Spaced.{Spaced}
 use Rattle.moves.specs.declared.spacing.Span.{Span}
@@ -34,12 +34,12 @@ module _ (s : List ℕ) (r : Rule) (e : ℕ) (marks : Bool) (Inv : ℕ → Span 
       after-turn turns (turnAt s r e y) (turn-kind marks r y _ k) (step turns y k i (eqb-false (howMany (y .left)) 0 w)) on
 
   pub rounds : (turns : ℕ) (y : Span) → Counts marks y → Inv turns y → Last (spacedFrom turns s r e y)
-  unfolding spacedFrom
+  unfolding spacedFromUnder
   rounds zero y k i = done 0 y i (inl refl)
   rounds (suc turns) y k i = after-test turns y (eqb (howMany (y .left)) 0) refl k i (λ z l j. rounds turns z l j)
 
 -- what every turn keeps of the span
 pub spaced-keeps : (s : List ℕ) (r : Rule) (e : ℕ) (P : Span → Type 0) (x : Span)
     → ((y : Span) → Counts (ofMarks (x .left)) y → P y → (howMany (y .left) ≡ 0 → ⊥) → SpanHas P (turnAt s r e y)) → P x → P (spaced s r e x .span)
-unfolding spaced
+unfolding spacedUnder
 spaced-keeps s r e P x step i = rounds s r e (ofMarks (x .left)) (λ _ y. P y) (λ z. P (z .span)) (λ turns y k j n. step y k j n) (λ turns y j w. j) (e + 1) x refl i

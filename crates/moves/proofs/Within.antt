@@ -10,7 +10,7 @@ use Rattle.tape.specs.declared.Met.{Met}
 use Rattle.tape.specs.declared.Met.the-variants as met
 use Rattle.tape.proofs.Within.{Onward, PassIn, RecordIn, onward-more, pass-in}
 use Rattle.moves.specs.Counting.{howMany, ofMarks}
-use Rattle.moves.specs.Seeking.{sought, soughtFrom, soughtOn}
+use Rattle.moves.specs.Seeking.{sought, soughtUnder, soughtFrom, soughtFromUnder, soughtOn}
 use Rattle.moves.specs.Spacing.{recordTurn, spaced, turnOf}
 use Rattle.moves.specs.declared.seeking.Sought.{Sought}
 use Rattle.moves.specs.declared.seeking.Sought.the-variants as sought-as
@@ -43,13 +43,13 @@ on-in reverse p e met.Nothing onward h i on = h
 on-in reverse p e (met.Bad why k) onward h i on = tt
 
 from-in : (turns : ℕ) (s : List ℕ) (reverse : Bool) (p e : ℕ) → p ≤ e → SoughtIn reverse p e (soughtFrom turns s reverse p e)
-unfolding soughtFrom
+unfolding soughtFromUnder
 from-in zero s reverse p e h = h
 from-in (suc turns) s reverse p e h = on-in reverse p e (passed s reverse p e) (λ q. soughtFrom turns s reverse q e) h (pass-in s reverse p e h) (λ q k. from-in turns s reverse q e k)
 
 module _ (s : List ℕ) (reverse : Bool) (p e : ℕ) (h : p ≤ e) where
   pub sought-in : SoughtIn reverse p e (sought s reverse p e)
-  unfolding sought
+  unfolding soughtUnder
   sought-in = from-in e s reverse p e h
 
   pub sought-record : {n q : ℕ} → sought s reverse p e ≡ sought-as.Record n q → RecordIn reverse e n q

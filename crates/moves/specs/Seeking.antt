@@ -2,7 +2,8 @@
 use mathlib.Core.Bool.{Bool}
 use mathlib.Core.List.{List}
 use Prim.Native.Nat.{ℕ, suc}
-use Rattle.tape.specs.Pass.{passed}
+use Rattle.tape.specs.Numbers.{recordLimit}
+use Rattle.tape.specs.Pass.{passedUnder}
 use Rattle.tape.specs.declared.Met.{Met}
 use Rattle.tape.specs.declared.Met.the-variants as met
 use Rattle.moves.specs.declared.seeking.Sought.{Sought}
@@ -16,11 +17,20 @@ soughtOn (met.Gap q) p onward = onward q
 soughtOn met.Nothing p onward = sought-as.Nothing p
 soughtOn (met.Bad why k) p onward = sought-as.Bad why k
 
--- at most `turns` objects
-unfoldable pub soughtFrom : ℕ → List ℕ → Bool → ℕ → ℕ → Sought
-soughtFrom ℕ.zero s reverse p e = sought-as.Nothing p
-soughtFrom (suc turns) s reverse p e = soughtOn (passed s reverse p e) p (λ q. soughtFrom turns s reverse q e)
+-- under any record limit
+module _ (limit : ℕ) where
+  -- at most `turns` objects
+  unfoldable pub soughtFromUnder : ℕ → List ℕ → Bool → ℕ → ℕ → Sought
+  soughtFromUnder ℕ.zero s reverse p e = sought-as.Nothing p
+  soughtFromUnder (suc turns) s reverse p e = soughtOn (passedUnder limit s reverse p e) p (λ q. soughtFromUnder turns s reverse q e)
 
--- each gap takes a block, so from a position up to e, e turns reach the end either way
-unfoldable pub sought : List ℕ → Bool → ℕ → ℕ → Sought
-sought s reverse p e = soughtFrom e s reverse p e
+  -- each gap takes a block, so from a position up to e, e turns reach the end either way
+  unfoldable pub soughtUnder : List ℕ → Bool → ℕ → ℕ → Sought
+  soughtUnder s reverse p e = soughtFromUnder e s reverse p e
+
+-- and under this unit's own
+abbrev pub soughtFrom : ℕ → List ℕ → Bool → ℕ → ℕ → Sought
+soughtFrom = soughtFromUnder recordLimit
+
+abbrev pub sought : List ℕ → Bool → ℕ → ℕ → Sought
+sought = soughtUnder recordLimit

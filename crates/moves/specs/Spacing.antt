@@ -5,9 +5,10 @@ use mathlib.Core.List.{List}
 use Prim.Native.Nat.{ℕ, suc, _+_, _-_}
 use lib.Dec.{eqb}
 use Rattle.lists.specs.Pick.{pick}
+use Rattle.tape.specs.Numbers.{recordLimit}
 use Rattle.signals.specs.declared.counts.MarkCount.{MarkCount}
 use Rattle.moves.specs.Counting.{afterRecord, howMany, marks}
-use Rattle.moves.specs.Seeking.{sought}
+use Rattle.moves.specs.Seeking.{soughtUnder}
 use Rattle.moves.specs.declared.seeking.Sought.{Sought}
 use Rattle.moves.specs.declared.seeking.Sought.the-variants as sought-as
 use Rattle.moves.specs.declared.spacing.Count.{Count}
@@ -55,12 +56,21 @@ unfoldable pub spacedOn : Turn → (Span → Spaced) → Spaced
 spacedOn (turn-as.On x) onward = onward x
 spacedOn (turn-as.Over y) onward = y
 
-unfoldable pub spacedFrom : ℕ → List ℕ → Rule → ℕ → Span → Spaced
-spacedFrom ℕ.zero s r e x = stopped stop-as.Count x
-spacedFrom (suc turns) s r e x =
-    let rest = spacedOn (turnOf r x (sought s (r .reverse) (x .position) e)) (λ y. spacedFrom turns s r e y) in
-    pick (eqb (howMany (x .left)) 0) (stopped stop-as.Count x) rest
+-- under any record limit
+module _ (limit : ℕ) where
+  unfoldable pub spacedFromUnder : ℕ → List ℕ → Rule → ℕ → Span → Spaced
+  spacedFromUnder ℕ.zero s r e x = stopped stop-as.Count x
+  spacedFromUnder (suc turns) s r e x =
+      let rest = spacedOn (turnOf r x (soughtUnder limit s (r .reverse) (x .position) e)) (λ y. spacedFromUnder turns s r e y) in
+      pick (eqb (howMany (x .left)) 0) (stopped stop-as.Count x) rest
 
--- each turn passes a block or more, so a turn for each block and one more are enough
-unfoldable pub spaced : List ℕ → Rule → ℕ → Span → Spaced
-spaced s r e x = spacedFrom (e + 1) s r e x
+  -- each turn passes a block or more, so a turn for each block and one more are enough
+  unfoldable pub spacedUnder : List ℕ → Rule → ℕ → Span → Spaced
+  spacedUnder s r e x = spacedFromUnder (e + 1) s r e x
+
+-- and under this unit's own
+abbrev pub spacedFrom : ℕ → List ℕ → Rule → ℕ → Span → Spaced
+spacedFrom = spacedFromUnder recordLimit
+
+abbrev pub spaced : List ℕ → Rule → ℕ → Span → Spaced
+spaced = spacedUnder recordLimit

@@ -6,7 +6,7 @@ use Prim.Native.Nat.{ℕ, suc, _+_, _-_, _≤_, _<_}
 use native.Mathlib.Numerals.{add-one}
 use native.Mathlib.Omega.{arith}
 use Rattle.lists.specs.Pick.{pick}
-use Rattle.tape.specs.Pass.{badAt, faultOf, isPiece, orderMet, piecesMet}
+use Rattle.tape.specs.Pass.{badAt, faultOf, isPiece, orderMet, piecesMet, piecesMetUnder}
 use Rattle.tape.specs.Reading.{classAt}
 use Rattle.tape.specs.declared.BlockFault.{BlockFault}
 use Rattle.tape.specs.declared.Block.{Block}
@@ -15,13 +15,13 @@ use Rattle.tape.specs.declared.Met.the-variants as met
 
 module _ (s : List ℕ) (reverse : Bool) (n p m j : ℕ) (whole : Met) where
   pub pieces-end : m ≤ j → whole ≡ piecesMet s reverse n p m j (m - j) whole
-  unfolding piecesMet
+  unfolding piecesMetUnder
   pieces-end h =
       let e : m - j ≡ 0 = omega arith in
       rw e
 
   pub pieces-step : j < m → piecesMet s reverse n p m j (m - j) whole ≡ pick (isPiece (classAt s (p + orderMet reverse m j)) n (orderMet reverse m j)) (piecesMet s reverse n p m (j + 1) (m - (j + 1)) whole) (badAt s (p + orderMet reverse m j))
-  unfolding piecesMet
+  unfolding piecesMetUnder
   pieces-step h =
       let e : m - j ≡ suc (m - (j + 1)) = omega arith in
       rw (e, add-one j)

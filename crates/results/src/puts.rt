@@ -119,7 +119,7 @@ fn put_reason(out: &mut [u8], at: usize, f: Fault) -> usize
         Fault::OutsideMemory => put_bytes(out, at, b": outside memory\n"),
         Fault::OutsideReel => put_bytes(out, at, b": outside the reel\n"),
         Fault::RecordTooLong => put_bytes(out, at, b": longer than a record can be\n"),
-        Fault::OtherRules => put_bytes(out, at, b": other rules: this program has rules 2 4\n"),
+        Fault::OtherRules => put_bytes(out, at, b": other rules: this program has rules 2 4 7\n"),
     }
 }
 

@@ -30,7 +30,7 @@ use Rattle.demands.proofs.Reached.{advanced-must, must-first}
 use Rattle.demands.proofs.Ways.{advanced-is}
 use Rattle.unit.specs.Asks.{advance}
 use Rattle.unit.specs.Cores.{Admitted, Core}
-use Rattle.unit.specs.Mounts.{mountCall, mountRefusal, mountSwept}
+use Rattle.unit.specs.Mounts.{mountCallUnder, mountRefusal, mountSwept}
 use Rattle.unit.specs.Steps.{carried, stepOf}
 use Rattle.entries.specs.Entries.{entryLength}
 use Rattle.worlds.specs.Worlds.{World, sessionOf}
@@ -128,7 +128,7 @@ module _ (old : Session) (memory : ℕ) (r : List ℕ) (journal e : ℕ) (online
 
   -- a mount that answers 7 names the first block at fault from block 0 on
   pub mount-names : numberOf (mountOn old memory r journal e online locked .answer) ≡ 7 → Names r e (mountOn old memory r journal e online locked .answer)
-  unfolding mountOn mountCall numberOf
+  unfolding mountOn mountCallUnder numberOf
   mount-names z =
       by-test (eqb (mountRefusal memory (length r) e) 0)
       (λ t. by-test (ltb journalLimit journal)

@@ -22,7 +22,7 @@ use Rattle.state.specs.declared.Unit.{Unit}
 use Rattle.state.proofs.Legal.{legal-mounted}
 use Rattle.state.proofs.Tests.{neither}
 use Rattle.commands.specs.declared.plans.Answer.the-variants as answer
-use Rattle.unit.specs.Mounts.{mountCall, mountRefusal, mountSwept}
+use Rattle.unit.specs.Mounts.{mountCallUnder, mountRefusal, mountSwept}
 use Rattle.worlds.specs.declared.Session.{Session}
 use Rattle.worlds.specs.declared.Outcome.{Outcome}
 use Rattle.worlds.specs.Refusals.{journalLimit}
@@ -96,7 +96,7 @@ module _ (old : Session) (memory : ℕ) (r : List ℕ) (journal e : ℕ) (online
   swept-done (swept.Bad why j) k = no-bad why j k
 
   pub mount-done : mountOn old memory r journal e online locked .answer ≡ answer.Done false → MountDone old memory r journal e online locked
-  unfolding mountOn mountCall
+  unfolding mountOn mountCallUnder
   mount-done k =
       by-test (eqb (mountRefusal memory (length r) e) 0)
       (λ t. by-test (ltb journalLimit journal)

@@ -15,7 +15,7 @@ use Rattle.tape.specs.declared.Swept.the-variants as swept
 use Rattle.state.specs.declared.Unit.{Unit}
 use Rattle.commands.specs.Answers.{numberOf}
 use Rattle.commands.specs.declared.plans.Answer.the-variants as answer
-use Rattle.unit.specs.Mounts.{mountCall, mountRefusal, mountSwept}
+use Rattle.unit.specs.Mounts.{mountCallUnder, mountRefusal, mountSwept}
 use Rattle.entries.specs.Entries.{usedIn}
 use Rattle.worlds.specs.declared.Session.{Session}
 use Rattle.worlds.specs.Worlds.{sessionOf}
@@ -40,7 +40,7 @@ module _ (old : Session) (memory : ℕ) (r : List ℕ) (journal e : ℕ) (online
 
   -- of a mount's answers only "done" has the number 0
   mount-zero : numberOf (mountOn old memory r journal e online locked .answer) ≡ 0 → mountOn old memory r journal e online locked .answer ≡ answer.Done false
-  unfolding mountOn mountCall numberOf
+  unfolding mountOn mountCallUnder numberOf
   mount-zero h =
       let n : ℕ = mountRefusal memory (length r) e in
       by-test (eqb n 0)

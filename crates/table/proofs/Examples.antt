@@ -42,5 +42,6 @@ table =
       p10-one = λ d h. omega arith;
       p10-two = λ d h. omega arith;
       p11 = λ d h. omega arith;
+      p11-longest = λ d h. omega arith;
       p12 = λ u ie. refl;
     }

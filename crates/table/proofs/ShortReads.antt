@@ -18,24 +18,24 @@ use Rattle.state.specs.Readings.{tssrOf}
 use Rattle.state.specs.declared.Unit.{Unit}
 use Rattle.moves.proofs.Within.{sought-in, sought-record}
 use Rattle.motions.specs.Parts.{standing}
-use Rattle.motions.specs.Reads.{firstBlock, onRecord, readEnd, readMotion, readOne, stageBy, stageOf}
-use Rattle.commands.specs.Commands.{asked, readBy}
-use Rattle.commands.specs.Ends.{ended, motionPlan, statusOf, told, toldUnit}
+use Rattle.motions.specs.Reads.{firstBlock, onRecord, readEnd, readMotion, readOneUnder, stageBy, stageOfUnder}
+use Rattle.commands.specs.Commands.{asked, readByUnder}
+use Rattle.commands.specs.Ends.{ended, motionPlan, motionPlanUnder, statusOfUnder, toldUnder, toldUnit}
 use Rattle.storing.specs.Stored.{movedOn}
 use Rattle.table.specs.Table.{Clear, Plain, ShortRead, readPlan}
 
 module _ (u : Unit) (s : List ℕ) (h : Header) (p : Packet) (reverse : Bool) (q : ℕ) (w : ShortRead u s p reverse q) where
   -- the record is found, and the Read ends with it
   found : readPlan u s h p reverse ≡ motionPlan u (h .ie) (readMotion (asked h p) reverse 7 q (standing q (u .tape .end)) reverse)
-  unfolding readBy readOne stageOf stageBy onRecord
+  unfolding readByUnder readOneUnder stageOfUnder stageBy onRecord
   found = rw (w .met)
 
   pub short-residual : getD (readPlan u s h p reverse .message) 2 0 ≡ 3
-  unfolding motionPlan readMotion readEnd told messageOf
+  unfolding motionPlanUnder readMotion readEnd toldUnder messageOf
   short-residual = rw (found, w .asked)
 
   pub short-tssr : Clear u → tssrOf (readPlan u s h p reverse .unit) ≡ 0x8084
-  unfolding motionPlan readMotion readEnd told toldUnit ended tssrOf
+  unfolding motionPlanUnder readMotion readEnd toldUnder toldUnit ended tssrOf
   short-tssr c =
       let high : u .registers .pointer / 131072 % 2 ≡ 0 = omega (arith, c .address) in
       let low : u .registers .pointer / 65536 % 2 ≡ 0 = omega (arith, c .address) in
@@ -43,7 +43,7 @@ module _ (u : Unit) (s : List ℕ) (h : Header) (p : Packet) (reverse : Bool) (q
 
 module _ (u : Unit) (s : List ℕ) (h : Header) (p : Packet) (q : ℕ) where
   pub short-status : ShortRead u s p false q → Plain u h q → getD (readPlan u s h p false .message) 3 0 ≡ 0x40C8
-  unfolding motionPlan readMotion readEnd told toldUnit ended messageOf statusOf
+  unfolding motionPlanUnder readMotion readEnd toldUnder toldUnit ended messageOf statusOfUnder
   short-status w c =
       let onward : u .tape .position < q = (rw (w .met) at (sought-in s false (u .tape .position) (u .tape .end) (c .place))) .1 .up refl in
       rw (found u s h p false q w, w .asked, c .online, c .ie, c .unlocked, c .vck, ne-eqb (u .tape .position) q (λ z. omega arith), ne-eqb q 0 (λ z. omega arith), lt-leb (eotMarker (u .lengths .blocks)) q (c .eot))
@@ -56,7 +56,7 @@ high-end m d e = rw e (placed-plain m 1003 d)
 module _ (u : Unit) (m s : List ℕ) (h : Header) (p : Packet) (q : ℕ) (w : ShortRead u s p true q) where
   pub short-stored : u .tape .position ≤ u .tape .end → blockBytes * u .tape .end ≤ length s → p .pointer ≡ 1000 → h .swb ≡ false
       → (length (recordBytes s q 7) ≡ 7) × (movedOn s (readPlan u s h p true .moved) m ≡ sets m 1003 (recordBytes s q 7))
-  unfolding motionPlan readMotion told firstBlock movedOn
+  unfolding motionPlanUnder readMotion toldUnder firstBlock movedOn
   short-stored below room at swb =
       let inside = sought-record s true (u .tape .position) (u .tape .end) below (w .met) .inside in
       let long : length (recordBytes s q 7) ≡ 7 = record-length s q 7 (omega arith) in

@@ -94,5 +94,7 @@ pub record Table : Type 0 where
   pub p10-two : (d : List ℕ) → length d ≡ 505 → blocksIn (record-of d) ≡ 2
   -- "P11 16,384 bytes, 33."
   pub p11 : (d : List ℕ) → length d ≡ 16384 → blocksIn (record-of d) ≡ 33
+  -- "P11 gets a neighbour: 65,535 bytes, 131 blocks" (02, [7])
+  pub p11-longest : (d : List ℕ) → length d ≡ 65535 → blocksIn (record-of d) ≡ 131
   -- "P12 release: entry 128."
   pub p12 : (c : Core) (ie : Bool) → entryLength (entryFor c (carried c (released (c .unit) ie))) ≡ 128

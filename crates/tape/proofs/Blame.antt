@@ -5,7 +5,7 @@ use mathlib.Core.Path.{_≡_}
 use Prim.Native.Nat.{ℕ, zero, suc}
 use Rattle.lists.specs.Pick.{Always}
 use Rattle.tape.specs.Pass.{passed}
-use Rattle.tape.specs.Sweep.{sweptBelow, sweptFrom, sweptOn}
+use Rattle.tape.specs.Sweep.{sweptBelow, sweptBelowUnder, sweptFrom, sweptFromUnder, sweptOn}
 use Rattle.tape.specs.Wrong.{WrongAt}
 use Rattle.tape.specs.declared.BlockFault.{BlockFault}
 use Rattle.tape.specs.declared.Met.{Met}
@@ -48,11 +48,11 @@ module _ (s : List ℕ) where
     on-wrong (met.Bad why k) onward w on = w
 
     from-wrong : (turns p : ℕ) → SweptWrong (sweptFrom turns s p e)
-    unfolding sweptFrom
+    unfolding sweptFromUnder
     from-wrong zero p = tt
     from-wrong (suc turns) p =
         on-wrong (passed s false p e) (λ q. sweptFrom turns s q e) (wrongly false p e (passed s false p e) (outcome s false p e)) (λ q. from-wrong turns q)
 
     pub swept-wrong : {why : BlockFault} {k : ℕ} → sweptBelow s e ≡ swept.Bad why k → WrongAt s k why
-    unfolding sweptBelow
+    unfolding sweptBelowUnder
     swept-wrong y = rw y at (from-wrong e 0)

@@ -15,7 +15,7 @@ use Rattle.tape.specs.Layout.{checkOf, gapKind, markKind, pieceKind}
 use Rattle.tape.specs.Letters.{letterOf}
 use Rattle.tape.specs.Numbers.{blockBytes, headBytes, piecesOf, recordLimit, summedBytes}
 use Rattle.tape.specs.Pass.{faultOf}
-use Rattle.tape.specs.Reading.{blockAt, checkRight, classAt, classBy, classOf, indexRight, kindOf, kindRight, lengthRight, paddingRight, usedOf, zeros}
+use Rattle.tape.specs.Reading.{blockAt, checkRight, classAt, classAtUnder, classByUnder, classOf, classOfUnder, indexRight, kindOf, kindRight, lengthRight, paddingRight, usedOf, zeros}
 use Rattle.tape.specs.Wrong.{CheckGood, FirstWrong, IndexGood, KindGood, LengthGood, PaddingGood, WrongAt, by-itself, check, index, kind, kind-gap, kind-mark, kind-piece, misplaced, not-there, of-blank, of-piece, of-record, of-single, padding, size}
 use Rattle.tape.specs.declared.BlockFault.{BlockFault}
 use Rattle.tape.specs.declared.BlockFault.the-variants as fault
@@ -146,7 +146,7 @@ module _ (b : List ℕ) where
   sound-told = pick-told Told (eqb k pieceKind) (block.Piece n i) (pick (eqb k markKind) block.Mark block.Gap) (λ t. tt) (λ t. pick-told Told (eqb k markKind) block.Mark block.Gap (λ m. tt) (λ m. tt))
 
   told-all : Told (classOf b)
-  unfolding classOf classBy
+  unfolding classOfUnder classByUnder
   told-all =
       pick-told Told (kindRight k) _ _
       (λ a.
@@ -169,7 +169,7 @@ module _ (b : List ℕ) where
 
   -- and the other way: the first that is wrong is the one told
   pub first-told : (f : BlockFault) → FirstWrong b f → classOf b ≡ block.Damaged f
-  unfolding classOf classBy
+  unfolding classOfUnder classByUnder
   first-told f (kind a) = rw (not-sure kind-tells a)
   first-told f (size a c) = rw (kind-sure a, not-sure length-tells c)
   first-told f (index a c d) = rw (kind-sure a, length-sure c, not-sure index-tells d)
@@ -186,18 +186,18 @@ module _ (s : List ℕ) (k : ℕ) where
   sound-or-not block.Gap e h = misplaced h (λ f w. clash (cc (e, first-told (blockAt s k) f w)))
 
   pub wrong-at : WrongAt s k (faultOf (classAt s k))
-  unfolding classAt faultOf
+  unfolding classAtUnder faultOf
   wrong-at =
       pick-told (λ b. WrongAt s k (faultOf b)) (ltb k (length s / blockBytes)) (classOf (blockAt s k)) _
       (λ t. sound-or-not (classOf (blockAt s k)) refl (ltb-true k (length s / blockBytes) t))
       (λ t. not-there (ltb-false k (length s / blockBytes) t))
 
   inside : k < length s / blockBytes → classAt s k ≡ classOf (blockAt s k)
-  unfolding classAt
+  unfolding classAtUnder
   inside h = rw (lt-ltb k (length s / blockBytes) h)
 
   absent : length s / blockBytes ≤ k → faultOf (classAt s k) ≡ fault.Index
-  unfolding classAt faultOf
+  unfolding classAtUnder faultOf
   absent h = rw (le-ltb k (length s / blockBytes) h)
 
   -- a block that none of the five is wrong with is sound

@@ -11,7 +11,7 @@ use Rattle.lists.specs.Words.{Bytes}
 use Rattle.tape.specs.Bytes.{recordBytes}
 use Rattle.tape.specs.Numbers.{blockBytes, dataBytes, headBytes, piecesOf}
 use Rattle.tape.specs.Objects.{Allowed, StandsAt, blocksIn, gap, imageOf, mark, pieceOf, piecesTo, record-of}
-use Rattle.tape.specs.Reading.{blockAt, classAt, classOf}
+use Rattle.tape.specs.Reading.{blockAt, classAt, classAtUnder, classOf}
 use Rattle.tape.specs.declared.BlockFault.{BlockFault}
 use Rattle.tape.specs.declared.BlockFault.the-variants as fault
 use Rattle.tape.specs.declared.Block.{Block}
@@ -32,7 +32,7 @@ record ReadAt (s : List ℕ) (k : ℕ) (b : Block) : Type 0 where
 
 module _ (s : List ℕ) (k : ℕ) (all : Bytes s) where
   read-at : (b : Block) → ((f : BlockFault) → block.Damaged f ≡ b → ⊥) → classAt s k ≡ b → ReadAt s k b
-  unfolding classAt
+  unfolding classAtUnder
   read-at b sound e =
       let p = pick-first (ltb k (length s / blockBytes)) (classOf (blockAt s k)) _ b e (sound fault.Index) in
       let fits : blockBytes * (k + 1) ≤ length s = omega (arith, ltb-true k (length s / blockBytes) (p .0)) in

@@ -8,7 +8,7 @@ use lib.ListN.{length, take, drop, length-append}
 use lib.Seq.{take-all}
 use Rattle.tape.specs.Numbers.{blockBytes, piecesOf}
 use Rattle.tape.specs.Layout.{gapKind, markKind}
-use Rattle.tape.specs.Objects.{AllAllowed, Allowed, Object, also, blocksIn, blocksOf, gap, imageOf, imagesOf, mark, none, pieceOf, record-of}
+use Rattle.tape.specs.Objects.{AllAllowedUnder, Allowed, Object, also, blocksIn, blocksOf, gap, imageOf, imagesOf, mark, none, pieceOf, record-of}
 use Rattle.tape.proofs.Blocks.{length-block}
 use Rattle.tape.proofs.PieceRun.{length-piece, length-pieces, part-of-pieces}
 
@@ -41,15 +41,15 @@ one-or-more (record-of d) h = omega arith
 one-or-more mark h = omega arith
 one-or-more gap h = omega arith
 
-pub allowed-front : (xs ys : List Object) → AllAllowed (xs ++ ys) → AllAllowed xs
+pub allowed-front : {limit : ℕ} (xs ys : List Object) → AllAllowedUnder limit (xs ++ ys) → AllAllowedUnder limit xs
 allowed-front [] ys h = none
 allowed-front (o ∷ xs) ys (also a h) = also a (allowed-front xs ys h)
 
-pub allowed-rest : (xs ys : List Object) → AllAllowed (xs ++ ys) → AllAllowed ys
+pub allowed-rest : {limit : ℕ} (xs ys : List Object) → AllAllowedUnder limit (xs ++ ys) → AllAllowedUnder limit ys
 allowed-rest [] ys h = h
 allowed-rest (o ∷ xs) ys (also a h) = allowed-rest xs ys h
 
-pub allowed-both : {xs ys : List Object} → AllAllowed xs → AllAllowed ys → AllAllowed (xs ++ ys)
+pub allowed-both : {limit : ℕ} {xs ys : List Object} → AllAllowedUnder limit xs → AllAllowedUnder limit ys → AllAllowedUnder limit (xs ++ ys)
 allowed-both none k = k
 allowed-both (also a h) k = also a (allowed-both h k)
 

@@ -21,4 +21,5 @@ pub mod Outcomes
 pub mod Blame
 pub mod Within
 pub mod Seen
+pub mod Limits
 pub mod Sweeps

@@ -10,7 +10,7 @@ use borrow.Author.Tests.{eqb-true, eqb-false, leb-true}
 use lib.Dec.{eqb, leb}
 use Rattle.lists.specs.Pick.{pick}
 use Rattle.tape.specs.Numbers.{piecesOf, recordLimit}
-use Rattle.tape.specs.Pass.{ahead, badAt, beyond, faultOf, firstMet, isPiece, lowest, metBy, orderMet, passed, piecesMet, recordMet}
+use Rattle.tape.specs.Pass.{ahead, badAt, beyond, faultOf, firstMet, isPiece, lowest, metBy, metByUnder, orderMet, passed, passedUnder, piecesMet, piecesMetUnder, recordMetUnder}
 use Rattle.tape.specs.Reading.{classAt}
 use Rattle.tape.specs.declared.BlockFault.the-variants as fault
 use Rattle.tape.specs.declared.Block.{Block}
@@ -40,7 +40,7 @@ order-twice : (reverse : Bool) (m j : ℕ) → j < m → orderMet reverse m (ord
 order-twice true m j h = omega arith
 order-twice false m j h = refl
 
-one-at-least : (n : ℕ) → (n ≡ 0 → ⊥) → 1 ≤ n
+pub one-at-least : (n : ℕ) → (n ≡ 0 → ⊥) → 1 ≤ n
 one-at-least n f = omega arith
 
 -- the pieces from j on were the ones due, or a block was at fault
@@ -60,7 +60,7 @@ module _ (s : List ℕ) (reverse : Bool) (n p m : ℕ) where
   next-seen j c whole rest false h r = not-due (p + orderMet reverse m j) refl
 
   pieces-seen : (j c : ℕ) (whole : Met) → PiecesSeen j c whole (piecesMet s reverse n p m j c whole)
-  unfolding piecesMet
+  unfolding piecesMetUnder
   pieces-seen j zero whole = due (λ i a b. absurd (omega arith)) refl
   pieces-seen j (suc c) whole = next-seen j c whole (piecesMet s reverse n p m (suc j) c whole) (isPiece (classAt s (p + orderMet reverse m j)) n (orderMet reverse m j)) refl (pieces-seen (suc j) c whole)
 
@@ -90,7 +90,7 @@ module _ (s : List ℕ) (reverse : Bool) (q e : ℕ) where
   fit-outcome n i false h c = at-fault (firstMet reverse q) (rw c)
 
   class-outcome : (b : Block) → 1 ≤ ahead reverse q e → classAt s (firstMet reverse q) ≡ b → Outcome s reverse q e (metBy s reverse q e b)
-  unfolding metBy recordMet faultOf
+  unfolding metByUnder recordMetUnder faultOf
   class-outcome (block.Piece n i) h c = fit-outcome n i (eqb i (orderMet reverse (piecesOf n) 0) && leb (piecesOf n) (ahead reverse q e)) refl c
   class-outcome block.Mark h c = over-mark h (rw first-alone at c) refl
   class-outcome block.Gap h c = over-gap h (rw first-alone at c) refl
@@ -101,5 +101,5 @@ module _ (s : List ℕ) (reverse : Bool) (q e : ℕ) where
   end-outcome false h = class-outcome (classAt s (firstMet reverse q)) (one-at-least (ahead reverse q e) (eqb-false (ahead reverse q e) 0 h)) refl
 
   pub outcome : Outcome s reverse q e (passed s reverse q e)
-  unfolding passed
+  unfolding passedUnder
   outcome = end-outcome (eqb (ahead reverse q e) 0) refl

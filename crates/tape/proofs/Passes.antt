@@ -8,10 +8,10 @@ use borrow.Author.Tests.{eq-eqb, ne-eqb, le-leb, lt-ltb}
 use lib.ListN.{length, take, drop, length-take, length-drop}
 use lib.Seq.{sets}
 use Rattle.tape.specs.Meeting.{metAs}
-use Rattle.tape.specs.Numbers.{blockBytes, dataBytes, piecesOf}
-use Rattle.tape.specs.Objects.{AllAllowed, Allowed, Holds, Object, StandsAt, also, blocksIn, blocksOf, gap, imageOf, mark, pieceOf, record-of}
-use Rattle.tape.specs.Pass.{ahead, beyond, firstMet, isPiece, lowest, metBy, orderMet, passed, piecesMet, recordMet}
-use Rattle.tape.specs.Reading.{blockAt, classAt, classOf}
+use Rattle.tape.specs.Numbers.{blockBytes, dataBytes, piecesOf, recordLimit}
+use Rattle.tape.specs.Objects.{AllAllowedUnder, Allowed, AllowedUnder, Holds, Object, StandsAt, also, blocksIn, blocksOf, gap, imageOf, mark, pieceOf, record-of}
+use Rattle.tape.specs.Pass.{ahead, beyond, firstMet, isPiece, lowest, metByUnder, orderMet, passed, passedUnder, piecesMetUnder, recordMetUnder}
+use Rattle.tape.specs.Reading.{blockAt, classAt, classAtUnder, classOf}
 use Rattle.tape.specs.declared.Block.{Block}
 use Rattle.tape.specs.declared.Block.the-variants as block
 use Rattle.tape.specs.declared.Met.{Met}
@@ -23,12 +23,15 @@ use Rattle.tape.proofs.Written.{laid-stands}
 
 -- a block within the slice is read as its bytes say
 pub class-at : (s b : List ℕ) (k : ℕ) → blockBytes * (k + 1) ≤ length s → blockAt s k ≡ b → classAt s k ≡ classOf b
-unfolding classAt
+unfolding classAtUnder
 class-at s b k h e = simp (lt-ltb k (length s / blockBytes) (omega arith)) (ap classOf e)
 
--- the blocks from p on are the pieces of a record of n bytes
+-- the blocks from p on are the pieces of a record of n bytes, to a unit of any record limit and to this one
+abbrev pub PiecesAtUnder : ℕ → List ℕ → ℕ → ℕ → Type 0
+PiecesAtUnder limit s p n = (j : ℕ) → j < piecesOf n → classAtUnder limit s (p + j) ≡ block.Piece n j
+
 abbrev pub PiecesAt : List ℕ → ℕ → ℕ → Type 0
-PiecesAt s p n = (j : ℕ) → j < piecesOf n → classAt s (p + j) ≡ block.Piece n j
+PiecesAt = PiecesAtUnder recordLimit
 
 module _ (s : List ℕ) (p : ℕ) where
   -- the slice holds an object that stands on it
@@ -54,14 +57,6 @@ pub order-below : (reverse : Bool) (m j : ℕ) → j < m → orderMet reverse m 
 order-below true m j h = omega arith
 order-below false m j h = h
 
--- no fault where every piece is the one due
-pub pieces-whole : (s : List ℕ) (reverse : Bool) (n p j c : ℕ) (whole : Met) → PiecesAt s p n → j + c ≤ piecesOf n → piecesMet s reverse n p (piecesOf n) j c whole ≡ whole
-unfolding piecesMet isPiece
-pieces-whole s reverse n p j zero whole all h = refl
-pieces-whole s reverse n p j (suc c) whole all h =
-    let i : ℕ = orderMet reverse (piecesOf n) j in
-    simp (all i (order-below reverse (piecesOf n) j (omega arith)), eq-eqb n n refl, eq-eqb i i refl) (pieces-whole s reverse n p (suc j) c whole all (omega arith))
-
 -- the first block met is a record's piece 0, in reverse its last one
 pub first-order : (reverse : Bool) (q e m : ℕ) → 1 ≤ m → m ≤ ahead reverse q e → firstMet reverse q ≡ lowest reverse q m + orderMet reverse m 0
 first-order true q e m h k = omega arith
@@ -71,27 +66,38 @@ pub first-alone : (reverse : Bool) (q : ℕ) → firstMet reverse q ≡ lowest r
 first-alone true q = refl
 first-alone false q = refl
 
-module _ (s : List ℕ) (reverse : Bool) (q e : ℕ) where
-  -- the first block met decides what is met
-  passed-by : (b : Block) → 1 ≤ ahead reverse q e → classAt s (firstMet reverse q) ≡ b → passed s reverse q e ≡ metBy s reverse q e b
-  unfolding passed
-  passed-by b h c = simp (ne-eqb (ahead reverse q e) 0 (λ z. omega arith), c)
+-- under any record limit
+module _ (limit : ℕ) (s : List ℕ) (reverse : Bool) where
+  -- no fault where every piece is the one due
+  pieces-whole : (n p j c : ℕ) (whole : Met) → PiecesAtUnder limit s p n → j + c ≤ piecesOf n → piecesMetUnder limit s reverse n p (piecesOf n) j c whole ≡ whole
+  unfolding piecesMetUnder isPiece
+  pieces-whole n p j zero whole all h = refl
+  pieces-whole n p j (suc c) whole all h =
+      let i : ℕ = orderMet reverse (piecesOf n) j in
+      simp (all i (order-below reverse (piecesOf n) j (omega arith)), eq-eqb n n refl, eq-eqb i i refl) (pieces-whole n p (suc j) c whole all (omega arith))
 
-  met-record : (n : ℕ) → 1 ≤ n → piecesOf n ≤ ahead reverse q e → PiecesAt s (lowest reverse q (piecesOf n)) n → passed s reverse q e ≡ met.Record n (beyond reverse q (piecesOf n))
-  unfolding metBy recordMet
-  met-record n h k all =
+  -- the first block met decides what is met
+  pub passed-by : (q e : ℕ) (b : Block) → 1 ≤ ahead reverse q e → classAtUnder limit s (firstMet reverse q) ≡ b → passedUnder limit s reverse q e ≡ metByUnder limit s reverse q e b
+  unfolding passedUnder
+  passed-by q e b h c = simp (ne-eqb (ahead reverse q e) 0 (λ z. omega arith), c)
+
+  -- a record of n bytes, all of whose pieces stand ahead, is met whole
+  pub met-record : (q e n : ℕ) → 1 ≤ n → piecesOf n ≤ ahead reverse q e → PiecesAtUnder limit s (lowest reverse q (piecesOf n)) n → passedUnder limit s reverse q e ≡ met.Record n (beyond reverse q (piecesOf n))
+  unfolding metByUnder recordMetUnder
+  met-record q e n h k all =
       let m : ℕ = piecesOf n in
       let i : ℕ = orderMet reverse m 0 in
-      let c : classAt s (firstMet reverse q) ≡ block.Piece n i = rw (first-order reverse q e m (omega arith) k) (all i (order-below reverse m 0 (omega arith))) in
-      passed-by (block.Piece n i) (omega arith) c
-      ∙ simp (eq-eqb i i refl, le-leb m (ahead reverse q e) k) (pieces-whole s reverse n (lowest reverse q m) 1 (m - 1) (met.Record n (beyond reverse q m)) all (omega arith))
+      let c : classAtUnder limit s (firstMet reverse q) ≡ block.Piece n i = rw (first-order reverse q e m (omega arith) k) (all i (order-below reverse m 0 (omega arith))) in
+      passed-by q e (block.Piece n i) (omega arith) c
+      ∙ simp (eq-eqb i i refl, le-leb m (ahead reverse q e) k) (pieces-whole n (lowest reverse q m) 1 (m - 1) (met.Record n (beyond reverse q m)) all (omega arith))
 
+module _ (s : List ℕ) (reverse : Bool) (q e : ℕ) where
   -- either way: the object stands at the lower bound of the blocks met
   pub pass-whole : (o : Object) → Allowed o → StandsAt s (lowest reverse q (blocksIn o)) o → blocksIn o ≤ ahead reverse q e → passed s reverse q e ≡ metAs o (beyond reverse q (blocksIn o))
-  unfolding metAs blocksIn metBy
-  pass-whole (record-of d) a h k = met-record (length d) (a .0) k (class-stands s (lowest reverse q (piecesOf (length d))) d h a)
-  pass-whole mark a h k = passed-by block.Mark k (rw first-alone (class-mark s (lowest reverse q 1) h))
-  pass-whole gap a h k = passed-by block.Gap k (rw first-alone (class-gap s (lowest reverse q 1) h))
+  unfolding metAs blocksIn metByUnder
+  pass-whole (record-of d) a h k = met-record recordLimit s reverse q e (length d) (a .0) k (class-stands s (lowest reverse q (piecesOf (length d))) d h a)
+  pass-whole mark a h k = passed-by recordLimit s reverse q e block.Mark k (rw first-alone (class-mark s (lowest reverse q 1) h))
+  pass-whole gap a h k = passed-by recordLimit s reverse q e block.Gap k (rw first-alone (class-gap s (lowest reverse q 1) h))
 
 module _ (s : List ℕ) (p e : ℕ) (o : Object) (a : Allowed o) (h : StandsAt s p o) where
   pub pass-forward : p + blocksIn o ≤ e → passed s false p e ≡ metAs o (p + blocksIn o)
@@ -104,18 +110,18 @@ module _ (s : List ℕ) (p e : ℕ) (o : Object) (a : Allowed o) (h : StandsAt s
 
 -- at the recorded end and at block 0 nothing is ahead
 pub forward-ends : (s : List ℕ) (e : ℕ) → passed s false e e ≡ met.Nothing
-unfolding passed
+unfolding passedUnder
 forward-ends s e = simp (eq-eqb (e - e) 0 (omega arith))
 
 pub reverse-ends : (s : List ℕ) (e : ℕ) → passed s true 0 e ≡ met.Nothing
-unfolding passed
+unfolding passedUnder
 reverse-ends s e = refl
 
 -- each object of a list is allowed
-pub allowed-at : (before : List Object) (o : Object) (after : List Object) → AllAllowed (before ++ o ∷ after) → Allowed o
-allowed-at before o after h = first (allowed-rest before (o ∷ after) h)
+pub allowed-at : {limit : ℕ} (before : List Object) (o : Object) (after : List Object) → AllAllowedUnder limit (before ++ o ∷ after) → AllowedUnder limit o
+allowed-at {limit} before o after h = first (allowed-rest before (o ∷ after) h)
   where
-    first : {x : Object} {xs : List Object} → AllAllowed (x ∷ xs) → Allowed x
+    first : {x : Object} {xs : List Object} → AllAllowedUnder limit (x ∷ xs) → AllowedUnder limit x
     first (also a h) = a
 
 -- an object of a well formed reel is met from the bounds on either side of it

@@ -16,12 +16,12 @@ use Rattle.tape.proofs.Rebuilt.{rebuilt}
 use Rattle.tape.specs.Layout.{blockOf, gapKind, markKind, pieceKind}
 use Rattle.tape.specs.Numbers.{blockBytes, dataBytes, headBytes, piecesOf, recordLimit}
 use Rattle.tape.specs.Objects.{gap, imageOf, mark}
-use Rattle.tape.specs.Reading.{blockAt, classAt, classBy, classOf, indexRight, kindOf, kindRight, lengthRight, usedOf}
+use Rattle.tape.specs.Reading.{blockAt, classAt, classAtUnder, classByUnder, classOf, classOfUnder, indexRight, kindOf, kindRight, lengthRight, usedOf}
 use Rattle.tape.specs.declared.Block.the-variants as block
 
 -- a laid block with a right head is read as what its kind says
 read-laid : (k n i : ℕ) (d : List ℕ) → kindRight k ≡ true → lengthRight k n ≡ true → indexRight k n i ≡ true → length d ≡ usedOf k n i → length d ≤ dataBytes → classOf (blockOf k n i d) ≡ kindOf k n i
-unfolding classOf classBy
+unfolding classOfUnder classByUnder
 read-laid k n i d p q r u h = rw (block-kind k n i d, block-length k n i d, block-index k n i d, p, q, r, ← u, block-padding k n i d h, block-check k n i d h)
 
 pub read-piece : (n i : ℕ) (d : List ℕ) → 1 ≤ n → n ≤ recordLimit → i < piecesOf n → length d ≡ min dataBytes (n - dataBytes * i) → classOf (blockOf pieceKind n i d) ≡ block.Piece n i
@@ -37,13 +37,13 @@ read-gap = read-laid gapKind 0 0 [] refl refl refl refl (omega arith)
 
 pub piece-ranged : (b : List ℕ) (n i : ℕ) → classOf b ≡ block.Piece n i → (1 ≤ n) × (n ≤ recordLimit) × (i < piecesOf n)
 piece-ranged b n i e =
-    let a = accepted-piece b n i e in
+    let a = accepted-piece recordLimit b n i e in
     let q = and-eq-true-iff (leb 1 n) (leb n recordLimit) .0 (a .sized) in
     (leb-true 1 n (q .0), leb-true n recordLimit (q .1), ltb-true i (piecesOf n) (a .indexed))
 
 -- a block that the slice does not hold is damaged, and so no piece
 pub piece-read : (s : List ℕ) (k n i : ℕ) → classAt s k ≡ block.Piece n i → (1 ≤ n) × (n ≤ recordLimit) × (i < piecesOf n)
-unfolding classAt
+unfolding classAtUnder
 piece-read s k n i e =
     piece-ranged (blockAt s k) n i (pick-first (ltb k (length s / blockBytes)) (classOf (blockAt s k)) _ (block.Piece n i) e (λ h. clash cc) .1)
 
@@ -53,18 +53,18 @@ used-fits false m = omega arith
 
 module _ (b : List ℕ) (bytes : Bytes b) (whole : length b ≡ blockBytes) where
   -- an accepted block is laid from what it says
-  whole-accepted : (k n i : ℕ) → Accepted b k n i → b ≡ blockOf k n i (take (usedOf k n i) (drop headBytes b))
+  whole-accepted : (k n i : ℕ) → Accepted recordLimit b k n i → b ≡ blockOf k n i (take (usedOf k n i) (drop headBytes b))
   whole-accepted k n i a =
       let e = rebuilt b bytes whole (usedOf k n i) (used-fits (eqb k pieceKind) (n - dataBytes * i)) (a .padding) (a .check) in
       rw (a .kind, a .size, a .index) at e
 
   pub whole-piece : (n i : ℕ) → classOf b ≡ block.Piece n i → b ≡ blockOf pieceKind n i (take (min dataBytes (n - dataBytes * i)) (drop headBytes b))
-  whole-piece n i e = whole-accepted pieceKind n i (accepted-piece b n i e)
+  whole-piece n i e = whole-accepted pieceKind n i (accepted-piece recordLimit b n i e)
 
   pub whole-mark : classOf b ≡ block.Mark → b ≡ imageOf mark
   unfolding imageOf
-  whole-mark e = whole-accepted markKind 0 0 (accepted-mark b e)
+  whole-mark e = whole-accepted markKind 0 0 (accepted-mark recordLimit b e)
 
   pub whole-gap : classOf b ≡ block.Gap → b ≡ imageOf gap
   unfolding imageOf
-  whole-gap e = whole-accepted gapKind 0 0 (accepted-gap b e)
+  whole-gap e = whole-accepted gapKind 0 0 (accepted-gap recordLimit b e)

@@ -1,4 +1,4 @@
--- Every limit of the reel, named once. (01, "Numbers" and "The reel"; request [7] will change margin and recordLimit)
+-- Every limit of the reel, named once. (01, "Numbers" and "The reel"; margin and recordLimit by 02, [7])
 use Prim.Native.Nat.{ℕ, _+_, _-_, _/_}
 
 -- "blocks of 512 bytes": three words, 504 data bytes, and the check word
@@ -22,20 +22,24 @@ summedWords = 255
 abbrev pub checkModulus : ℕ
 checkModulus = 65535
 
--- "Records: 1 to 16,384 bytes."
+-- "records of up to 65,535 bytes" (02, [7]): every length but 0 that a block's word can say
 abbrev pub recordLimit : ℕ
-recordLimit = 16384
+recordLimit = 65535
 
 -- "Reel slice: 1 to 65,536 blocks"
 abbrev pub capacityLimit : ℕ
 capacityLimit = 65536
 
+-- "move the EOT marker to 160 blocks before the end, since one record now takes up to 131" (02, [7])
 abbrev pub margin : ℕ
-margin = 64
+margin = 160
 
--- "EOT marker: block (capacity minus 64), or block 0 on a smaller reel." (_-_ stops at 0)
+-- "EOT marker: block (capacity minus [the margin]), or block 0 on a smaller reel." (_-_ stops at 0)
+abbrev pub eotMarkerUnder : ℕ → ℕ → ℕ
+eotMarkerUnder eotMargin capacity = capacity - eotMargin
+
 abbrev pub eotMarker : ℕ → ℕ
-eotMarker capacity = capacity - margin
+eotMarker = eotMarkerUnder margin
 
 -- "A record of n bytes takes n/504 blocks rounded up"
 abbrev pub piecesOf : ℕ → ℕ

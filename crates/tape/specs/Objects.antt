@@ -12,15 +12,21 @@ pub data Object : Type 0 where
   mark : Object
   gap : Object
 
--- "Records: 1 to 16,384 bytes."
-abbrev pub Allowed : Object → Type 0
-Allowed (record-of d) = (1 ≤ length d) × (length d ≤ recordLimit)
-Allowed mark = Always
-Allowed gap = Always
+-- "Records: 1 to [the limit] bytes."
+abbrev pub AllowedUnder : ℕ → Object → Type 0
+AllowedUnder limit (record-of d) = (1 ≤ length d) × (length d ≤ limit)
+AllowedUnder limit mark = Always
+AllowedUnder limit gap = Always
 
-pub data AllAllowed : List Object → Type 0 where
-  none : AllAllowed []
-  also : {o : Object} {os : List Object} → Allowed o → AllAllowed os → AllAllowed (o ∷ os)
+pub data AllAllowedUnder (limit : ℕ) : List Object → Type 0 where
+  none : AllAllowedUnder limit []
+  also : {o : Object} {os : List Object} → AllowedUnder limit o → AllAllowedUnder limit os → AllAllowedUnder limit (o ∷ os)
+
+abbrev pub Allowed : Object → Type 0
+Allowed = AllowedUnder recordLimit
+
+abbrev pub AllAllowed : List Object → Type 0
+AllAllowed = AllAllowedUnder recordLimit
 
 -- "A record of n bytes takes n/504 blocks rounded up .. Marks and gaps are one block"
 unfoldable pub blocksIn : Object → ℕ
@@ -51,11 +57,14 @@ unfoldable pub imagesOf : List Object → List ℕ
 imagesOf [] = []
 imagesOf (o ∷ os) = imageOf o ++ imagesOf os
 
--- the blocks of s below e are exactly the blocks of the objects os
-pub record Holds (s : List ℕ) (e : ℕ) (os : List Object) : Type 0 where
-  pub allowed : AllAllowed os
+-- the blocks of s below e are exactly the blocks of the objects os, whose records are no longer than the limit
+pub record HoldsUnder (limit : ℕ) (s : List ℕ) (e : ℕ) (os : List Object) : Type 0 where
+  pub allowed : AllAllowedUnder limit os
   pub ends : blocksOf os ≡ e
   pub image : take (blockBytes * e) s ≡ imagesOf os
+
+abbrev pub Holds : List ℕ → ℕ → List Object → Type 0
+Holds = HoldsUnder recordLimit
 
 -- "A reel is well formed when the blocks below the end are whole objects; those at or above may hold anything."
 abbrev pub WellFormed : List ℕ → ℕ → Type 0

@@ -7,8 +7,8 @@ use mathlib.Core.List.{List}
 use Prim.Native.Nat.{ℕ, suc, _+_, _-_}
 use lib.Dec.{eqb, leb}
 use Rattle.lists.specs.Pick.{pick}
-use Rattle.tape.specs.Numbers.{piecesOf}
-use Rattle.tape.specs.Reading.{classAt}
+use Rattle.tape.specs.Numbers.{piecesOf, recordLimit}
+use Rattle.tape.specs.Reading.{classAtUnder}
 use Rattle.tape.specs.declared.BlockFault.{BlockFault}
 use Rattle.tape.specs.declared.BlockFault.the-variants as fault
 use Rattle.tape.specs.declared.Block.{Block}
@@ -50,30 +50,48 @@ faultOf (block.Piece n i) = fault.Index
 faultOf block.Mark = fault.Index
 faultOf block.Gap = fault.Index
 
--- block k of the reel s can't be taken
+-- under any record limit
+module _ (limit : ℕ) where
+  -- block k of the reel s can't be taken
+  abbrev pub badAtUnder : List ℕ → ℕ → Met
+  badAtUnder s k = met.Bad (faultOf (classAtUnder limit s k)) k
+
+  -- the next c pieces due of a record of n bytes in m blocks from block p on, j of them met: the first at fault, else what was met
+  unfoldable pub piecesMetUnder : List ℕ → Bool → ℕ → ℕ → ℕ → ℕ → ℕ → Met → Met
+  piecesMetUnder s reverse n p m j ℕ.zero whole = whole
+  piecesMetUnder s reverse n p m j (suc c) whole =
+      let rest = piecesMetUnder s reverse n p m (suc j) c whole in
+      pick (isPiece (classAtUnder limit s (p + orderMet reverse m j)) n (orderMet reverse m j)) rest (badAtUnder s (p + orderMet reverse m j))
+
+  -- a record of n bytes, met at piece i
+  unfoldable pub recordMetUnder : List ℕ → Bool → ℕ → ℕ → ℕ → ℕ → Met
+  recordMetUnder s reverse p e n i =
+      pick (eqb i (orderMet reverse (piecesOf n) 0) && leb (piecesOf n) (ahead reverse p e))
+      (piecesMetUnder s reverse n (lowest reverse p (piecesOf n)) (piecesOf n) 1 (piecesOf n - 1) (met.Record n (beyond reverse p (piecesOf n))))
+      (met.Bad fault.Index (firstMet reverse p))
+
+  unfoldable pub metByUnder : List ℕ → Bool → ℕ → ℕ → Block → Met
+  metByUnder s reverse p e (block.Piece n i) = recordMetUnder s reverse p e n i
+  metByUnder s reverse p e block.Mark = met.Mark (beyond reverse p 1)
+  metByUnder s reverse p e block.Gap = met.Gap (beyond reverse p 1)
+  metByUnder s reverse p e (block.Damaged f) = met.Bad f (firstMet reverse p)
+
+  -- what passing one object from position p meets, on the reel s recorded up to e
+  unfoldable pub passedUnder : List ℕ → Bool → ℕ → ℕ → Met
+  passedUnder s reverse p e = pick (eqb (ahead reverse p e) 0) met.Nothing (metByUnder s reverse p e (classAtUnder limit s (firstMet reverse p)))
+
+-- and under this unit's own
 abbrev pub badAt : List ℕ → ℕ → Met
-badAt s k = met.Bad (faultOf (classAt s k)) k
+badAt = badAtUnder recordLimit
 
--- the next c pieces due of a record of n bytes in m blocks from block p on, j of them met: the first at fault, else what was met
-unfoldable pub piecesMet : List ℕ → Bool → ℕ → ℕ → ℕ → ℕ → ℕ → Met → Met
-piecesMet s reverse n p m j ℕ.zero whole = whole
-piecesMet s reverse n p m j (suc c) whole =
-    let rest = piecesMet s reverse n p m (suc j) c whole in
-    pick (isPiece (classAt s (p + orderMet reverse m j)) n (orderMet reverse m j)) rest (badAt s (p + orderMet reverse m j))
+abbrev pub piecesMet : List ℕ → Bool → ℕ → ℕ → ℕ → ℕ → ℕ → Met → Met
+piecesMet = piecesMetUnder recordLimit
 
--- a record of n bytes, met at piece i
-unfoldable pub recordMet : List ℕ → Bool → ℕ → ℕ → ℕ → ℕ → Met
-recordMet s reverse p e n i =
-    pick (eqb i (orderMet reverse (piecesOf n) 0) && leb (piecesOf n) (ahead reverse p e))
-    (piecesMet s reverse n (lowest reverse p (piecesOf n)) (piecesOf n) 1 (piecesOf n - 1) (met.Record n (beyond reverse p (piecesOf n))))
-    (met.Bad fault.Index (firstMet reverse p))
+abbrev pub recordMet : List ℕ → Bool → ℕ → ℕ → ℕ → ℕ → Met
+recordMet = recordMetUnder recordLimit
 
-unfoldable pub metBy : List ℕ → Bool → ℕ → ℕ → Block → Met
-metBy s reverse p e (block.Piece n i) = recordMet s reverse p e n i
-metBy s reverse p e block.Mark = met.Mark (beyond reverse p 1)
-metBy s reverse p e block.Gap = met.Gap (beyond reverse p 1)
-metBy s reverse p e (block.Damaged f) = met.Bad f (firstMet reverse p)
+abbrev pub metBy : List ℕ → Bool → ℕ → ℕ → Block → Met
+metBy = metByUnder recordLimit
 
--- what passing one object from position p meets, on the reel s recorded up to e
-unfoldable pub passed : List ℕ → Bool → ℕ → ℕ → Met
-passed s reverse p e = pick (eqb (ahead reverse p e) 0) met.Nothing (metBy s reverse p e (classAt s (firstMet reverse p)))
+abbrev pub passed : List ℕ → Bool → ℕ → ℕ → Met
+passed = passedUnder recordLimit

@@ -8,7 +8,7 @@ use lib.ListN.{length, take, drop}
 use Rattle.lists.specs.Pick.{pick}
 use Rattle.lists.specs.Words.{wordAt}
 use Rattle.tape.specs.Numbers.{blockBytes, dataBytes, headBytes, piecesOf, recordLimit, summedBytes}
-use Rattle.tape.specs.Layout.{checkOf, pieceKind, markKind, gapKind}
+use Rattle.tape.specs.Layout.{checkOf, gapKind, markKind, pieceKind}
 use Rattle.tape.specs.declared.BlockFault.{BlockFault}
 use Rattle.tape.specs.declared.BlockFault.the-variants as fault
 use Rattle.tape.specs.declared.Block.{Block}
@@ -17,10 +17,6 @@ use Rattle.tape.specs.declared.Block.the-variants as block
 -- "Kinds: 1 record piece, 2 tape mark, 3 erased gap."
 abbrev pub kindRight : ℕ → Bool
 kindRight k = leb pieceKind k && leb k gapKind
-
--- a record has 1 to recordLimit bytes; marks and gaps have 0 there
-abbrev pub lengthRight : ℕ → ℕ → Bool
-lengthRight k n = pick (eqb k pieceKind) (leb 1 n && leb n recordLimit) (eqb n 0)
 
 -- a record's indices run from 0; marks and gaps have 0 there
 abbrev pub indexRight : ℕ → ℕ → ℕ → Bool
@@ -50,21 +46,40 @@ kindOf k n i = pick (eqb k pieceKind) (block.Piece n i) (pick (eqb k markKind) b
 abbrev pub orDamaged : BlockFault → Bool → Block → Block
 orDamaged f right next = pick right next (block.Damaged f)
 
-unfoldable pub classBy : List ℕ → ℕ → ℕ → ℕ → Block
-classBy b k n i =
-    orDamaged fault.Kind (kindRight k)
-    (orDamaged fault.Length (lengthRight k n)
-    (orDamaged fault.Index (indexRight k n i)
-    (orDamaged fault.Padding (paddingRight b (usedOf k n i))
-    (orDamaged fault.Check (checkRight b) (kindOf k n i)))))
-
-unfoldable pub classOf : List ℕ → Block
-classOf b = classBy b (wordAt b 0) (wordAt b 2) (wordAt b 4)
-
 -- block k of the reel s
 abbrev pub blockAt : List ℕ → ℕ → List ℕ
 blockAt s k = take blockBytes (drop (blockBytes * k) s)
 
--- a block that the slice does not hold whole has no place there: every number is some answer
-unfoldable pub classAt : List ℕ → ℕ → Block
-classAt s k = pick (ltb k (length s / blockBytes)) (classOf (blockAt s k)) (block.Damaged fault.Index)
+-- under any record limit
+module _ (limit : ℕ) where
+  -- a record has 1 to `limit` bytes; marks and gaps have 0 there
+  abbrev pub lengthRightUnder : ℕ → ℕ → Bool
+  lengthRightUnder k n = pick (eqb k pieceKind) (leb 1 n && leb n limit) (eqb n 0)
+
+  unfoldable pub classByUnder : List ℕ → ℕ → ℕ → ℕ → Block
+  classByUnder b k n i =
+      orDamaged fault.Kind (kindRight k)
+      (orDamaged fault.Length (lengthRightUnder k n)
+      (orDamaged fault.Index (indexRight k n i)
+      (orDamaged fault.Padding (paddingRight b (usedOf k n i))
+      (orDamaged fault.Check (checkRight b) (kindOf k n i)))))
+
+  unfoldable pub classOfUnder : List ℕ → Block
+  classOfUnder b = classByUnder b (wordAt b 0) (wordAt b 2) (wordAt b 4)
+
+  -- a block that the slice does not hold whole has no place there: every number is some answer
+  unfoldable pub classAtUnder : List ℕ → ℕ → Block
+  classAtUnder s k = pick (ltb k (length s / blockBytes)) (classOfUnder (blockAt s k)) (block.Damaged fault.Index)
+
+-- and under this unit's own
+abbrev pub lengthRight : ℕ → ℕ → Bool
+lengthRight = lengthRightUnder recordLimit
+
+abbrev pub classBy : List ℕ → ℕ → ℕ → ℕ → Block
+classBy = classByUnder recordLimit
+
+abbrev pub classOf : List ℕ → Block
+classOf = classOfUnder recordLimit
+
+abbrev pub classAt : List ℕ → ℕ → Block
+classAt = classAtUnder recordLimit

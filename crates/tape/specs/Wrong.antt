@@ -16,7 +16,7 @@ pub data KindGood (b : List ℕ) : Type 0 where
   kind-mark : wordAt b 0 ≡ markKind → KindGood b
   kind-gap : wordAt b 0 ≡ gapKind → KindGood b
 
--- "Records: 1 to 16,384 bytes"; of marks and gaps "all else 0"
+-- "Records: 1 to [65,535] bytes"; of marks and gaps "all else 0"
 pub data LengthGood (b : List ℕ) : Type 0 where
   of-record : wordAt b 0 ≡ pieceKind → 1 ≤ wordAt b 2 → wordAt b 2 ≤ recordLimit → LengthGood b
   of-blank : (wordAt b 0 ≡ pieceKind → ⊥) → wordAt b 2 ≡ 0 → LengthGood b

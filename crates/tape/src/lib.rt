@@ -30,9 +30,11 @@ impl Geometry {
 
     pub const CHECK_MODULUS: usize = 65535;
 
-    pub const MARGIN: usize = 64;
+    // The blocks from the EOT marker to the reel's end: a gap and the longest record, 132 blocks, fit into them.
+    pub const MARGIN: usize = 160;
 
-    pub const RECORD_LIMIT: usize = 16384;
+    // The bytes of the longest record: what a block's length word can say.
+    pub const RECORD_LIMIT: usize = 65535;
 
     pub const CAPACITY_LIMIT: usize = 65536;
 

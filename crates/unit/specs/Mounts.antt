@@ -5,8 +5,8 @@ use Prim.Native.Nat.{ℕ, _/_, _%_}
 use lib.Dec.{eqb, ltb}
 use lib.ListN.{length}
 use Rattle.lists.specs.Pick.{pick}
-use Rattle.tape.specs.Numbers.{blockBytes}
-use Rattle.tape.specs.Sweep.{sweptBelow}
+use Rattle.tape.specs.Numbers.{blockBytes, recordLimit}
+use Rattle.tape.specs.Sweep.{sweptBelowUnder}
 use Rattle.tape.specs.declared.Swept.{Swept}
 use Rattle.tape.specs.declared.Swept.the-variants as swept
 use Rattle.state.specs.Changes.{mountedAs}
@@ -30,11 +30,17 @@ unfoldable pub mountSwept : Unit → Unit → Swept → Mounted
 mountSwept old new swept.Whole = mountedWith (answer.Done false) new
 mountSwept old new (swept.Bad why k) = mountedWith (answer.BadBlock why k) old
 
--- "Mount reads every block below the end it is given .. a refused mount hands [the old state] back."
-unfoldable pub mountCall : Unit → ℕ → List ℕ → ℕ → Bool → Bool → Mounted
-mountCall old memory s e online locked =
-    pick (eqb (mountRefusal memory (length s) e) 0)
-    (mountSwept old
-    (mountedAs e online locked (record { memory = memory; blocks = length s / blockBytes }))
-    (sweptBelow s e))
-    (mountedWith (answer.Refused (mountRefusal memory (length s) e)) old)
+-- under any record limit
+module _ (limit : ℕ) where
+  -- "Mount reads every block below the end it is given .. a refused mount hands [the old state] back."
+  unfoldable pub mountCallUnder : Unit → ℕ → List ℕ → ℕ → Bool → Bool → Mounted
+  mountCallUnder old memory s e online locked =
+      pick (eqb (mountRefusal memory (length s) e) 0)
+      (mountSwept old
+      (mountedAs e online locked (record { memory = memory; blocks = length s / blockBytes }))
+      (sweptBelowUnder limit s e))
+      (mountedWith (answer.Refused (mountRefusal memory (length s) e)) old)
+
+-- and under this unit's own
+abbrev pub mountCall : Unit → ℕ → List ℕ → ℕ → Bool → Bool → Mounted
+mountCall = mountCallUnder recordLimit

@@ -1,7 +1,7 @@
 -- `step_extent` meets its contract: the extent that was looked at is what the next step asks for.
 use borrow.Author.Needs.{needs}
 use Rattle.advance.proofs.Extents.{data-fit}
-use Rattle.advance.specs.Steps.{stepExtent}
+use Rattle.advance.specs.Steps.{stepExtentUnder}
 use Rattle.advance.proofs.steps.step_extent.Statement.{statement}
 use Rattle.advance.proofs.steps.step_extent.Tie as tie
 
@@ -21,7 +21,7 @@ reject-requires : tie.Need-reject-requires
 reject-requires c κs = search needs
 
 returns : tie.Need-returns
-unfolding stepExtent
+unfolding stepExtentUnder
 returns c = rw (← c .before .whole-count .ensures, ← c .reject .ensures, ← c .before .before .before .before .before .has-extent .ensures, c .before .before .if1 .taken)
 
 decode-requires : tie.Need-decode-requires
@@ -34,7 +34,7 @@ carry-out-requires c κs =
     (s .pre .0, rw (c .decode .ensures) (data-fit (s .args .h) (s .args .p) (s .args .mem .now) (t .has-extent .result) (t .has-extent .ensures) (c .before .if1 .left)))
 
 returns-2 : tie.Need-returns-2
-unfolding stepExtent
+unfolding stepExtentUnder
 returns-2 c = rw (← c .before .before .before .before .before .has-extent .ensures, c .before .before .if1 .left, ← c .before .decode .ensures) (c .carry-out .ensures)
 
 pub step-extent-spec : {M : Type 1} → statement M

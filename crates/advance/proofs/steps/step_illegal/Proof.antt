@@ -1,6 +1,6 @@
 -- `step_illegal` meets its contract: its test is the definition's, by what `decode` and `is_illegal` ensure.
 use borrow.Author.Needs.{needs}
-use Rattle.advance.specs.Steps.{stepIllegal}
+use Rattle.advance.specs.Steps.{stepIllegalUnder}
 use Rattle.advance.proofs.steps.step_illegal.Statement.{statement}
 use Rattle.advance.proofs.steps.step_illegal.Tie as tie
 
@@ -14,14 +14,14 @@ reject-requires : tie.Need-reject-requires
 reject-requires c κs = search needs
 
 returns : tie.Need-returns
-unfolding stepIllegal
+unfolding stepIllegalUnder
 returns c = rw (← c .reject .ensures, ← c .before .before .before .decode .ensures, ← c .before .before .is-illegal .ensures, c .before .if1 .taken)
 
 step-no-buffer-requires : tie.Need-step-no-buffer-requires
 step-no-buffer-requires c κs = search needs
 
 returns-2 : tie.Need-returns-2
-unfolding stepIllegal
+unfolding stepIllegalUnder
 returns-2 c = rw (← c .step-no-buffer .ensures, ← c .before .before .before .decode .ensures, ← c .before .before .is-illegal .ensures, c .before .if1 .left)
 
 pub step-illegal-spec : {M : Type 1} → statement M

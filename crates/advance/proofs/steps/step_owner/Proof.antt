@@ -2,13 +2,13 @@
 use borrow.Author.Needs.{needs}
 use mathlib.Core.Bool.{_||_}
 use borrow.Author.Tests.{not-true, not-false}
-use Rattle.commands.specs.Ends.{planBy, planOf}
-use Rattle.advance.specs.Steps.{stepOwner}
+use Rattle.commands.specs.Ends.{planByUnder, planOfUnder}
+use Rattle.advance.specs.Steps.{stepOwnerUnder}
 use Rattle.advance.proofs.steps.step_owner.Statement.{statement}
 use Rattle.advance.proofs.steps.step_owner.Tie as tie
 
 returns : tie.Need-returns
-unfolding stepOwner planOf planBy
+unfolding stepOwnerUnder planOfUnder planByUnder
 returns c =
     let a = c .before .before .before .before .before .before .args in
     rw (not-true (a .u .attention .«unit_owns» || a .h .ack) (c .if1 .taken))
@@ -17,7 +17,7 @@ step-attention-requires : tie.Need-step-attention-requires
 step-attention-requires c κs = search needs
 
 returns-2 : tie.Need-returns-2
-unfolding stepOwner
+unfolding stepOwnerUnder
 returns-2 c =
     let a = c .before .before .before .before .before .before .before .args in
     rw (← c .step-attention .ensures, not-false (a .u .attention .«unit_owns» || a .h .ack) (c .before .if1 .left))

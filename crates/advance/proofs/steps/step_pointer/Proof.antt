@@ -1,6 +1,6 @@
 -- `step_pointer` meets its contract: its test is the definition's.
 use borrow.Author.Needs.{needs}
-use Rattle.advance.specs.Steps.{stepPointer}
+use Rattle.advance.specs.Steps.{stepPointerUnder}
 use Rattle.advance.proofs.steps.step_pointer.Statement.{statement}
 use Rattle.advance.proofs.steps.step_pointer.Tie as tie
 
@@ -11,14 +11,14 @@ reject-requires : tie.Need-reject-requires
 reject-requires c κs = search needs
 
 returns : tie.Need-returns
-unfolding stepPointer
+unfolding stepPointerUnder
 returns c = rw (← c .before .whole-count .ensures, ← c .reject .ensures, c .before .before .if1 .taken)
 
 step-executable-requires : tie.Need-step-executable-requires
 step-executable-requires c κs = search needs
 
 returns-2 : tie.Need-returns-2
-unfolding stepPointer
+unfolding stepPointerUnder
 returns-2 c = rw (← c .step-executable .ensures, c .before .if1 .left)
 
 pub step-pointer-spec : {M : Type 1} → statement M

@@ -1,6 +1,6 @@
 -- `step_volume` meets its contract: the next step is given the unit of the definition.
 use borrow.Author.Needs.{needs}
-use Rattle.advance.specs.Steps.{stepVolume}
+use Rattle.advance.specs.Steps.{stepVolumeUnder}
 use Rattle.advance.proofs.steps.step_volume.Statement.{statement}
 use Rattle.advance.proofs.steps.step_volume.Tie as tie
 
@@ -8,7 +8,7 @@ step-illegal-requires : tie.Need-step-illegal-requires
 step-illegal-requires c κs = search needs
 
 returns : tie.Need-returns
-unfolding stepVolume
+unfolding stepVolumeUnder
 returns c = rw (c .step-illegal .ensures)
 
 pub step-volume-spec : {M : Type 1} → statement M

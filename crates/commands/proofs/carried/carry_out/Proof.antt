@@ -1,7 +1,7 @@
 -- `carry_out` meets its contract: three commands apart, and all else by its motion.
 use mathlib.Core.Path.{ap, _∙_}
 use Rattle.commands.specs.Ends.{motionPlan}
-use Rattle.commands.specs.Commands.{carriedOut}
+use Rattle.commands.specs.Commands.{carriedOutUnder}
 use Rattle.commands.proofs.Moving.{ends-as-moved}
 use borrow.Author.Needs.{needs}
 use Rattle.commands.proofs.carried.carry_out.Statement.{statement}
@@ -14,7 +14,7 @@ characterize-requires : tie.Need-characterize-requires
 characterize-requires c κs = c .before .before .before .before .pre .1 (c .enum-told .given .1)
 
 returns : tie.Need-returns
-unfolding carriedOut
+unfolding carriedOutUnder
 returns c = rw (c .before .enum-told .given .1) (c .characterize .ensures)
 
 enum-told-2 : tie.Need-enum-told-2
@@ -24,7 +24,7 @@ release-requires : tie.Need-release-requires
 release-requires c κs = search needs
 
 returns-2 : tie.Need-returns-2
-unfolding carriedOut
+unfolding carriedOutUnder
 returns-2 c = rw (c .before .enum-told2 .given .1) (c .release .ensures)
 
 enum-told-3 : tie.Need-enum-told-3
@@ -34,7 +34,7 @@ unload-requires : tie.Need-unload-requires
 unload-requires c κs = search needs
 
 returns-3 : tie.Need-returns-3
-unfolding carriedOut
+unfolding carriedOutUnder
 returns-3 c = rw (c .before .enum-told3 .given .1) (c .unload .ensures)
 
 move-tape-requires : tie.Need-move-tape-requires

@@ -1,7 +1,7 @@
 -- `take_characteristics` meets its contract: NBA is clear, and all are taken.
 use borrow.Author.Needs.{needs}
-use Rattle.commands.specs.Commands.{takenCharacteristics}
-use Rattle.commands.specs.Ends.{motionPlan}
+use Rattle.commands.specs.Commands.{takenCharacteristicsUnder}
+use Rattle.commands.specs.Ends.{motionPlanUnder}
 use Rattle.commands.proofs.carried.take_characteristics.Statement.{statement}
 use Rattle.commands.proofs.carried.take_characteristics.Tie as tie
 
@@ -15,7 +15,7 @@ told-course-requires : tie.Need-told-course-requires
 told-course-requires c κs = search needs
 
 returns : tie.Need-returns
-unfolding takenCharacteristics motionPlan
+unfolding takenCharacteristicsUnder motionPlanUnder
 returns c = rw (← c .before .before .plain-end .ensures, ← c .before .rest .ensures) (c .told-course .ensures)
 
 pub take-characteristics-spec : {M : Type 1} → statement M

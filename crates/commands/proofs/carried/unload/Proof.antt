@@ -1,7 +1,7 @@
 -- `unload` meets its contract: a plain end at block 0, off line.
 use borrow.Author.Needs.{needs}
-use Rattle.commands.specs.Commands.{unloaded}
-use Rattle.commands.specs.Ends.{motionPlan}
+use Rattle.commands.specs.Commands.{unloadedUnder}
+use Rattle.commands.specs.Ends.{motionPlanUnder}
 use Rattle.commands.proofs.carried.unload.Statement.{statement}
 use Rattle.commands.proofs.carried.unload.Tie as tie
 
@@ -15,7 +15,7 @@ told-course-requires : tie.Need-told-course-requires
 told-course-requires c κs = search needs
 
 returns : tie.Need-returns
-unfolding unloaded motionPlan
+unfolding unloadedUnder motionPlanUnder
 returns c = rw (← c .before .before .plain-end .ensures, ← c .before .rest .ensures) (c .told-course .ensures)
 
 pub unload-spec : {M : Type 1} → statement M

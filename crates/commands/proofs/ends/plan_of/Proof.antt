@@ -1,6 +1,6 @@
 -- `plan_of` meets its contract: an arm for an end that is told and one for an end that is not.
 use borrow.Author.Needs.{needs}
-use Rattle.commands.specs.Ends.{planBy, planOf}
+use Rattle.commands.specs.Ends.{planByUnder, planOfUnder}
 use Rattle.commands.proofs.ends.plan_of.Statement.{statement}
 use Rattle.commands.proofs.ends.plan_of.Tie as tie
 
@@ -17,11 +17,11 @@ untell-requires : tie.Need-untell-requires
 untell-requires c κs = search needs
 
 returns : tie.Need-returns
-unfolding planOf planBy
+unfolding planOfUnder planByUnder
 returns c = rw (c .before .before .how .given .1) (c .plan-motion .ensures)
 
 returns-2 : tie.Need-returns-2
-unfolding planOf planBy
+unfolding planOfUnder planByUnder
 returns-2 c = rw (c .before .before .how2 .given .1) (c .untell .ensures)
 
 pub plan-of-spec : {M : Type 1} → statement M

@@ -1,6 +1,6 @@
 -- `status_of` meets its contract: the tests are those of the definition.
 use borrow.Author.Needs.{needs}
-use Rattle.commands.specs.Ends.{statusOf}
+use Rattle.commands.specs.Ends.{statusOfUnder}
 use Rattle.commands.proofs.ends.status_of.Statement.{statement}
 use Rattle.commands.proofs.ends.status_of.Tie as tie
 
@@ -8,7 +8,7 @@ marker-requires : tie.Need-marker-requires
 marker-requires c κs = search needs
 
 returns : tie.Need-returns
-unfolding statusOf
+unfolding statusOfUnder
 returns c = rw (c .before .before .marker .ensures)
 
 pub status-of-spec : {M : Type 1} → statement M

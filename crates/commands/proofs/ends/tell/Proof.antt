@@ -1,6 +1,6 @@
 -- `tell` meets its contract: the unit is the ended one that the CPU owns, and the message is made of it.
 use borrow.Author.Needs.{needs}
-use Rattle.commands.specs.Ends.{ended, told, toldUnit}
+use Rattle.commands.specs.Ends.{ended, toldUnder, toldUnit}
 use Rattle.commands.proofs.ends.tell.Statement.{statement}
 use Rattle.commands.proofs.ends.tell.Tie as tie
 
@@ -17,7 +17,7 @@ message-of-requires : tie.Need-message-of-requires
 message-of-requires c κs = search needs
 
 returns : tie.Need-returns
-unfolding ended told toldUnit
+unfolding ended toldUnder toldUnit
 returns c = rw (c .before .message-of .ensures, c .before .before .status-of .ensures, c .before .before .before .before .ended-unit .ensures, c .before .before .before .before .before .laid-blocks .ensures .0)
 
 pub tell-spec : {M : Type 1} → statement M

@@ -1,6 +1,6 @@
 -- `read_then_space` meets its contract: a record goes on, and anything else is the end.
 use borrow.Author.Needs.{needs}
-use Rattle.motions.specs.Reads.{onRecord, readThenSpace}
+use Rattle.motions.specs.Reads.{onRecord, readThenSpaceUnder}
 use Rattle.motions.proofs.reads.read_then_space.Statement.{statement}
 use Rattle.motions.proofs.reads.read_then_space.Tie as tie
 
@@ -20,15 +20,15 @@ enum-known-fault : tie.Need-enum-known-fault
 enum-known-fault c = search needs
 
 returns : tie.Need-returns
-unfolding readThenSpace onRecord
+unfolding readThenSpaceUnder onRecord
 returns c = rw (← c .before .before .before .before .run-stage .ensures, c .before .before .n .given .1) (c .space-back .ensures)
 
 returns-2 : tie.Need-returns-2
-unfolding readThenSpace onRecord
+unfolding readThenSpaceUnder onRecord
 returns-2 c = rw (← c .before .before .before .run-stage .ensures, c .before .x .given .1)
 
 returns-3 : tie.Need-returns-3
-unfolding readThenSpace onRecord
+unfolding readThenSpaceUnder onRecord
 returns-3 c = rw (← c .before .before .before .run-stage .ensures, c .before .fault .given .1)
 
 pub read-then-space-spec : {M : Type 1} → statement M

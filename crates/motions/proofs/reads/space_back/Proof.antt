@@ -1,6 +1,6 @@
 -- `space_back` meets its contract: a record goes on, and anything else is the end.
 use borrow.Author.Needs.{needs}
-use Rattle.motions.specs.Reads.{onRecord, spaceBack}
+use Rattle.motions.specs.Reads.{onRecord, spaceBackUnder}
 use Rattle.motions.proofs.reads.space_back.Statement.{statement}
 use Rattle.motions.proofs.reads.space_back.Tie as tie
 
@@ -20,15 +20,15 @@ enum-known-fault : tie.Need-enum-known-fault
 enum-known-fault c = search needs
 
 returns : tie.Need-returns
-unfolding spaceBack onRecord
+unfolding spaceBackUnder onRecord
 returns c = rw (← c .before .before .before .before .run-stage .ensures, c .before .before .b .given .1) (c .read-motion .ensures)
 
 returns-2 : tie.Need-returns-2
-unfolding spaceBack onRecord
+unfolding spaceBackUnder onRecord
 returns-2 c = rw (← c .before .before .before .run-stage .ensures, c .before .x .given .1)
 
 returns-3 : tie.Need-returns-3
-unfolding spaceBack onRecord
+unfolding spaceBackUnder onRecord
 returns-3 c = rw (← c .before .before .before .run-stage .ensures, c .before .fault .given .1)
 
 pub space-back-spec : {M : Type 1} → statement M

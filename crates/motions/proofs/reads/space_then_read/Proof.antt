@@ -1,6 +1,6 @@
 -- `space_then_read` meets its contract: a record goes on, and anything else is the end.
 use borrow.Author.Needs.{needs}
-use Rattle.motions.specs.Reads.{onRecord, spaceThenRead}
+use Rattle.motions.specs.Reads.{onRecord, spaceThenReadUnder}
 use Rattle.motions.proofs.reads.space_then_read.Statement.{statement}
 use Rattle.motions.proofs.reads.space_then_read.Tie as tie
 
@@ -20,15 +20,15 @@ enum-known-fault : tie.Need-enum-known-fault
 enum-known-fault c = search needs
 
 returns : tie.Need-returns
-unfolding spaceThenRead onRecord
+unfolding spaceThenReadUnder onRecord
 returns c = rw (← c .before .before .before .before .run-stage .ensures, c .before .before .q .given .1) (c .read-one .ensures)
 
 returns-2 : tie.Need-returns-2
-unfolding spaceThenRead onRecord
+unfolding spaceThenReadUnder onRecord
 returns-2 c = rw (← c .before .before .before .run-stage .ensures, c .before .x .given .1)
 
 returns-3 : tie.Need-returns-3
-unfolding spaceThenRead onRecord
+unfolding spaceThenReadUnder onRecord
 returns-3 c = rw (← c .before .before .before .run-stage .ensures, c .before .fault .given .1)
 
 pub space-then-read-spec : {M : Type 1} → statement M

@@ -1,6 +1,6 @@
 -- `position` meets its contract.
 use borrow.Author.Needs.{needs}
-use Rattle.motions.specs.Spaces.{positioned}
+use Rattle.motions.specs.Spaces.{positionedUnder}
 use Rattle.motions.proofs.spaces.position.Statement.{statement}
 use Rattle.motions.proofs.spaces.position.Tie as tie
 
@@ -17,7 +17,7 @@ no-lay-requires : tie.Need-no-lay-requires
 no-lay-requires c κs = search needs
 
 returns : tie.Need-returns
-unfolding positioned
+unfolding positionedUnder
 returns c =
     rw (← c .before .before .before .before .none-left .ensures, c .before .before .before .if1 .taken, c .no-lay .ensures, c .before .no-move .ensures, c .before .before .residual-of .ensures)
 
@@ -28,7 +28,7 @@ space-motion-requires : tie.Need-space-motion-requires
 space-motion-requires c κs = search needs
 
 returns-2 : tie.Need-returns-2
-unfolding positioned
+unfolding positionedUnder
 returns-2 c =
     rw (← c .before .before .before .before .none-left .ensures, c .before .before .before .if1 .left, ← c .before .space .ensures) (c .space-motion .ensures)
 

@@ -1,6 +1,6 @@
 -- `retry` meets its contract: an arm for each thing found.
 use borrow.Author.Needs.{needs}
-use Rattle.motions.specs.Writes.{retried, retriedBy}
+use Rattle.motions.specs.Writes.{retriedUnder, retriedByUnder}
 use Rattle.motions.proofs.writes.retry.Statement.{statement}
 use Rattle.motions.proofs.writes.retry.Tie as tie
 
@@ -41,19 +41,19 @@ enum-known-fault : tie.Need-enum-known-fault
 enum-known-fault c = search needs
 
 returns : tie.Need-returns
-unfolding retried retriedBy
+unfolding retriedUnder retriedByUnder
 returns c = rw (← c .before .before .before .before .before .seek .ensures, c .before .before .before .q .given .1, ← c .before .behind-gap .ensures) (c .write-at .ensures)
 
 returns-2 : tie.Need-returns-2
-unfolding retried retriedBy
+unfolding retriedUnder retriedByUnder
 returns-2 c = rw (← c .before .before .before .before .before .seek .ensures, c .before .before .before .q2 .given .1, ← c .before .behind-gap2 .ensures) (c .write-at2 .ensures)
 
 returns-3 : tie.Need-returns-3
-unfolding retried retriedBy
+unfolding retriedUnder retriedByUnder
 returns-3 c = rw (← c .before .before .before .before .before .seek .ensures, c .before .before .before .q3 .given .1, c .no-lay .ensures, c .before .no-move .ensures)
 
 returns-4 : tie.Need-returns-4
-unfolding retried retriedBy
+unfolding retriedUnder retriedByUnder
 returns-4 c = rw (← c .before .before .before .seek .ensures, c .before .fault .given .1)
 
 pub retry-spec : {M : Type 1} → statement M

@@ -4,7 +4,7 @@ use native.Mathlib.Omega.{arith}
 use borrow.Author.Tests.{le-ltb, lt-ltb}
 use Prim.Native.Nat.{_+_}
 use Rattle.motions.specs.Parts.{laidBlocks}
-use Rattle.motions.specs.Writes.{writtenAt}
+use Rattle.motions.specs.Writes.{writtenAtUnder}
 use Rattle.motions.proofs.writes.write_at.Statement.{statement}
 use Rattle.motions.proofs.writes.write_at.Tie as tie
 
@@ -12,7 +12,7 @@ no-room-requires : tie.Need-no-room-requires
 no-room-requires c κs = search needs
 
 returns : tie.Need-returns
-unfolding writtenAt
+unfolding writtenAtUnder
 returns c =
     let a = c .before .before .before .args in
     rw (lt-ltb (a .blocks) (a .l .at + laidBlocks (a .l)) (omega arith)) (c .no-room .ensures)
@@ -24,7 +24,7 @@ no-room-requires-2 : tie.Need-no-room-requires-2
 no-room-requires-2 c κs = search needs
 
 returns-2 : tie.Need-returns-2
-unfolding writtenAt
+unfolding writtenAtUnder
 returns-2 c =
     let a = c .before .before .before .before .before .before .args in
     rw (lt-ltb (a .blocks) (a .l .at + laidBlocks (a .l)) (omega arith)) (c .no-room2 .ensures)
@@ -33,7 +33,7 @@ written-motion-requires : tie.Need-written-motion-requires
 written-motion-requires c κs = omega arith
 
 returns-3 : tie.Need-returns-3
-unfolding writtenAt
+unfolding writtenAtUnder
 returns-3 c =
     let a = c .before .before .before .before .before .before .args in
     rw (le-ltb (a .blocks) (a .l .at + laidBlocks (a .l)) (omega arith)) (c .written-motion .ensures)

@@ -9,7 +9,7 @@ use lib.Dec.{leb}
 use Rattle.lists.specs.Pick.{pick}
 use Rattle.tape.specs.Numbers.{eotMarker}
 use Rattle.motions.specs.Parts.{laidBlocks}
-use Rattle.motions.specs.Writes.{writtenMotion}
+use Rattle.motions.specs.Writes.{writtenMotionUnder}
 use Rattle.motions.proofs.writes.written_motion.Statement.{statement}
 use Rattle.motions.proofs.writes.written_motion.Tie as tie
 
@@ -29,7 +29,7 @@ no-move-requires : tie.Need-no-move-requires
 no-move-requires c κs = search needs
 
 returns : tie.Need-returns
-unfolding writtenMotion
+unfolding writtenMotionUnder
 returns c =
     let a = c .before .before .before .before .before .before .args in
     let i = c .before .before .if1 in

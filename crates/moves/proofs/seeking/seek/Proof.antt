@@ -2,7 +2,7 @@
 use borrow.Author.Needs.{needs}
 use mathlib.Core.Path.{_≡_, refl, _∙_}
 use Rattle.moves.proofs.Seeks.{seek-done, seek-turn}
-use Rattle.moves.specs.Seeking.{sought, soughtFrom, soughtOn}
+use Rattle.moves.specs.Seeking.{sought, soughtUnder, soughtFrom, soughtOn}
 use Rattle.moves.proofs.seeking.seek.Statement.{statement}
 use Rattle.moves.proofs.seeking.seek.Tie as tie
 
@@ -13,7 +13,7 @@ abbrev μ-loop : tie.MeasureT-loop
 μ-loop reel reverse p e at₀ turns₀ at turns = turns
 
 loop-holds : tie.Need-loop-holds Inv-loop μ-loop
-unfolding sought
+unfolding soughtUnder
 loop-holds c = refl
 
 sub-turns : tie.Need-sub-turns Inv-loop μ-loop

@@ -2,7 +2,7 @@
 use borrow.Author.Needs.{needs}
 use mathlib.Core.Path.{_≡_, refl, _∙_}
 use Rattle.moves.proofs.Spaces.{some-left, space-counted, space-done, space-turn}
-use Rattle.moves.specs.Spacing.{spaced, spacedFrom, spacedOn}
+use Rattle.moves.specs.Spacing.{spaced, spacedUnder, spacedFrom, spacedOn}
 use Rattle.moves.proofs.spacing.space.Statement.{statement}
 use Rattle.moves.proofs.spacing.space.Tie as tie
 
@@ -16,7 +16,7 @@ add-turns : tie.Need-add-turns Inv-loop μ-loop
 add-turns c = search needs
 
 loop-holds : tie.Need-loop-holds Inv-loop μ-loop
-unfolding spaced
+unfolding spacedUnder
 loop-holds c = refl
 
 sub-turns : tie.Need-sub-turns Inv-loop μ-loop

@@ -3,7 +3,7 @@ use borrow.Author.Needs.{needs}
 use native.Mathlib.Omega.{arith}
 use Rattle.reel.proofs.Meetings.{pass-met, pass-nothing}
 use Rattle.reel.proofs.Pieces.{piece-counts}
-use Rattle.tape.specs.Pass.{metBy}
+use Rattle.tape.specs.Pass.{metByUnder}
 use Rattle.reel.proofs.passing.pass.Statement.{statement}
 use Rattle.reel.proofs.passing.pass.Tie as tie
 
@@ -41,19 +41,19 @@ enum-known-b-2 : tie.Need-enum-known-b-2
 enum-known-b-2 c = search needs
 
 returns-2 : tie.Need-returns-2
-unfolding metBy
+unfolding metByUnder
 returns-2 c = pass-met _ _ _ _ (c .before .before .before .before .before .before .before .ahead-of .ensures) (c .before .before .before .before .before .before .if1 .left) (c .before .before .before .before .before .first-met .ensures) (c .before .before .before .before .read-block .ensures) (rw (c .before .before .b .given .1) (c .record-met .ensures))
 
 returns-3 : tie.Need-returns-3
-unfolding metBy
+unfolding metByUnder
 returns-3 c = pass-met _ _ _ _ (c .before .before .before .before .before .before .ahead-of .ensures) (c .before .before .before .before .before .if1 .left) (c .before .before .before .before .first-met .ensures) (c .before .before .before .read-block .ensures) (rw (c .before .enum-told .given .1, c .beyond-of .ensures))
 
 returns-4 : tie.Need-returns-4
-unfolding metBy
+unfolding metByUnder
 returns-4 c = pass-met _ _ _ _ (c .before .before .before .before .before .before .ahead-of .ensures) (c .before .before .before .before .before .if1 .left) (c .before .before .before .before .first-met .ensures) (c .before .before .before .read-block .ensures) (rw (c .before .enum-told2 .given .1, c .beyond-of2 .ensures))
 
 returns-5 : tie.Need-returns-5
-unfolding metBy
+unfolding metByUnder
 returns-5 c =
     let d = c .before in
     pass-met _ _ _ _ (d .before .before .before .before .before .ahead-of .ensures) (d .before .before .before .before .if1 .left) (d .before .before .before .first-met .ensures) (d .before .before .read-block .ensures) (rw (d .b2 .given .1, d .before .before .before .first-met .ensures))

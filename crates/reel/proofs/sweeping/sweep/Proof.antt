@@ -2,7 +2,7 @@
 use borrow.Author.Needs.{needs}
 use mathlib.Core.Path.{_≡_, refl, _∙_}
 use Rattle.reel.proofs.Sweeps.{sweep-done, sweep-turn}
-use Rattle.tape.specs.Sweep.{sweptBelow, sweptFrom, sweptOn}
+use Rattle.tape.specs.Sweep.{sweptBelow, sweptBelowUnder, sweptFrom, sweptOn}
 use Rattle.reel.proofs.sweeping.sweep.Statement.{statement}
 use Rattle.reel.proofs.sweeping.sweep.Tie as tie
 
@@ -13,7 +13,7 @@ abbrev μ-loop : tie.MeasureT-loop
 μ-loop reel e p₀ turns₀ p turns = turns
 
 loop-holds : tie.Need-loop-holds Inv-loop μ-loop
-unfolding sweptBelow
+unfolding sweptBelowUnder
 loop-holds c = refl
 
 sub-turns : tie.Need-sub-turns Inv-loop μ-loop
