@@ -6,16 +6,16 @@ use Prim.Native.Nat.{ℕ, _+_, _-_, _<_, _≤_}
 use native.Mathlib.Omega.{arith}
 use borrow.Author.Tests.{le-leb, lt-leb}
 use Rattle.tape.specs.Numbers.{margin, recordLimit}
-use Rattle.tape.specs.Objects.{Holds, HoldsUnder, Object}
+use Rattle.tape.specs.Objects.{Holds, Object}
 use Rattle.tape.proofs.Limits.{all-raised, holds-raised}
 use Rattle.state.specs.declared.Unit.{Unit}
 use Rattle.motions.specs.Parts.{laidBlocks}
 use Rattle.motions.specs.Writes.{writtenMotionUnder}
 use Rattle.motions.specs.declared.parts.Laid.{Laid}
 use Rattle.advance.specs.Steps.{advancedUnder}
-use Rattle.limits.specs.Alike.{Alike}
+use Rattle.limits.specs.Alike.{ReadsAlike}
 use Rattle.limits.specs.Before.{limitBefore, marginBefore}
-use Rattle.limits.specs.Raised.{EndsWith, Raised, Reads}
+use Rattle.limits.specs.Raised.{EndsWith, Raised, ReadsUnder}
 use Rattle.limits.proofs.Carrying.{advanced-same}
 use Rattle.limits.proofs.Mounting.{holds-or-longer, mount-refuses, mount-takes}
 use Rattle.limits.proofs.Reading.{margins-alike}
@@ -23,12 +23,12 @@ use Rattle.limits.proofs.Storing.{memory-alike, reel-alike, touched-ali
 
 module _ (limit limit′ eotMargin eotMargin′ : ℕ) (longer : limit ≤ limit′) (most : limit′ ≤ recordLimit) (more : eotMargin ≤ eotMargin′) where
   -- each does what this unit's limit does there, under its own margin
-  reads-alike : (u : Unit) (m s : List ℕ) {os : List Object} → HoldsUnder limit s (u .tape .end) os → u .tape .position ≤ u .tape .end → Reads u m s
-      → Alike (advancedUnder limit eotMargin u m s) (advancedUnder limit′ eotMargin′ u m s)
-  reads-alike u m s {os} h b w =
-      let k : Holds s (u .tape .end) os × (u .tape .position ≤ u .tape .end) = (holds-raised (omega arith) h, b) in
-      rw (advanced-same s m limit eotMargin (h .allowed) u k w, advanced-same s m limit′ eotMargin′ (all-raised longer (h .allowed)) u k w)
-      (margins-alike s m recordLimit eotMargin eotMargin′ more u w)
+  reads-alike : (u : Unit) (m s : List ℕ) {os : List Object} → ReadsUnder limit u m s os → ReadsAlike (advancedUnder limit eotMargin u m s) (advancedUnder limit′ eotMargin′ u m s)
+  reads-alike u m s {os} r =
+      let k : Holds s (u .tape .end) os × (u .tape .position ≤ u .tape .end) = (holds-raised (omega arith) (r .holds), r .within) in
+      let all = r .holds .allowed in
+      rw (advanced-same s m limit eotMargin all u k (r .unwriting), advanced-same s m limit′ eotMargin′ (all-raised longer all) u k (r .unwriting))
+      (margins-alike s m recordLimit eotMargin eotMargin′ more u (r .unwriting))
 
   -- what is written is the same, but for its class
   write-differs : (l : Laid) (blocks : ℕ) (mark : Bool) → eotMargin < eotMargin′ → eotMargin′ ≤ blocks → l .at + laidBlocks l ≡ blocks - eotMargin′
@@ -42,9 +42,9 @@ module _ (limit limit′ eotMargin eotMargin′ : ℕ) (longer : limit ≤ limit
       record {
         formed = λ h. holds-raised longer h;
         reads = reads-alike;
-        touches = λ u m s h b w. touched-alike (reads-alike u m s h b w);
-        reel = λ u m s h b w. reel-alike (reads-alike u m s h b w) m s;
-        memory = λ u m s h b w inside. memory-alike (reads-alike u m s h b w) m s inside;
+        touches = λ u m s r. touched-alike (reads-alike u m s r);
+        reel = λ u m s r. reel-alike (reads-alike u m s r) m s;
+        memory = λ u m s r inside. memory-alike (reads-alike u m s r) m s inside;
         writes = write-differs;
         mounts = λ old memory s e online locked h right.
             let k = holds-raised {limit′ = recordLimit} (omega arith) h in

@@ -14,7 +14,7 @@ use Rattle.commands.specs.declared.plans.Plan.{Plan}
 use Rattle.storing.specs.Stored.{laidOn, memoryAfter, messageOn, movedOn, reelAfter}
 use Rattle.storing.proofs.Lengths.{length-moved}
 use Rattle.unit.specs.Touching.{touchedBy}
-use Rattle.limits.specs.Alike.{Alike, ButEotAt, SameButEot, as-before, eot-now, words}
+use Rattle.limits.specs.Alike.{ButEotAt, ReadsAlike, SameButEot, as-before, eot-now, same-words}
 use Rattle.limits.specs.Raised.{SentInside, eotByte}
 
 pub same-memory : (a : ℕ) (m : List ℕ) → ButEotAt a m m
@@ -46,8 +46,8 @@ module _ (l : List ℕ) (k : ℕ) (back : List ℕ) (room : suc k + length back 
 -- the message's bytes
 words-alike : (l : List ℕ) (a : ℕ) {ws ws′ : List ℕ} → SameButEot ws ws′ → a + 14 ≤ length l → ButEotAt (a + 6) (messaged l a ws) (messaged l a ws′)
 unfolding messaged wordsBytes
-words-alike l a (words {xst0 = w} (as-before e)) room = rw e (same-memory (a + 6) _)
-words-alike l a (words {header = h} {ten = t} {residual = r} {xst0 = w} {xst0′ = w′} {xst1 = x} {xst2 = y} {xst3 = z} (eot-now even e)) room =
+words-alike l a (same-words {xst0 = w} (as-before e)) room = rw e (same-memory (a + 6) _)
+words-alike l a (same-words {header = h} {ten = t} {residual = r} {xst0 = w} {xst0′ = w′} {xst1 = x} {xst2 = y} {xst3 = z} (eot-now even e)) room =
     let k : ℕ = suc (suc (suc (suc (suc (suc a))))) in
     let at : a + 6 ≡ k = omega arith in
     let front : List ℕ = sets l a (h % 256 ∷ h / 256 ∷ t % 256 ∷ t / 256 ∷ r % 256 ∷ r / 256 ∷ []) in
@@ -63,15 +63,15 @@ words-alike l a (words {header = h} {ten = t} {residual = r} {xst0 = w} {xst0′
       there = rw (itself front k back fits (w % 256), itself front k back fits (w % 256 + 1)) (eot-now (omega arith) refl);
     })
 
-pub reel-alike : {q q′ : Plan} → Alike q q′ → (m s : List ℕ) → reelAfter q m s ≡ reelAfter q′ m s
+pub reel-alike : {q q′ : Plan} → ReadsAlike q q′ → (m s : List ℕ) → reelAfter q m s ≡ reelAfter q′ m s
 unfolding reelAfter
 reel-alike a m s = rw (a .laid)
 
-pub touched-alike : {q q′ : Plan} → Alike q q′ → touchedBy q ≡ touchedBy q′
+pub touched-alike : {q q′ : Plan} → ReadsAlike q q′ → touchedBy q ≡ touchedBy q′
 unfolding touchedBy
 touched-alike a = rw (a .laid, a .moved, a .state, a .sends)
 
-pub memory-alike : {q q′ : Plan} → Alike q q′ → (m s : List ℕ) → SentInside q′ m → ButEotAt (eotByte q′) (memoryAfter q m s) (memoryAfter q′ m s)
+pub memory-alike : {q q′ : Plan} → ReadsAlike q q′ → (m s : List ℕ) → SentInside q′ m → ButEotAt (eotByte q′) (memoryAfter q m s) (memoryAfter q′ m s)
 unfolding memoryAfter reelAfter messageOn
 memory-alike {q} {q′} a m s inside =
     let l : List ℕ = movedOn (laidOn s m (q′ .laid)) (q′ .moved) m in

@@ -18,7 +18,7 @@ use Rattle.commands.specs.declared.plans.Plan.{Plan}
 use Rattle.motions.specs.declared.parts.Ending.{Ending}
 use Rattle.motions.specs.declared.parts.Motion.{Motion}
 use Rattle.motions.specs.declared.parts.Motion.the-variants as motion
-use Rattle.limits.specs.Alike.{Alike, SoonerEot, as-before, eot-now, words}
+use Rattle.limits.specs.Alike.{ReadsAlike, SoonerEot, as-before, eot-now, same-words}
 
 pub even-flag : (b : Bool) (w : ℕ) → w % 2 ≡ 0 → flagOf b w % 2 ≡ 0
 even-flag true w h = h
@@ -68,20 +68,20 @@ eot-sooner found x true false h on = absurd (true≢false (sym (on refl)))
 eot-sooner found x false true h on = eot-set found (above-eot x) h (even-above x)
 
 -- what is not told has no message
-pub still-alike : (u : Unit) (a : Answer) → Alike (still u a) (still u a)
+pub still-alike : (u : Unit) (a : Answer) → ReadsAlike (still u a) (still u a)
 unfolding still
-still-alike u a = record { answer = refl; state = refl; moved = refl; laid = refl; sends = refl; message = words (as-before refl) }
+still-alike u a = record { answer = refl; state = refl; moved = refl; laid = refl; sends = refl; message = same-words (as-before refl) }
 
-pub untold-alike : (u : Unit) (class : ℕ) (interrupts : Bool) → Alike (untold u class interrupts) (untold u class interrupts)
+pub untold-alike : (u : Unit) (class : ℕ) (interrupts : Bool) → ReadsAlike (untold u class interrupts) (untold u class interrupts)
 unfolding untold
 untold-alike u class interrupts = still-alike _ _
 
-pub pick-alike : (t : Bool) {a a′ o o′ : Plan} → Alike a a′ → Alike o o′ → Alike (pick t a o) (pick t a′ o′)
+pub pick-alike : (t : Bool) {a a′ o o′ : Plan} → ReadsAlike a a′ → ReadsAlike o o′ → ReadsAlike (pick t a o) (pick t a′ o′)
 pick-alike true p q = p
 pick-alike false p q = q
 
 -- each case is told how the test went
-pub told-which : (t : Bool) {a a′ o o′ : Plan} → (t ≡ true → Alike a a′) → (t ≡ false → Alike o o′) → Alike (pick t a o) (pick t a′ o′)
+pub told-which : (t : Bool) {a a′ o o′ : Plan} → (t ≡ true → ReadsAlike a a′) → (t ≡ false → ReadsAlike o o′) → ReadsAlike (pick t a o) (pick t a′ o′)
 told-which true p q = p refl
 told-which false p q = q refl
 
@@ -90,7 +90,7 @@ module _ (eotMargin eotMargin′ : ℕ) (more : eotMargin ≤ eotMargin′) wher
   marker-sooner : (u : Unit) → leb (eotMarkerUnder eotMargin (u .lengths .blocks)) (u .tape .position) ≡ true → leb (eotMarkerUnder eotMargin′ (u .lengths .blocks)) (u .tape .position) ≡ true
   marker-sooner u h = le-leb (eotMarkerUnder eotMargin′ (u .lengths .blocks)) (u .tape .position) (omega (arith, leb-true (eotMarkerUnder eotMargin (u .lengths .blocks)) (u .tape .position) h))
 
-  pub told-alike : (u : Unit) (ie : Bool) (x : Ending) → Even (x .end) → Alike (toldUnder eotMargin u ie x) (toldUnder eotMargin′ u ie x)
+  pub told-alike : (u : Unit) (ie : Bool) (x : Ending) → Even (x .end) → ReadsAlike (toldUnder eotMargin u ie x) (toldUnder eotMargin′ u ie x)
   unfolding toldUnder messageOf statusOfUnder
   told-alike u ie x h =
       record {
@@ -99,10 +99,10 @@ module _ (eotMargin eotMargin′ : ℕ) (more : eotMargin ≤ eotMargin′) wher
         moved = refl;
         laid = refl;
         sends = refl;
-        message = words (eot-sooner (x .end .found) (statusOfUnder eotMargin (toldUnit u x) ie (motionSeen (u .tape .position) x)) _ _ h (marker-sooner (toldUnit u x)));
+        message = same-words (eot-sooner (x .end .found) (statusOfUnder eotMargin (toldUnit u x) ie (motionSeen (u .tape .position) x)) _ _ h (marker-sooner (toldUnit u x)));
       }
 
-  pub motion-alike : (u : Unit) (ie : Bool) (y : Motion) → EvenMotion y → Alike (motionPlanUnder eotMargin u ie y) (motionPlanUnder eotMargin′ u ie y)
+  pub motion-alike : (u : Unit) (ie : Bool) (y : Motion) → EvenMotion y → ReadsAlike (motionPlanUnder eotMargin u ie y) (motionPlanUnder eotMargin′ u ie y)
   unfolding motionPlanUnder
   motion-alike u ie (motion.Ended x) h = told-alike u ie x h
   motion-alike u ie (motion.Fault why k) h = still-alike u _

@@ -14,7 +14,7 @@ pub data SoonerEot (w w′ : ℕ) : Type 0 where
 
 -- "Message: header, 10, residual, XST0, XST1 0, XST2 0, XST3": the same words, but for EOT in XST0
 pub data SameButEot : List ℕ → List ℕ → Type 0 where
-  words : {header ten residual xst0 xst0′ xst1 xst2 xst3 : ℕ} → SoonerEot xst0 xst0′
+  same-words : {header ten residual xst0 xst0′ xst1 xst2 xst3 : ℕ} → SoonerEot xst0 xst0′
       → SameButEot (header ∷ ten ∷ residual ∷ xst0 ∷ xst1 ∷ xst2 ∷ xst3 ∷ []) (header ∷ ten ∷ residual ∷ xst0′ ∷ xst1 ∷ xst2 ∷ xst3 ∷ [])
 
 -- memories m and m′ that are the same but for EOT in the byte at a
@@ -24,7 +24,7 @@ pub record ButEotAt (a : ℕ) (m m′ : List ℕ) : Type 0 where
   pub there : SoonerEot (getD m a 0) (getD m′ a 0)
 
 -- two advances: the same answer, state (its class and its position among it), data moved and blocks laid; a message goes out of both or of none
-pub record Alike (q q′ : Plan) : Type 0 where
+pub record ReadsAlike (q q′ : Plan) : Type 0 where
   pub answer : q .answer ≡ q′ .answer
   pub state : q .unit ≡ q′ .unit
   pub moved : q .moved ≡ q′ .moved

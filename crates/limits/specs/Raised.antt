@@ -28,11 +28,13 @@ use Rattle.advance.specs.Steps.{advancedUnder}
 use Rattle.demands.specs.Ways.{Waits, header}
 use Rattle.unit.specs.Mounts.{mountCallUnder, mountRefusal, mountedWith}
 use Rattle.unit.specs.Touching.{touchedBy}
-use Rattle.limits.specs.Alike.{Alike, ButEotAt}
+use Rattle.limits.specs.Alike.{ButEotAt, ReadsAlike}
 
--- no Write or Format waits: the advance reads, or moves nothing on the reel
-abbrev pub Reads : Unit → List ℕ → List ℕ → Type 0
-Reads u m s = Waits u m s → writes (header u m s) ≡ false
+-- an advance that reads, of a reel that keeps to the limit: no Write or Format waits, and the tape stands no further than the recorded end
+pub record ReadsUnder (limit : ℕ) (u : Unit) (m s : List ℕ) (os : List Object) : Type 0 where
+  pub holds : HoldsUnder limit s (u .tape .end) os
+  pub within : u .tape .position ≤ u .tape .end
+  pub unwriting : Waits u m s → writes (header u m s) ≡ false
 
 -- a message that goes out lies inside memory m, as it does in every state that refusal 1 lets pass (`advanced-storable`)
 abbrev pub SentInside : Plan → List ℕ → Type 0
@@ -68,12 +70,11 @@ module _ (limit limit′ eotMargin eotMargin′ : ℕ) where
     -- a reel that is well formed under the one is under the other, with the same objects
     pub formed : {s : List ℕ} {e : ℕ} {os : List Object} → HoldsUnder limit s e os → HoldsUnder limit′ s e os
     -- every advance that reads comes to the same there, wherever the tape stands, but for EOT in its message
-    pub reads : (u : Unit) (m s : List ℕ) {os : List Object} → HoldsUnder limit s (u .tape .end) os → u .tape .position ≤ u .tape .end → Reads u m s → Alike (one u m s) (other u m s)
+    pub reads : (u : Unit) (m s : List ℕ) {os : List Object} → ReadsUnder limit u m s os → ReadsAlike (one u m s) (other u m s)
     -- so it touches the same places, and takes an entry of the same length; it leaves the same reel, and the same memory but for that bit
-    pub touches : (u : Unit) (m s : List ℕ) {os : List Object} → HoldsUnder limit s (u .tape .end) os → u .tape .position ≤ u .tape .end → Reads u m s → touchedBy (one u m s) ≡ touchedBy (other u m s)
-    pub reel : (u : Unit) (m s : List ℕ) {os : List Object} → HoldsUnder limit s (u .tape .end) os → u .tape .position ≤ u .tape .end → Reads u m s → reelAfter (one u m s) m s ≡ reelAfter (other u m s) m s
-    pub memory : (u : Unit) (m s : List ℕ) {os : List Object} → HoldsUnder limit s (u .tape .end) os → u .tape .position ≤ u .tape .end → Reads u m s → SentInside (other u m s) m
-        → ButEotAt (eotByte (other u m s)) (memoryAfter (one u m s) m s) (memoryAfter (other u m s) m s)
+    pub touches : (u : Unit) (m s : List ℕ) {os : List Object} → ReadsUnder limit u m s os → touchedBy (one u m s) ≡ touchedBy (other u m s)
+    pub reel : (u : Unit) (m s : List ℕ) {os : List Object} → ReadsUnder limit u m s os → reelAfter (one u m s) m s ≡ reelAfter (other u m s) m s
+    pub memory : (u : Unit) (m s : List ℕ) {os : List Object} → ReadsUnder limit u m s os → SentInside (other u m s) m → ButEotAt (eotByte (other u m s)) (memoryAfter (one u m s) m s) (memoryAfter (other u m s) m s)
     -- a write may differ: one that ends at the marker of the larger margin, and so before the other, has class 2 where it had class 0
     pub writes : (l : Laid) (blocks : ℕ) (mark : Bool) → eotMargin < eotMargin′ → eotMargin′ ≤ blocks → l .at + laidBlocks l ≡ blocks - eotMargin′
         → EndsWith 0 (writtenMotionUnder eotMargin l blocks mark) × EndsWith 2 (writtenMotionUnder eotMargin′ l blocks mark)
