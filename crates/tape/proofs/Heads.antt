@@ -1,18 +1,20 @@
--- An object's first block tells its kind and its length, and these tell how many blocks it has.
-use mathlib.Core.Path.{_≡_, refl, _∙_}
-use mathlib.Core.List.{List, [], _++_}
-use Prim.Native.Nat.{ℕ, _*_}
+-- An object's first block tells its kind and its length, also where it stands on a reel, and these tell how many blocks it has.
+use mathlib.Core.Path.{_≡_, refl, sym, ap, _∙_}
+use mathlib.Core.List.{List, [], _∷_, _++_, append-assoc}
+use Prim.Native.Nat.{ℕ, suc, _+_, _*_, _<_}
+use native.Mathlib.Nat.{add-zero}
 use native.Mathlib.Omega.{arith}
 use lib.Dec.{eqb}
 use lib.ListN.{length, take, drop}
-use lib.Seq.{take-all, take-append-le}
+use lib.Seq.{drop-at, getD-drop, getD-take, take-all, take-append-le}
 use Rattle.lists.specs.Pick.{pick}
 use Rattle.lists.specs.Words.{wordAt}
 use Rattle.tape.specs.Layout.{blockOf, gapKind, markKind, pieceKind}
 use Rattle.tape.specs.Numbers.{blockBytes, dataBytes, piecesOf}
-use Rattle.tape.specs.Objects.{Allowed, Object, blocksIn, gap, imageOf, mark, pieceOf, record-of}
+use Rattle.tape.specs.Objects.{Allowed, Holds, Object, blocksIn, blocksOf, gap, imageOf, imagesOf, mark, pieceOf, record-of}
 use Rattle.tape.proofs.Blocks.{block-kind, block-length}
-use Rattle.tape.proofs.Images.{length-image, one-or-more, piece-in-image}
+use Rattle.tape.proofs.Images.{length-image, length-images, one-or-more, piece-in-image}
+use Rattle.tape.proofs.Standing.{holds-split}
 
 abbrev pub kindIn : Object → ℕ
 kindIn (record-of d) = pieceKind
@@ -51,3 +53,30 @@ unfolding blocksIn
 blocks-by-head (record-of d) = refl
 blocks-by-head mark = refl
 blocks-by-head gap = refl
+
+-- a word of a part
+word-in : (s : List ℕ) (n p i : ℕ) → i + 1 < n → wordAt (take n (drop p s)) i ≡ wordAt s (p + i)
+word-in s n p i h =
+    let e : p + (i + 1) ≡ p + i + 1 = omega arith in
+    rw (getD-take n (drop p s) i 0 (omega arith), getD-take n (drop p s) (i + 1) 0 h, getD-drop p s i 0, getD-drop p s (i + 1) 0, e)
+
+-- the words of an object of a well formed reel, at its first block
+module _ {s : List ℕ} {e : ℕ} (before : List Object) (o : Object) (after : List Object) (h : Holds s e (before ++ o ∷ after)) (a : Allowed o) where
+  abbrev behind : List ℕ
+  behind = imagesOf after ++ drop (blockBytes * e) s
+
+  head-in : take blockBytes (drop (blockBytes * blocksOf before) s) ≡ take blockBytes (imageOf o ++ behind)
+  unfolding imagesOf
+  head-in =
+      ap (λ (l : List ℕ). take blockBytes (drop (blockBytes * blocksOf before) l)) (holds-split before (o ∷ after) h)
+      ∙ ap (take blockBytes) (drop-at (imagesOf before) (imagesOf (o ∷ after) ++ drop (blockBytes * e) s) (blockBytes * blocksOf before) (length-images before) ∙ append-assoc (imageOf o) (imagesOf after) (drop (blockBytes * e) s))
+
+  pub kind-stands : wordAt s (blockBytes * blocksOf before) ≡ kindIn o
+  kind-stands =
+      ap (wordAt s) (sym (add-zero (blockBytes * blocksOf before)))
+      ∙ sym (word-in s blockBytes (blockBytes * blocksOf before) 0 (omega arith))
+      ∙ ap (λ (b : List ℕ). wordAt b 0) head-in
+      ∙ image-kind o behind a
+
+  pub length-stands : wordAt s (blockBytes * blocksOf before + 2) ≡ lengthIn o
+  length-stands = sym (word-in s blockBytes (blockBytes * blocksOf before) 2 (omega arith)) ∙ ap (λ (b : List ℕ). wordAt b 2) head-in ∙ image-length o behind a

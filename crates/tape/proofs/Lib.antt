@@ -14,6 +14,7 @@ pub mod Written
 pub mod Heads
 pub mod OneList
 pub mod Passes
+pub mod Fronts
 pub mod Below
 pub mod Parts
 pub mod Gathering
@@ -23,3 +24,4 @@ pub mod Within
 pub mod Seen
 pub mod Limits
 pub mod Sweeps
+pub mod Afresh

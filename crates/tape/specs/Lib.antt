@@ -8,5 +8,6 @@ pub mod Letters
 pub mod Pass
 pub mod Sweep
 pub mod Bytes
+pub mod Afresh
 pub mod Listing
 pub mod Meeting
