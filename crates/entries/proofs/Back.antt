@@ -1,13 +1,16 @@
 -- An entry comes back from its numbers, whole: every field of the state has its place among them, so none can be forgotten.
 use mathlib.Core.Path.{_≡_, refl}
 use mathlib.Core.Bool.{Bool, true, false, not}
+use mathlib.Core.List.{List}
 use Prim.Native.Nat.{ℕ, _%_, _<_}
 use native.Mathlib.Omega.{arith}
 use lib.Dec.{eqb}
 use lib.ListN.{length}
+use Rattle.lists.specs.Fours.{numberLimit}
+use Rattle.touched.specs.Touches.{placeBelow}
 use Rattle.entries.specs.declared.Entry.{Entry}
 use Rattle.entries.specs.Bytes.{headCount}
-use Rattle.entries.specs.Numbers.{Small, bitOf, entryOf, numberLimit, numbersOf, touchedOf, unitOf}
+use Rattle.entries.specs.Numbers.{Small, bitOf, entryOf, numbersOf, touchedOf, unitOf}
 
 pub length-numbers : (e : Entry) → length (numbersOf e) ≡ headCount
 unfolding numbersOf
@@ -21,14 +24,16 @@ told : (b : Bool) → not (eqb (bitOf b) 0) ≡ b
 told true = refl
 told false = refl
 
-pub entry-back : (e : Entry) → Small e → entryOf (numbersOf e) ≡ e
+-- the places filled are not among the numbers: they end at the table's used part after the step, which is `top`
+pub entry-back : (e : Entry) (top : ℕ) → Small e → e .touched .«place_at» ≡ placeBelow top (e .touched .places) → entryOf (numbersOf e) top ≡ e
 unfolding numbersOf entryOf unitOf touchedOf
-entry-back e h =
+entry-back e top h at =
     let r = e .unit .registers in
     let p = e .unit .panel in
     let a = e .unit .attention in
     let k = e .unit .characteristics in
     rw (
+      ← at,
       low _ (h .position),
       low _ (h .end),
       low _ (h .pointer),
@@ -56,3 +61,7 @@ entry-back e h =
       low _ (h .reel-at),
       low _ (h .reel-blocks),
     )
+
+pub entry-places : (n : List ℕ) (top : ℕ) → entryOf n top .touched .«place_at» ≡ placeBelow top (entryOf n top .touched .places)
+unfolding entryOf touchedOf
+entry-places n top = refl

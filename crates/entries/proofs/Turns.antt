@@ -2,13 +2,14 @@
 use mathlib.Core.Path.{_≡_, refl}
 use mathlib.Core.List.{List, [], _∷_}
 use Prim.Native.Nat.{ℕ, zero, suc, _+_, _*_, _<_, _≤_}
-use native.Mathlib.Nat.{add-zero}
 use native.Mathlib.Numerals.{add-one}
 use native.Mathlib.Omega.{arith}
 use lib.ListN.{length, drop, getD, set, drop-of-length-le}
-use lib.Seq.{sets, drop-cons, drop-drop, getD-drop}
+use lib.Seq.{sets, drop-cons, drop-drop}
+use Rattle.lists.specs.Fours.{numberAt, numberBytes}
+use Rattle.lists.proofs.Fours.{number-first}
 use Rattle.lists.proofs.Stores.{sets-at}
-use Rattle.entries.specs.Bytes.{numbersBytes, headNumbers, numberAt, numberBytes}
+use Rattle.entries.specs.Bytes.{numbersBytes, headNumbers}
 
 pub put-turn : (b n : List ℕ) (at i : ℕ) → i < length n → sets (sets b (at + 4 * i) (numberBytes (getD n i 0))) (at + 4 * (i + 1)) (numbersBytes (drop (i + 1) n)) ≡ sets b (at + 4 * i) (numbersBytes (drop i n))
 unfolding numbersBytes
@@ -18,12 +19,6 @@ put-turn b n at i h = rw (add-one i, drop-cons n i 0 h) (sets-at (numberBytes (g
 pub put-end : (b n : List ℕ) (at i : ℕ) → length n ≤ i → sets b at (numbersBytes (drop i n)) ≡ b
 unfolding numbersBytes
 put-end b n at i h = rw (drop-of-length-le n h)
-
--- the number at p is the first of what stands from p on
-number-first : (b : List ℕ) (p : ℕ) → numberAt (drop p b) 0 ≡ numberAt b p
-number-first b p =
-    let e : p + 2 + 1 ≡ p + 3 = omega arith in
-    rw (getD-drop p b 0 0, getD-drop p b 1 0, getD-drop p b 2 0, getD-drop p b 3 0, add-zero p, e)
 
 pub read-turn : (n b : List ℕ) (p i k : ℕ) → sets (set n i (numberAt b p)) (i + 1) (headNumbers k (drop (p + 4) b)) ≡ sets n i (headNumbers (suc k) (drop p b))
 unfolding headNumbers

@@ -5,15 +5,20 @@ use Prim.Native.Nat.{ℕ, zero, suc, _+_, _-_, _*_, _≤_, _<_}
 use native.Mathlib.Omega.{arith}
 use lib.ListN.{length, take, drop, getD, length-append, length-drop}
 use lib.Seq.{drop-at, getD-drop, getD-take, length-take-le, sets, sets-eq, take-at, take-take}
+use Rattle.lists.specs.Fours.{numberAt, numberBytes}
+use Rattle.lists.proofs.Fours.{number-back}
 use Rattle.tape.proofs.Runs.{part-of-front}
-use Rattle.touched.specs.Touches.{Restored, savedBytes, savedLength}
+use Rattle.index.specs.Table.{placeLength}
+use Rattle.touched.specs.Touches.{PlacesIn, Restored, placeBelow, savedBytes, savedLength}
 use Rattle.touched.specs.declared.Touched.{Touched}
+use Rattle.touched.proofs.Fits.{places-below, places-inside}
 use Rattle.touched.proofs.Parts.{length-saved}
 use Rattle.entries.specs.declared.Entry.{Entry}
 use Rattle.entries.specs.Numbers.{Small, entryOf, numbersOf}
-use Rattle.entries.specs.Bytes.{frontLength, numbersBytes, headCount, headLength, headNumbers, numberAt, numberBytes}
+use Rattle.entries.specs.Bytes.{frontLength, numbersBytes, headCount, headLength, headNumbers}
 use Rattle.entries.specs.Entries.{entryBytes, entryLength, newestEntry, oldestLength, savedIn, usedIn}
-use Rattle.entries.proofs.HeadBytes.{head-entry, number-back}
+use Rattle.entries.proofs.Back.{entry-places}
+use Rattle.entries.proofs.HeadBytes.{head-entry}
 use Rattle.entries.proofs.Joined.{entry-whole, head-long, length-entry}
 
 -- how long it is; none of it; all of it
@@ -51,10 +56,21 @@ head-within a used j h =
     (λ i k. getD-drop a j i 0 ∙ sym (getD-drop a (take used j) i 0 ∙ getD-take used j (a + i) 0 (omega arith)))
 
 -- what `newest_entry` reads
-pub newest-read : (j n : List ℕ) (used : ℕ) (r : Entry) → headLength ≤ used → used ≤ length j → n ≡ headNumbers headCount (drop (used - headLength) j) → r ≡ entryOf n → r ≡ newestEntry (usedIn used j)
+pub newest-read : (j n : List ℕ) (used top : ℕ) (r : Entry) → headLength ≤ used → used ≤ length j → n ≡ headNumbers headCount (drop (used - headLength) j) → r ≡ entryOf n top → r ≡ newestEntry top (usedIn used j)
 unfolding newestEntry usedIn
-newest-read j n used r h k p q =
-    rw (length-take-le used j k) (q ∙ ap entryOf (p ∙ head-within (used - headLength) used j (omega arith)))
+newest-read j n used top r h k p q =
+    rw (length-take-le used j k) (q ∙ ap (λ (l : List ℕ). entryOf l top) (p ∙ head-within (used - headLength) used j (omega arith)))
+
+-- the places that it filled end at `top`, and so lie inside a table of so many places, if there are no more of them
+pub newest-places : (top : ℕ) (j : List ℕ) → newestEntry top j .touched .«place_at» ≡ placeBelow top (newestEntry top j .touched .places)
+unfolding newestEntry
+newest-places top j = entry-places (headNumbers headCount (drop (length j - headLength) j)) top
+
+pub newest-below : (top : ℕ) (j : List ℕ) → newestEntry top j .touched .places ≤ top → newestEntry top j .touched .«place_at» + newestEntry top j .touched .places ≤ top
+newest-below top j h = rw (newest-places top j) (places-below top (newestEntry top j .touched .places) h)
+
+pub newest-inside : (top table : ℕ) (j : List ℕ) → newestEntry top j .touched .places ≤ top → placeLength * top ≤ table → PlacesIn (newestEntry top j .touched) table
+newest-inside top table j h k = places-inside (newestEntry top j .touched) top table (newest-places top j) h k
 
 -- what `bring_entry_back` reads
 pub saved-read : (e : Entry) (j : List ℕ) (used s : ℕ) → used ≤ length j → entryLength e ≤ used → s ≡ savedLength (e .touched) → take (used - headLength - (used - headLength - s)) (drop (used - headLength - s) j) ≡ savedIn e (usedIn used j)
@@ -73,46 +89,46 @@ saved-lent e j used s h k d =
     let n : used - headLength - (used - headLength - s) ≡ s = omega arith in
     rw n (length-take-le s (drop (used - headLength - s) j) (rw length-drop (omega arith)) ∙ d)
 
-pub brought-as : (t : Touched) (x y m r m′ r′ : List ℕ) → x ≡ y → Restored t x m r m′ r′ → Restored t y m r m′ r′
-brought-as t x y m r m′ r′ e h = subst (λ (z : List ℕ). Restored t z m r m′ r′) e h
+pub brought-as : (t : Touched) (x y m r tb m′ r′ tb′ : List ℕ) → x ≡ y → Restored t x m r tb m′ r′ tb′ → Restored t y m r tb m′ r′ tb′
+brought-as t x y m r tb m′ r′ tb′ e h = subst (λ (z : List ℕ). Restored t z m r tb m′ r′ tb′) e h
 
 -- an entry e at the end of the used journal: its head is read as e, its saved bytes are found, and without it the rest is left
-module _ (e : Entry) (m r j : List ℕ) where
+module _ (e : Entry) (m r tb j : List ℕ) where
   abbrev front : List ℕ
-  front = j ++ (numberBytes (entryLength e) ++ savedBytes (e .touched) m r)
+  front = j ++ (numberBytes (entryLength e) ++ savedBytes (e .touched) m r tb)
 
-  head-last : j ++ entryBytes e m r ≡ front ++ numbersBytes (numbersOf e)
+  head-last : j ++ entryBytes e m r tb ≡ front ++ numbersBytes (numbersOf e)
   unfolding entryBytes
   head-last = simp append-assoc
 
-  pub newest-is : Small e → newestEntry (j ++ entryBytes e m r) ≡ e
+  pub newest-is : (top : ℕ) → Small e → e .touched .«place_at» ≡ placeBelow top (e .touched .places) → newestEntry top (j ++ entryBytes e m r tb) ≡ e
   unfolding newestEntry
-  newest-is h =
+  newest-is top h p =
       let whole : length (front ++ numbersBytes (numbersOf e)) ≡ length front + headLength = length-append front (numbersBytes (numbersOf e)) ∙ ap (λ (k : ℕ). length front + k) (head-long e) in
       let at : length front ≡ length (front ++ numbersBytes (numbersOf e)) - headLength = omega (arith, whole) in
-      rw (head-last, drop-at front (numbersBytes (numbersOf e)) (length (front ++ numbersBytes (numbersOf e)) - headLength) at) (head-entry e h)
+      rw (head-last, drop-at front (numbersBytes (numbersOf e)) (length (front ++ numbersBytes (numbersOf e)) - headLength) at) (head-entry e top h p)
 
-  saved-middle : j ++ entryBytes e m r ≡ (j ++ numberBytes (entryLength e)) ++ (savedBytes (e .touched) m r ++ numbersBytes (numbersOf e))
+  saved-middle : j ++ entryBytes e m r tb ≡ (j ++ numberBytes (entryLength e)) ++ (savedBytes (e .touched) m r tb ++ numbersBytes (numbersOf e))
   unfolding entryBytes
   saved-middle = simp append-assoc
 
-  pub saved-is : savedIn e (j ++ entryBytes e m r) ≡ savedBytes (e .touched) m r
+  pub saved-is : savedIn e (j ++ entryBytes e m r tb) ≡ savedBytes (e .touched) m r tb
   unfolding savedIn
   saved-is =
-      let whole : length (j ++ entryBytes e m r) ≡ length j + entryLength e = length-append j (entryBytes e m r) ∙ ap (λ (k : ℕ). length j + k) (length-entry e m r) in
+      let whole : length (j ++ entryBytes e m r tb) ≡ length j + entryLength e = length-append j (entryBytes e m r tb) ∙ ap (λ (k : ℕ). length j + k) (length-entry e m r tb) in
       let before : length (j ++ numberBytes (entryLength e)) ≡ length j + frontLength = length-append j (numberBytes (entryLength e)) in
-      let at : length (j ++ entryBytes e m r) - entryLength e + frontLength ≡ length j + frontLength = omega (arith, whole) in
-      rw (at, saved-middle, drop-at (j ++ numberBytes (entryLength e)) (savedBytes (e .touched) m r ++ numbersBytes (numbersOf e)) (length j + frontLength) before)
-      (take-at (savedBytes (e .touched) m r) (numbersBytes (numbersOf e)) (savedLength (e .touched)) (length-saved (e .touched) m r))
+      let at : length (j ++ entryBytes e m r tb) - entryLength e + frontLength ≡ length j + frontLength = omega (arith, whole) in
+      rw (at, saved-middle, drop-at (j ++ numberBytes (entryLength e)) (savedBytes (e .touched) m r tb ++ numbersBytes (numbersOf e)) (length j + frontLength) before)
+      (take-at (savedBytes (e .touched) m r tb) (numbersBytes (numbersOf e)) (savedLength (e .touched)) (length-saved (e .touched) m r tb))
 
-  pub used-without : (used : ℕ) → length j ≡ used → usedIn used (j ++ entryBytes e m r) ≡ j
+  pub used-without : (used : ℕ) → length j ≡ used → usedIn used (j ++ entryBytes e m r tb) ≡ j
   unfolding usedIn
-  used-without used h = take-at j (entryBytes e m r) used h
+  used-without used h = take-at j (entryBytes e m r tb) used h
 
   -- read from the other end: the first entry of a journal says how long it is, and behind it lies the rest
-  pub oldest-is : oldestLength (entryBytes e m r ++ j) ≡ entryLength e
+  pub oldest-is : oldestLength (entryBytes e m r tb ++ j) ≡ entryLength e
   unfolding oldestLength entryBytes
-  oldest-is = number-back (entryLength e) ((savedBytes (e .touched) m r ++ numbersBytes (numbersOf e)) ++ j)
+  oldest-is = number-back (entryLength e) ((savedBytes (e .touched) m r tb ++ numbersBytes (numbersOf e)) ++ j)
 
-  pub oldest-gone : drop (oldestLength (entryBytes e m r ++ j)) (entryBytes e m r ++ j) ≡ j
-  oldest-gone = rw oldest-is (drop-at (entryBytes e m r) j (entryLength e) (length-entry e m r))
+  pub oldest-gone : drop (oldestLength (entryBytes e m r tb ++ j)) (entryBytes e m r tb ++ j) ≡ j
+  oldest-gone = rw oldest-is (drop-at (entryBytes e m r tb) j (entryLength e) (length-entry e m r tb))

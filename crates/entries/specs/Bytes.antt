@@ -1,8 +1,8 @@
 -- Numbers as bytes, low byte first.
 use mathlib.Core.List.{List, [], _∷_, _++_}
-use Prim.Native.Nat.{ℕ, suc, _+_, _*_, _/_, _%_}
+use Prim.Native.Nat.{ℕ, suc}
 use lib.ListN.{drop}
-use Rattle.lists.specs.Words.{wordAt, wordBytes}
+use Rattle.lists.specs.Fours.{numberAt, numberBytes}
 
 -- an entry's head is so many numbers, of four bytes each; its length stands at its front as one more
 abbrev pub headCount : ℕ
@@ -13,12 +13,6 @@ headLength = 124
 
 abbrev pub frontLength : ℕ
 frontLength = 4
-
-abbrev pub numberBytes : ℕ → List ℕ
-numberBytes n = wordBytes (n % 65536) ++ wordBytes (n / 65536)
-
-abbrev pub numberAt : List ℕ → ℕ → ℕ
-numberAt b at = wordAt b at + 65536 * wordAt b (at + 2)
 
 unfoldable pub numbersBytes : List ℕ → List ℕ
 numbersBytes [] = []

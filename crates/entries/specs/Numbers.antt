@@ -5,17 +5,15 @@ use mathlib.Core.List.{List, [], _∷_}
 use Prim.Native.Nat.{ℕ, _%_, _<_}
 use lib.Dec.{eqb}
 use lib.ListN.{getD}
+use Rattle.lists.specs.Fours.{numberLimit}
 use Rattle.lists.specs.Pick.{pick}
 use Rattle.state.specs.declared.Unit.{Unit}
+use Rattle.touched.specs.Touches.{placeBelow}
 use Rattle.touched.specs.declared.Touched.{Touched}
 use Rattle.entries.specs.declared.Entry.{Entry}
 
 abbrev pub bitOf : Bool → ℕ
 bitOf b = pick b 1 0
-
--- a number of four bytes
-abbrev pub numberLimit : ℕ
-numberLimit = 4294967296
 
 unfoldable pub numbersOf : Entry → List ℕ
 numbersOf e =
@@ -45,8 +43,8 @@ numbersOf e =
     ∷ e .touched .«message_length» % numberLimit
     ∷ e .touched .«reel_at» % numberLimit
     ∷ e .touched .«reel_blocks» % numberLimit
-    ∷ 0
-    ∷ 0
+    ∷ e .objects
+    ∷ e .touched .places
     ∷ 0
     ∷ []
 
@@ -77,8 +75,9 @@ unitOf n =
       lengths = record { memory = nth n 19; blocks = nth n 20 };
     }
 
-unfoldable pub touchedOf : List ℕ → Touched
-touchedOf n =
+-- the places filled end where the used part of the table does after the step: at `top`
+unfoldable pub touchedOf : List ℕ → ℕ → Touched
+touchedOf n top =
     record {
       «data_at» = nth n 21;
       «data_length» = nth n 22;
@@ -87,10 +86,12 @@ touchedOf n =
       «message_length» = nth n 25;
       «reel_at» = nth n 26;
       «reel_blocks» = nth n 27;
+      «place_at» = placeBelow top (nth n 29);
+      places = nth n 29;
     }
 
-unfoldable pub entryOf : List ℕ → Entry
-entryOf n = record { unit = unitOf n; touched = touchedOf n }
+unfoldable pub entryOf : List ℕ → ℕ → Entry
+entryOf n top = record { unit = unitOf n; objects = nth n 28; touched = touchedOf n top }
 
 -- every number of the entry that its type lets be larger has at most four bytes; so has each that the journal writes
 pub record Small (e : Entry) : Type 0 where

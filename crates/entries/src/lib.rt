@@ -6,9 +6,7 @@ mod numbers;
 mod restoring;
 
 pub use bytes::head_at;
-pub use bytes::number_at;
 pub use bytes::put_head;
-pub use bytes::put_number;
 pub use entering::enter;
 pub use entering::enter_bare;
 pub use entering::enter_run;
@@ -21,9 +19,10 @@ pub use restoring::newest_entry;
 use state::Unit;
 use touched::Touched;
 
-// The state before a step, and what the step touches.
+// The state before a step with the used places of the table, and what the step touches.
 pub struct Entry {
     pub unit: Unit,
+    pub objects: u32,
     pub touched: Touched,
 }
 
@@ -33,5 +32,5 @@ pub const FRONT: usize = 4;
 // The state and the places, at its end: 31 numbers.
 pub const HEAD: usize = 124;
 
-// "Entry length is 128 + stored memory bytes + stored reel bytes".
+// "Entry length is 128 + stored memory bytes + stored reel bytes", and eight for each place filled.
 pub const BARE: usize = 128;

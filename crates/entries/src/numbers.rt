@@ -10,6 +10,7 @@ use state::Unit;
 use touched::Touched;
 ghost use mathlib.Core.Path.{_≡_};
 ghost use Prim.Native.Nat.{_%_};
+ghost use Rattle.touched.specs.Touches.{placeBelow};
 ghost use Rattle.entries.specs.Numbers.{bitOf, entryOf, numbersOf, touchedOf, unitOf};
 
 fn low(x: usize) -> u32
@@ -58,8 +59,8 @@ pub fn numbers_of(e: Entry) -> [u32; 31]
         low(t.message_length),
         low(t.reel_at),
         low(t.reel_blocks),
-        0,
-        0,
+        e.objects,
+        t.places,
         0,
     ]
 }
@@ -110,8 +111,18 @@ fn unit_of(n: [u32; 31]) -> Unit
     }
 }
 
-fn touched_of(n: [u32; 31]) -> Touched
-    ensures { λ r. ⌜ r ≡ touchedOf n ⌝ }
+// The first of f places that end below the place `top`; with more than that, place 0.
+fn place_below(top: u32, f: u32) -> usize
+    ensures { λ r. ⌜ r ≡ placeBelow top f ⌝ }
+{
+    if (f == 0) | (top < f) {
+        return 0;
+    }
+    (top - f) as usize
+}
+
+fn touched_of(n: [u32; 31], top: u32) -> Touched
+    ensures { λ r. ⌜ r ≡ touchedOf n top ⌝ }
 {
     Touched {
         data_at: n[21] as usize,
@@ -121,13 +132,20 @@ fn touched_of(n: [u32; 31]) -> Touched
         message_length: n[25] as usize,
         reel_at: n[26] as usize,
         reel_blocks: n[27] as usize,
+        place_at: place_below(top, n[29]),
+        places: n[29],
     }
 }
 
-pub fn entry_of(n: [u32; 31]) -> Entry
-    ensures { λ r. ⌜ r ≡ entryOf n ⌝ }
+// The entry with this head, of a step that left so many used places of the table.
+pub fn entry_of(n: [u32; 31], top: u32) -> Entry
+    ensures { λ r. ⌜ r ≡ entryOf n top ⌝ }
 {
     let unit = unit_of(n);
-    let touched = touched_of(n);
-    Entry { unit, touched }
+    let touched = touched_of(n, top);
+    Entry {
+        unit,
+        objects: n[28],
+        touched,
+    }
 }

@@ -42,7 +42,7 @@ module _ (limit limit′ eotMargin eotMargin′ : ℕ) (longer : limit ≤ limit
       record {
         formed = λ h. holds-raised longer h;
         reads = reads-alike;
-        touches = λ u m s r. touched-alike (reads-alike u m s r);
+        touches = λ u m s r place. touched-alike (reads-alike u m s r) place;
         reel = λ u m s r. reel-alike (reads-alike u m s r) m s;
         memory = λ u m s r inside. memory-alike (reads-alike u m s r) m s inside;
         writes = write-differs;

@@ -67,9 +67,9 @@ pub reel-alike : {q q′ : Plan} → ReadsAlike q q′ → (m s : List ℕ) → 
 unfolding reelAfter
 reel-alike a m s = rw (a .laid)
 
-pub touched-alike : {q q′ : Plan} → ReadsAlike q q′ → touchedBy q ≡ touchedBy q′
+pub touched-alike : {q q′ : Plan} → ReadsAlike q q′ → (place : ℕ) → touchedBy q place ≡ touchedBy q′ place
 unfolding touchedBy
-touched-alike a = rw (a .laid, a .moved, a .state, a .sends)
+touched-alike a place = rw (a .laid, a .moved, a .state, a .sends)
 
 pub memory-alike : {q q′ : Plan} → ReadsAlike q q′ → (m s : List ℕ) → SentInside q′ m → ButEotAt (eotByte q′) (memoryAfter q m s) (memoryAfter q′ m s)
 unfolding memoryAfter reelAfter messageOn

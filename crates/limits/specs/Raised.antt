@@ -71,8 +71,8 @@ module _ (limit limit′ eotMargin eotMargin′ : ℕ) where
     pub formed : {s : List ℕ} {e : ℕ} {os : List Object} → HoldsUnder limit s e os → HoldsUnder limit′ s e os
     -- every advance that reads comes to the same there, wherever the tape stands, but for EOT in its message
     pub reads : (u : Unit) (m s : List ℕ) {os : List Object} → ReadsUnder limit u m s os → ReadsAlike (one u m s) (other u m s)
-    -- so it touches the same places, and takes an entry of the same length; it leaves the same reel, and the same memory but for that bit
-    pub touches : (u : Unit) (m s : List ℕ) {os : List Object} → ReadsUnder limit u m s os → touchedBy (one u m s) ≡ touchedBy (other u m s)
+    -- so it touches the same places, wherever the table is cut, and takes an entry of the same length; it leaves the same reel, and the same memory but for that bit
+    pub touches : (u : Unit) (m s : List ℕ) {os : List Object} → ReadsUnder limit u m s os → (place : ℕ) → touchedBy (one u m s) place ≡ touchedBy (other u m s) place
     pub reel : (u : Unit) (m s : List ℕ) {os : List Object} → ReadsUnder limit u m s os → reelAfter (one u m s) m s ≡ reelAfter (other u m s) m s
     pub memory : (u : Unit) (m s : List ℕ) {os : List Object} → ReadsUnder limit u m s os → SentInside (other u m s) m → ButEotAt (eotByte (other u m s)) (memoryAfter (one u m s) m s) (memoryAfter (other u m s) m s)
     -- a write may differ: one that ends at the marker of the larger margin, and so before the other, has class 2 where it had class 0

@@ -12,7 +12,7 @@ use Rattle.tape.specs.Bytes.{movedTo}
 use Rattle.commands.specs.Commands.{released}
 use Rattle.commands.specs.Ends.{ended, still, untold}
 use Rattle.unit.specs.Steps.{carried}
-use Rattle.unit.specs.Touching.{movedPlace, touchedBy}
+use Rattle.unit.specs.Touching.{laidPlaces, movedPlace, objectPlaces, touchedBy}
 use Rattle.entries.specs.Entries.{entryLength}
 use Rattle.worlds.specs.Calls.{entryFor}
 use Rattle.table.specs.Table.{Table}
@@ -20,7 +20,7 @@ use Rattle.table.proofs.Places.{after-first, before-last, first, last}
 use Rattle.table.proofs.ShortReads.{high-end, short-residual, short-status, short-stored, short-tssr}
 
 pub table : Table
-unfolding blocksIn imageOf piecesTo pieceOf blockOf bodyOf checkOf wordSum tssrOf mountedAs tsdbWritten readEnd released untold ended still carried touchedBy entryFor entryLength movedPlace movedTo movedLength laidBlocks objectBlocks
+unfolding blocksIn imageOf piecesTo pieceOf blockOf bodyOf checkOf wordSum tssrOf mountedAs tsdbWritten readEnd released untold ended still carried touchedBy entryFor entryLength movedPlace movedTo movedLength laidBlocks objectBlocks laidPlaces objectPlaces
 table =
     record {
       p1 = λ e locked lengths. refl;

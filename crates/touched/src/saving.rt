@@ -1,5 +1,7 @@
 // Saving the bytes that a step is about to store over, and bringing them back.
 use crate::Touched;
+use index::PLACE;
+use lists::copy;
 use lists::gather;
 use lists::scatter;
 use tape::Geometry;
@@ -7,7 +9,7 @@ ghost use mathlib.Core.Path.{_≡_};
 ghost use Prim.Native.Nat.{_+_, _≤_};
 ghost use lib.Dec.{leb};
 ghost use lib.ListN.{length};
-ghost use Rattle.touched.specs.Touches.{Restored, TouchedIn, none, savedBytes, savedLength, touchedFits};
+ghost use Rattle.touched.specs.Touches.{PlacesIn, Restored, TouchedIn, none, savedBytes, savedLength, touchedFits};
 
 // No byte.
 pub fn nothing() -> Touched
@@ -21,6 +23,8 @@ pub fn nothing() -> Touched
         message_length: 0,
         reel_at: 0,
         reel_blocks: 0,
+        place_at: 0,
+        places: 0,
     }
 }
 
@@ -29,7 +33,7 @@ pub fn saved_length(t: Touched, memory: usize, reel: usize) -> usize
     requires { ⌜ TouchedIn t memory reel ⌝ }
     ensures { λ r. ⌜ r ≡ savedLength t ⌝ }
 {
-    t.data_length + t.message_length + Geometry::BLOCK * t.reel_blocks
+    t.data_length + t.message_length + Geometry::BLOCK * t.reel_blocks + PLACE * t.places as usize
 }
 
 // Does a run of n from a lie below a limit? A difference and no sum: the numbers may be made up.
@@ -52,33 +56,47 @@ pub fn touched_fits(t: Touched, memory: usize, reel: usize) -> bool
     data & (message & blocks)
 }
 
-// The bytes at these places fill b: the data's, the message's, the reel's.
-pub fn save(b: &mut [u8], t: Touched, mem: &[u8], reel: &[u8])
-    requires { ⌜ (length (now b) ≡ savedLength t) × TouchedIn t (length (now mem)) (length (now reel)) ⌝ }
-    ensures { λ _. ⌜ now (b .exit) ≡ savedBytes t (now (mem .entry)) (now (reel .entry)) ⌝ }
+// The bytes at these places fill b: the data's, the message's, the reel's, the table's.
+pub fn save(b: &mut [u8], t: Touched, mem: &[u8], reel: &[u8], table: &[u8])
+    requires { ⌜ (length (now b) ≡ savedLength t) × TouchedIn t (length (now mem)) (length (now reel)) × PlacesIn t (length (now table)) ⌝ }
+    ensures { λ _. ⌜ now (b .exit) ≡ savedBytes t (now (mem .entry)) (now (reel .entry)) (now (table .entry)) ⌝ }
 {
     let message = t.data_length;
     let blocks = message + t.message_length;
-    let end = b.len();
+    let places = blocks + Geometry::BLOCK * t.reel_blocks;
     gather(&mut b[0..message], mem, t.data_at, t.swb);
     gather(&mut b[message..blocks], mem, t.message_at, false);
     gather(
-        &mut b[blocks..end],
+        &mut b[blocks..places],
         reel,
         Geometry::BLOCK * t.reel_at,
         false,
     );
+    copy(
+        table,
+        PLACE * t.place_at,
+        b,
+        places,
+        PLACE * t.places as usize,
+    );
 }
 
 // The bytes that were saved go back to their places; the data last, since the message went over it.
-pub fn bring_back(b: &[u8], t: Touched, mem: &mut [u8], reel: &mut [u8])
-    requires { ⌜ (length (now b) ≡ savedLength t) × TouchedIn t (length (now mem)) (length (now reel)) ⌝ }
-    ensures { λ _. ⌜ Restored t (now (b .entry)) (now (mem .entry)) (now (reel .entry)) (now (mem .exit)) (now (reel .exit)) ⌝ }
+pub fn bring_back(b: &[u8], t: Touched, mem: &mut [u8], reel: &mut [u8], table: &mut [u8])
+    requires { ⌜ (length (now b) ≡ savedLength t) × TouchedIn t (length (now mem)) (length (now reel)) × PlacesIn t (length (now table)) ⌝ }
+    ensures { λ _. ⌜ Restored t (now (b .entry)) (now (mem .entry)) (now (reel .entry)) (now (table .entry)) (now (mem .exit)) (now (reel .exit)) (now (table .exit)) ⌝ }
 {
     let message = t.data_length;
     let blocks = message + t.message_length;
-    let end = b.len();
-    scatter(&b[blocks..end], reel, Geometry::BLOCK * t.reel_at, false);
+    let places = blocks + Geometry::BLOCK * t.reel_blocks;
+    copy(
+        b,
+        places,
+        table,
+        PLACE * t.place_at,
+        PLACE * t.places as usize,
+    );
+    scatter(&b[blocks..places], reel, Geometry::BLOCK * t.reel_at, false);
     scatter(&b[message..blocks], mem, t.message_at, false);
     scatter(&b[0..message], mem, t.data_at, t.swb);
 }

@@ -24,7 +24,9 @@ use Rattle.advance.proofs.Planned.{advanced-seven, advanced-sound}
 use Rattle.touched.specs.Touches.{Sizes, TouchedIn, none}
 use Rattle.unit.specs.Asks.{Ask, Asked, advance, host-store, operate, write-tsdb, write-tssr}
 use Rattle.unit.specs.Cores.{Admitted, Core}
-use Rattle.unit.specs.Steps.{Sound, carried, changed, hostLimit, stepOf, storeWrong, stored}
+use Rattle.unit.specs.Steps.{Sound, carried, changed, cutOf, hostLimit, stepOf, storeWrong, stored, tableAfter}
+use Rattle.unit.specs.Touching.{hostTouched, touchedBy}
+use Rattle.unit.proofs.Rows.{cut-fewer, cut-filled}
 use Rattle.unit.proofs.Storing.{advanced-storable}
 use Rattle.unit.proofs.Touches.{host-in, host-only, plan-in, plan-only, still-storable}
 
@@ -55,13 +57,16 @@ core-sizes c a =
 
 module _ (c : Core) (a : Admitted c) where
   pub plan-sound : (p : Plan) → Storable p (length (c .memory)) (length (c .reel)) → length (p .message) ≡ 7 → Legal (p .unit) → p .unit .lengths ≡ c .unit .lengths → Sound c (carried c p)
-  unfolding carried
+  unfolding carried touchedBy tableAfter
   plan-sound p fits seven l e =
+      let cut = cutOf c (p .laid) in
       record {
-        only = plan-only p (c .memory) (c .reel) fits seven;
-        within = plan-in p (c .memory) (c .reel) fits (core-sizes c a);
+        only = plan-only p (c .memory) (c .reel) fits (c .table) cut seven;
+        within = plan-in p (c .memory) (c .reel) fits (cut .place) (core-sizes c a);
         legal = l;
         lengths = e;
+        filled = cut-filled (p .laid) (c .table) (c .objects) (c .reel);
+        fewer = cut-fewer (p .laid) (c .table) (c .objects) (c .reel);
       }
 
   pub still-seven : (u : Unit) → length (changed u .message) ≡ 7
@@ -80,22 +85,26 @@ module _ (c : Core) (a : Admitted c) where
   none-in = record { in-memory = omega arith; message-in-memory = omega arith; in-reel = omega arith; sizes = core-sizes c a }
 
   store-sound : (place : ℕ) (bytes : List ℕ) → Sound c (stored c place bytes)
-  unfolding stored storeWrong
+  unfolding stored storeWrong hostTouched
   store-sound place bytes =
       let long : Bool = ltb hostLimit (length bytes) in
       let far : Bool = ltb (length (c .memory)) (place + length bytes) in
       pick-told (Sound c) (long || far) _ _
       (λ t. record {
-        only = record { long-memory = refl; long-reel = refl; memory = λ j f g. refl; reel = λ j f. refl };
+        only = record { long-memory = refl; long-reel = refl; long-table = refl; memory = λ j f g. refl; reel = λ j f. refl; table = λ j f. refl };
         within = none-in;
         legal = a .legal;
         lengths = refl;
+        filled = refl;
+        fewer = omega arith;
       })
       (λ t. record {
-        only = host-only (c .memory) (c .reel) place bytes;
+        only = host-only (c .memory) (c .reel) place bytes (c .table);
         within = host-in (c .memory) (c .reel) place bytes (core-sizes c a) (ltb-false (length (c .memory)) (place + length bytes) (neither long far t .1));
         legal = a .legal;
         lengths = refl;
+        filled = refl;
+        fewer = omega arith;
       })
 
   pub advanced-fits : Storable (advanced (c .unit) (c .memory) (c .reel)) (length (c .memory)) (length (c .reel))

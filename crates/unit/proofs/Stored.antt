@@ -33,6 +33,7 @@ use Rattle.unit.specs.Cores.{Admitted, Core}
 use Rattle.unit.specs.Steps.{Step, carried, changed, stepOf, storeWrong, stored}
 use Rattle.unit.specs.Stores.{Stores, bytesOf, noBytes, planBytes}
 use Rattle.unit.specs.Touching.{hostTouched, movedPlace, touchedBy}
+use Rattle.unit.proofs.Rows.{places-laid}
 use Rattle.unit.proofs.Stepping.{advanced-fits, core-sizes, still-seven}
 use Rattle.unit.proofs.Touches.{still-storable}
 
@@ -75,6 +76,7 @@ module _ (c : Core) (p : Plan) (fits : Storable p (length (c .memory)) (length (
         data-long = length-data reeled (p .moved) (c .memory) moved-fits;
         message-long = message-counted (p .sends) (p .message) seven;
         reel-long = length-laid (c .memory) (p .laid);
+        places = places-laid (c .memory) (p .laid);
       }
 
 -- a change of the state alone stores nothing
@@ -84,10 +86,10 @@ change-stores c a u =
     plan-stores c (changed u) (still-storable u (answer.Done false) (length (c .memory)) (length (c .reel)) (core-sizes c a .even)) (still-seven c a u)
 
 -- a host store that is answered "done" stores its bytes
-store-stores : (c : Core) (place : ℕ) (bytes : List ℕ) (i : Bool) → stored c place bytes .answer ≡ answer.Done i → Stores c (stored c place bytes) (record { data-bytes = bytes; message-bytes = []; reel-bytes = [] })
+store-stores : (c : Core) (place : ℕ) (bytes : List ℕ) (i : Bool) → stored c place bytes .answer ≡ answer.Done i → Stores c (stored c place bytes) (record { data-bytes = bytes; message-bytes = []; reel-bytes = []; objects = [] })
 unfolding stored hostTouched placed
 store-stores c place bytes i =
-    pick-told (λ (x : Step). x .answer ≡ answer.Done i → Stores c x (record { data-bytes = bytes; message-bytes = []; reel-bytes = [] })) (storeWrong (length (c .memory)) place (length bytes)) _ _
+    pick-told (λ (x : Step). x .answer ≡ answer.Done i → Stores c x (record { data-bytes = bytes; message-bytes = []; reel-bytes = []; objects = [] })) (storeWrong (length (c .memory)) place (length bytes)) _ _
     (λ t e. absurd (clash cc))
     (λ t e. record {
       memory = sym (placed-plain (c .memory) place bytes);
@@ -95,6 +97,7 @@ store-stores c place bytes i =
       data-long = refl;
       message-long = refl;
       reel-long = refl;
+      places = refl;
     })
 
 -- each step that is answered "done"

@@ -1,5 +1,5 @@
 -- "of exactly 128 bytes plus the memory and reel bytes that step stored, data and message counted separately even if they overlap" (01,
--- "Exact step back"): the bytes that a step stores, as lists.
+-- "Exact step back"), and "eight bytes for each table place filled, one an object written" (02, [8]): the bytes that a step stores, as lists.
 use mathlib.Core.Bool.{false}
 use mathlib.Core.List.{List, []}
 use mathlib.Core.Path.{_≡_}
@@ -9,7 +9,7 @@ use Rattle.lists.specs.Pick.{pick}
 use Rattle.lists.specs.Places.{placed}
 use Rattle.tape.specs.Bytes.{movedBytes, recordBytes}
 use Rattle.tape.specs.Numbers.{blockBytes}
-use Rattle.tape.specs.Objects.{imagesOf}
+use Rattle.tape.specs.Objects.{Object, imagesOf}
 use Rattle.signals.specs.Message.{wordsBytes}
 use Rattle.commands.specs.declared.plans.Plan.{Plan}
 use Rattle.storing.specs.Stored.{laidObjects, reelAfter}
@@ -18,14 +18,15 @@ use Rattle.unit.specs.Asks.{Ask, advance, host-store, operate, write-tsd
 use Rattle.unit.specs.Cores.{Core}
 use Rattle.unit.specs.Steps.{Step}
 
--- the data's bytes, the message's, and those of the new blocks
+-- the data's bytes, the message's, those of the new blocks, and the objects written, each with a place of the table
 pub record StepBytes : Type 0 where
   pub data-bytes : List ℕ
   pub message-bytes : List ℕ
   pub reel-bytes : List ℕ
+  pub objects : List Object
 
 abbrev pub noBytes : StepBytes
-noBytes = record { data-bytes = []; message-bytes = []; reel-bytes = [] }
+noBytes = record { data-bytes = []; message-bytes = []; reel-bytes = []; objects = [] }
 
 -- what a plan stores: those bytes of the record that a Read moves, the message's words if it goes out, the blocks of the new objects
 unfoldable pub planBytes : Core → Plan → StepBytes
@@ -36,6 +37,7 @@ planBytes c p =
           (recordBytes (reelAfter p (c .memory) (c .reel)) (p .moved .first) (p .moved .length));
       message-bytes = pick (p .sends) (wordsBytes (p .message)) [];
       reel-bytes = imagesOf (laidObjects (c .memory) (p .laid));
+      objects = laidObjects (c .memory) (p .laid);
     }
 
 -- what is stored for each ask
@@ -43,7 +45,7 @@ unfoldable pub bytesOf : Ask → Core → StepBytes
 bytesOf (write-tsdb word) c = noBytes
 bytesOf write-tssr c = noBytes
 bytesOf (operate a) c = noBytes
-bytesOf (host-store place bytes) c = record { data-bytes = bytes; message-bytes = []; reel-bytes = [] }
+bytesOf (host-store place bytes) c = record { data-bytes = bytes; message-bytes = []; reel-bytes = []; objects = [] }
 bytesOf advance c = planBytes c (advanced (c .unit) (c .memory) (c .reel))
 
 -- the step x from the core c stored the bytes b, and nothing else
@@ -55,3 +57,4 @@ pub record Stores (c : Core) (x : Step) (b : StepBytes) : Type 0 where
   pub data-long : length (b .data-bytes) ≡ x .touched .«data_length»
   pub message-long : length (b .message-bytes) ≡ x .touched .«message_length»
   pub reel-long : length (b .reel-bytes) ≡ blockBytes * x .touched .«reel_blocks»
+  pub places : length (b .objects) ≡ x .touched .places

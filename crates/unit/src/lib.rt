@@ -5,9 +5,13 @@ mod registers;
 
 pub use advance::plan_advance;
 pub use asking::HOST_LIMIT;
+pub use asking::cut_for;
+pub use asking::fill_places;
 pub use asking::host_touched;
+pub use asking::objects_after;
 pub use asking::put_host;
 pub use asking::store_wrong;
+pub use asking::too_small;
 pub use asking::touched_by;
 pub use mounting::Mounted;
 pub use mounting::mount;

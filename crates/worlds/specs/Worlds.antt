@@ -29,20 +29,20 @@ abbrev pub answered : Answer → World → Answered
 answered a w = record { answer = a; world = w }
 
 -- the world of a call: of the lent journal only the used part. "Journal bytes outside the used part are not promised." (01)
-abbrev pub worldOf : Session → List ℕ → List ℕ → List ℕ → World
-worldOf s m r j =
+abbrev pub worldOf : Session → List ℕ → List ℕ → List ℕ → List ℕ → World
+worldOf s m r tb j =
     record {
-      core = record { unit = s .unit; memory = m; reel = r };
+      core = record { unit = s .unit; objects = s .objects; memory = m; reel = r; table = tb };
       ledger = record { used = s .used; length = s .journal; bytes = usedIn (s .used) j };
     }
 
 -- the numbers of a world that a call is handed and hands back
 abbrev pub sessionOf : World → Session
-sessionOf w = record { unit = w .core .unit; used = w .ledger .used; journal = w .ledger .length }
+sessionOf w = record { unit = w .core .unit; objects = w .core .objects; used = w .ledger .used; journal = w .ledger .length }
 
 -- what a call that was lent the journal j hands back and leaves in the slices is the definition's answer and world; and where it takes no step,
 -- it leaves every byte of the journal, the unused ones too
-pub record Leaves (x : Answered) (j : List ℕ) (o : Outcome) (m r j′ : List ℕ) : Type 0 where
+pub record Leaves (x : Answered) (j : List ℕ) (o : Outcome) (m r tb j′ : List ℕ) : Type 0 where
   pub answer : o .answer ≡ x .answer
-  pub world : worldOf (o .session) m r j′ ≡ x .world
+  pub world : worldOf (o .session) m r tb j′ ≡ x .world
   pub unless-step : isStep (x .answer) ≡ false → j′ ≡ j

@@ -5,11 +5,13 @@ mod checks;
 pub use checks::check;
 pub use checks::session_wrong;
 use commands::Answer;
+use index::Found;
 use state::Unit;
 
-// The unit's state, the used journal and the mount's journal length, in bytes.
+// The unit's state, the used places of the table, and the used journal and the mount's journal length, in bytes.
 pub struct Session {
     pub unit: Unit,
+    pub objects: u32,
     pub used: usize,
     pub journal: usize,
 }
@@ -26,4 +28,10 @@ pub struct Outcome {
 pub struct RegisterRead {
     pub answer: Answer,
     pub word: u16,
+}
+
+// What a look-up in the table hands back.
+pub struct Finding {
+    pub answer: Answer,
+    pub found: Found,
 }

@@ -19,10 +19,10 @@ add-put-number : tie.Need-add-put-number
 add-put-number c = search needs
 
 cast-put-number : tie.Need-cast-put-number
-cast-put-number c = search needs
+cast-put-number c = omega (arith, c .before .before .before .before .before .before .before .pre .0, c .before .before .before .before .before .before .before .pre .1, c .before .saved-length .ensures, entry-whole (c .before .before .before .before .before .before .before .args .e))
 
 put-number-requires : tie.Need-put-number-requires
-put-number-requires c κs = omega (arith, c .before .before .before .before .before .before .pre .0, entry-whole (c .before .before .before .before .before .before .args .e))
+put-number-requires c κs = omega (arith, c .before .before .before .before .before .before .before .pre .0, entry-whole (c .before .before .before .before .before .before .before .args .e))
 
 sub-save : tie.Need-sub-save
 sub-save c = search needs
@@ -31,24 +31,26 @@ part-save-start : tie.Need-part-save-start
 part-save-start c = search needs
 
 part-save-end : tie.Need-part-save-end
-part-save-end c = omega (arith, c .before .before .before .before .before .before .before .before .before .pre .0, c .before .before .before .before .saved-length .ensures, entry-whole (c .before .before .before .before .before .before .before .before .before .args .e))
+part-save-end c = omega (arith, c .before .before .before .before .before .before .before .before .before .before .pre .0, c .before .before .before .before .saved-length .ensures, entry-whole (c .before .before .before .before .before .before .before .before .before .before .args .e))
 
 save-requires : tie.Need-save-requires
-save-requires c κs = search needs
+save-requires c κs =
+    let p = c .before .before .before .before .before .before .before .before .before .before .before .pre in
+    search needs
 
 numbers-of-requires : tie.Need-numbers-of-requires
 numbers-of-requires c κs = search needs
 
 put-head-requires : tie.Need-put-head-requires
-put-head-requires c κs = omega (arith, c .before .before .before .before .before .before .before .before .before .before .before .before .before .before .before .pre .0, c .before .before .before .before .before .before .before .before .before .before .saved-length .ensures, entry-whole (c .before .before .before .before .before .before .before .before .before .before .before .before .before .before .before .args .e))
+put-head-requires c κs = omega (arith, c .before .before .before .before .before .before .before .before .before .before .before .before .before .before .before .before .pre .0, c .before .before .before .before .before .before .before .before .before .before .saved-length .ensures, entry-whole (c .before .before .before .before .before .before .before .before .before .before .before .before .before .before .before .before .args .e))
 
 same-length : tie.Need-same-length
 same-length c = search needs
 
 returns : tie.Need-returns
 returns c =
-    let s = c .before .before .before .before .before .before .before .before .before .before .before .before .before .before .before .before .before .before in
-    entry-entered (s .args .e) (s .args .mem .now) (s .args .reel .now) (s .args .jrnl .now) _ _ (s .args .used) _ _ _ _ (s .pre .0) (c .before .before .before .before .before .before .before .before .before .before .before .before .before .saved-length .ensures) refl (c .before .before .before .before .before .before .before .before .before .before .before .put-number .ensures) (c .before .before .before .before .before .before .before .save .ensures) (c .before .before .before .numbers-of .ensures) (c .before .before .put-head .ensures)
+    let s = c .before .before .before .before .before .before .before .before .before .before .before .before .before .before .before .before .before .before .before in
+    entry-entered (s .args .e) (s .args .mem .now) (s .args .reel .now) (s .args .table .now) (s .args .jrnl .now) _ _ (s .args .used) _ _ _ _ (s .pre .0) (c .before .before .before .before .before .before .before .before .before .before .before .before .before .saved-length .ensures) refl (c .before .before .before .before .before .before .before .before .before .before .before .put-number .ensures) (c .before .before .before .before .before .before .before .save .ensures) (c .before .before .before .numbers-of .ensures) (c .before .before .put-head .ensures)
 
 pub enter-spec : {M : Type 1} → statement M
 enter-spec =

@@ -10,9 +10,12 @@ unit-of-requires c κs = search needs
 touched-of-requires : tie.Need-touched-of-requires
 touched-of-requires c κs = search needs
 
+array-read-t9 : tie.Need-array-read-t9
+array-read-t9 c = search needs
+
 returns : tie.Need-returns
 unfolding entryOf
 returns c = rw (c .before .unit-of .ensures, c .touched-of .ensures)
 
 pub entry-of-spec : {M : Type 1} → statement M
-entry-of-spec = tie.close (tie.spec unit-of-requires touched-of-requires returns)
+entry-of-spec = tie.close (tie.spec unit-of-requires touched-of-requires array-read-t9 returns)

@@ -101,7 +101,7 @@ returns c =
     ∷ (c8 .before .before .before .bit-of11 .ensures) i ∷ (c8 .before .before .bit-of12 .ensures) i ∷ (c8 .before .bit-of13 .ensures) i ∷ (c8 .low5 .ensures) i
     ∷ (c4 .before .before .before .low6 .ensures) i ∷ (c4 .before .before .low7 .ensures) i ∷ (c4 .before .low8 .ensures) i ∷ (c4 .bit-of14 .ensures) i
     ∷ (c .before .before .before .low9 .ensures) i ∷ (c .before .before .low10 .ensures) i ∷ (c .before .low11 .ensures) i ∷ (c .low12 .ensures) i
-    ∷ 0 ∷ 0 ∷ 0 ∷ []
+    ∷ start .args .e .objects ∷ start .args .e .touched .places ∷ 0 ∷ []
 
 pub numbers-of-spec : {M : Type 1} → statement M
 numbers-of-spec =

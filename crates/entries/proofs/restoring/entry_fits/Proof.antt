@@ -2,6 +2,7 @@
 use native.Mathlib.Omega.{arith}
 use Rattle.entries.proofs.Fitting.{fit-by, places-in, unfit}
 use mathlib.Core.Path.{refl}
+use Prim.Native.Nat.{_<_}
 use borrow.Author.Needs.{needs}
 use Rattle.entries.proofs.restoring.entry_fits.Statement.{statement}
 use Rattle.entries.proofs.restoring.entry_fits.Tie as tie
@@ -10,18 +11,22 @@ touched-fits-requires : tie.Need-touched-fits-requires
 touched-fits-requires c κs = search needs
 
 returns : tie.Need-returns
-returns c = unfit _ _ _ _ _ _ _ refl (c .before .touched-fits .ensures) (c .if1 .taken)
+returns c = unfit _ _ _ _ _ _ _ _ refl (c .before .before .touched-fits .ensures) (c .if1 .taken)
 
 saved-length-requires : tie.Need-saved-length-requires
-saved-length-requires c κs = places-in (c .before .before .before .before .before .before .before .args .e) (c .before .before .before .before .before .before .before .args .used) (c .before .before .before .before .before .before .before .args .mounted) _ _ _ _ refl (c .before .touched-fits .ensures) (c .before .before .before .before .before .before .before .pre) (c .if1 .left)
+saved-length-requires c κs =
+    let s = c .before .before .before .before .before .before .before .before in
+    places-in (s .args .e) (s .args .used) (s .args .mounted) _ _ (s .args .top) _ _ refl (c .before .before .touched-fits .ensures) (s .pre) (c .if1 .left)
 
 add-result : tie.Need-add-result
 add-result c =
-    let i = places-in (c .before .before .before .before .before .before .before .before .args .e) (c .before .before .before .before .before .before .before .before .args .used) (c .before .before .before .before .before .before .before .before .args .mounted) _ _ _ _ refl (c .before .before .touched-fits .ensures) (c .before .before .before .before .before .before .before .before .pre) (c .before .if1 .left) in
+    let s = c .before .before .before .before .before .before .before .before .before in
+    let i = places-in (s .args .e) (s .args .used) (s .args .mounted) _ _ (s .args .top) _ _ refl (c .before .before .before .touched-fits .ensures) (s .pre) (c .before .if1 .left) in
+    let small : s .args .e .touched .places < 4294967296 = s .good .0 .1 .1 .1 .1 .0 .1 .1 .1 .1 .1 .1 .1 .1 .1 .1 .0 .1 in
     omega (arith, c .saved-length .ensures, i .in-memory, i .message-in-memory, i .in-reel, i .sizes .memory-small, i .sizes .reel-small)
 
 returns-2 : tie.Need-returns-2
-returns-2 c = fit-by _ _ _ _ _ _ _ refl (c .before .before .touched-fits .ensures) _ (c .before .if1 .left) (c .saved-length .ensures)
+returns-2 c = fit-by _ _ _ _ _ _ _ _ refl (c .before .before .before .touched-fits .ensures) _ (c .before .if1 .left) (c .saved-length .ensures)
 
 pub entry-fits-spec : {M : Type 1} → statement M
 entry-fits-spec =

@@ -14,7 +14,7 @@ entry-of-requires : tie.Need-entry-of-requires
 entry-of-requires c κs = search needs
 
 returns : tie.Need-returns
-returns c = newest-read _ _ _ _ (c .before .before .before .pre .0) (c .before .before .before .pre .1) (c .before .head-at .ensures) (c .entry-of .ensures)
+returns c = newest-read _ _ _ _ _ (c .before .before .before .pre .0) (c .before .before .before .pre .1) (c .before .head-at .ensures) (c .entry-of .ensures)
 
 pub newest-entry-spec : {M : Type 1} → statement M
 newest-entry-spec = tie.close (tie.spec sub-head-at head-at-requires entry-of-requires returns)

@@ -1,11 +1,17 @@
--- `save` meets its contract: three gathers fill the lent slice.
-use Rattle.touched.proofs.Joins.{parts-saved}
+-- `save` meets its contract: three gathers and a copy fill the lent slice. What it requires lies far back, so it is named.
 use borrow.Author.Needs.{needs}
+use Rattle.touched.proofs.Joins.{parts-saved}
 use Rattle.touched.proofs.saving.save.Statement.{statement}
 use Rattle.touched.proofs.saving.save.Tie as tie
 
 add-blocks : tie.Need-add-blocks
 add-blocks c = search needs
+
+mul-places : tie.Need-mul-places
+mul-places c = search needs
+
+add-places : tie.Need-add-places
+add-places c = search needs
 
 sub-gather : tie.Need-sub-gather
 sub-gather c = search needs
@@ -46,19 +52,37 @@ mul-gather c = search needs
 gather-requires-3 : tie.Need-gather-requires-3
 gather-requires-3 c κs = search needs
 
+mul-copy : tie.Need-mul-copy
+mul-copy c =
+    let s = c .before .before .before .before .before .before .before .before .before .before .before .before .before .before .before .before .before .before .before .before in
+    search needs
+
+cast-copy : tie.Need-cast-copy
+cast-copy c = search needs
+
+mul-copy-2 : tie.Need-mul-copy-2
+mul-copy-2 c = search needs
+
+copy-requires : tie.Need-copy-requires
+copy-requires c κs =
+    let p = c .before .before .before .before .before .before .before .before .before .before .before .before .before .before .before .before .before .before .before .before .before .before .pre in
+    search needs
+
 same-length : tie.Need-same-length
 same-length c = search needs
 
 returns : tie.Need-returns
 returns c =
-    let s = c .before .before .before .before .before .before .before .before .before .before .before .before .before .before .before .before .before in
-    parts-saved (s .args .t) (s .args .mem .now) (s .args .reel .now) (s .args .b .now) _ _ _ (s .pre .0) (c .before .before .before .before .before .before .before .before .before .before .before .gather .ensures) (c .before .before .before .before .before .before .before .gather2 .ensures) (c .before .before .gather3 .ensures)
+    let s = c .before .before .before .before .before .before .before .before .before .before .before .before .before .before .before .before .before .before .before .before .before .before .before .before .before in
+    parts-saved (s .args .t) (s .args .mem .now) (s .args .reel .now) (s .args .table .now) (s .args .b .now) _ _ _ _ (s .pre .0) (s .pre .2) (c .before .before .before .before .before .before .before .before .before .before .before .before .before .before .before .before .before .gather .ensures) (c .before .before .before .before .before .before .before .before .before .before .before .before .before .gather2 .ensures) (c .before .before .before .before .before .before .before .before .gather3 .ensures) (c .before .before .copy .ensures)
 
 pub save-spec : {M : Type 1} → statement M
 save-spec =
     tie.close
     (tie.spec
     add-blocks
+    mul-places
+    add-places
     sub-gather
     part-gather-start
     part-gather-end
@@ -72,5 +96,9 @@ save-spec =
     part-gather-end-3
     mul-gather
     gather-requires-3
+    mul-copy
+    cast-copy
+    mul-copy-2
+    copy-requires
     same-length
     returns)
