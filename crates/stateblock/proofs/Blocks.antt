@@ -4,16 +4,17 @@ use mathlib.Core.Path.{_≡_, refl, sym, ap, ap₂, _∙_}
 use mathlib.Core.Bool.{Bool, true, false, _&&_, not, true≢false}
 use mathlib.Core.List.{List, [], _∷_, _++_}
 use Prim.Native.Nat.{ℕ, zero, suc, _+_, _*_, _/_, _%_, _<_, _≤_}
-use native.Mathlib.Nat.{add-zero}
 use native.Mathlib.Omega.{arith}
 use borrow.Author.Tests.{eqb-true, ltb-true}
 use lib.Dec.{eqb, ltb}
 use lib.ListN.{drop, drop-of-length-le, getD, length, length-drop}
 use lib.Seq.{drop-at, drop-cons, drop-drop, getD-drop}
 use Rattle.lists.specs.Words.{Bytes, wordAt}
+use Rattle.lists.specs.Fours.{numberAt, numberBytes, numberLimit}
+use Rattle.lists.proofs.Fours.{number-first}
 use Rattle.lists.proofs.Sums.{word-whole}
-use Rattle.entries.specs.Numbers.{Small, bitOf, entryOf, isSet, nth, numberLimit, numbersOf, touchedOf, unitOf}
-use Rattle.entries.specs.Bytes.{numbersBytes, headCount, headLength, headNumbers, numberAt, numberBytes}
+use Rattle.entries.specs.Numbers.{Small, bitOf, entryOf, isSet, nth, numbersOf, touchedOf, unitOf}
+use Rattle.entries.specs.Bytes.{numbersBytes, headCount, headLength, headNumbers}
 use Rattle.entries.proofs.Back.{entry-back, length-numbers}
 use Rattle.entries.proofs.HeadBytes.{head-back}
 use Rattle.entries.proofs.Joined.{head-long}
@@ -30,7 +31,7 @@ numbers-in s = rw (← length-numbers (entryWith s)) (head-back (numbersOf (entr
 -- what a session's block is read as
 pub block-back : (s : Session) → Small (entryWith s) → sessionIn (stateBlock s) ≡ s
 unfolding sessionIn sessionWith entryWith
-block-back s h = rw (numbers-in s, entry-back (entryWith s) h)
+block-back s h = rw (numbers-in s, entry-back (entryWith s) 0 h refl)
 
 a-flag : (b : Bool) → ltb (bitOf b) 2 ≡ true
 a-flag true = refl
@@ -43,12 +44,6 @@ flags-of s = simp a-flag
 rest-of : (s : Session) → restZero (numbersOf (entryWith s)) ≡ true
 unfolding restZero numbersOf entryWith
 rest-of s = refl
-
--- the number at p is the first of what stands from p on
-number-first : (b : List ℕ) (p : ℕ) → numberAt (drop p b) 0 ≡ numberAt b p
-number-first b p =
-    let e : p + 2 + 1 ≡ p + 3 = omega arith in
-    rw (getD-drop p b 0 0, getD-drop p b 1 0, getD-drop p b 2 0, getD-drop p b 3 0, add-zero p, e)
 
 last-of : (s : Session) → numberAt (stateBlock s) headLength ≡ 0
 unfolding stateBlock
@@ -77,9 +72,9 @@ read-small zero b h i = omega arith
 read-small (suc k) b h zero = number-small b h
 read-small (suc k) b h (suc i) = read-small k (drop 4 b) (bytes-drop 4 b h) i
 
-pub small-entry : (b : List ℕ) → Bytes b → Small (entryOf (headNumbers headCount b))
+pub small-entry : (b : List ℕ) (top : ℕ) → Bytes b → Small (entryOf (headNumbers headCount b) top)
 unfolding entryOf unitOf touchedOf
-small-entry b h =
+small-entry b top h =
     let s = read-small headCount b h in
     record {
       position = s 0;
@@ -100,7 +95,7 @@ small-entry b h =
 pub small-in : (b : List ℕ) → Bytes b → Small (entryWith (sessionIn b))
 unfolding sessionIn entryWith sessionWith
 small-in b h =
-    let s = small-entry b h in
+    let s = small-entry b 0 h in
     record {
       position = s .position;
       end = s .end;
@@ -205,17 +200,17 @@ record Rest (n : List ℕ) : Type 0 where
   swb : Unused n 23
   message : Unused n 24 × Unused n 25
   reel : Unused n 26 × Unused n 27
-  free : Unused n 28 × Unused n 29 × Unused n 30
+  free : Unused n 29 × Unused n 30
 
 rest-told : (n : List ℕ) → restZero n ≡ true → Rest n
 unfolding restZero
 rest-told n h =
     let f : ℕ → Bool = λ i. eqb (nth n i) 0 in
-    let free : Bool = f 28 && (f 29 && f 30) in
+    let free : Bool = f 29 && f 30 in
     let p = three (f 23) (f 24) (f 25 && (f 26 && (f 27 && free))) h in
     let q = three (f 25) (f 26) (f 27 && free) (p .2) in
-    let r = both (f 27) free (q .2) in
-    record { swb = p .0; message = (p .1, q .0); reel = (q .1, r .0); free = three (f 28) (f 29) (f 30) (r .1) }
+    let r = three (f 27) (f 29) (f 30) (q .2) in
+    record { swb = p .0; message = (p .1, q .0); reel = (q .1, r .0); free = (r .1, r .2) }
 
 -- a flag is 0 or 1, and a number with no use is 0
 flag-back : (n : ℕ) → ltb n 2 ≡ true → bitOf (not (eqb n 0)) ≡ n
@@ -236,7 +231,7 @@ module _ (n : List ℕ) (small : (i : ℕ) → getD n i 0 < numberLimit) (f : Fl
   unused : (k : ℕ) → Unused n k → 0 ≡ nth n k
   unused k t = sym (eqb-true (nth n k) 0 t)
 
-  each-own : numbersOf (entryWith (sessionWith (entryOf n))) ≡ elements (nth n) 0 headCount
+  each-own : numbersOf (entryWith (sessionWith (entryOf n 0))) ≡ elements (nth n) 0 headCount
   unfolding numbersOf entryWith sessionWith entryOf unitOf touchedOf
   each-own =
       let a = f .registers in
@@ -247,9 +242,9 @@ module _ (n : List ℕ) (small : (i : ℕ) → getD n i 0 < numberLimit) (f : Fl
       ∷ flag 8 (b .0) i ∷ flag 9 (b .1) i ∷ flag 10 (b .2) i ∷ flag 11 (c .0) i ∷ flag 12 (c .1) i ∷ flag 13 (c .2) i
       ∷ nth n 14 ∷ nth n 15 ∷ flag 16 (d .0) i ∷ flag 17 (d .1) i ∷ flag 18 (d .2) i ∷ number 19 i ∷ number 20 i ∷ number 21 i ∷ number 22 i
       ∷ unused 23 (r .swb) i ∷ unused 24 (r .message .0) i ∷ unused 25 (r .message .1) i ∷ unused 26 (r .reel .0) i ∷ unused 27 (r .reel .1) i
-      ∷ unused 28 (r .free .0) i ∷ unused 29 (r .free .1) i ∷ unused 30 (r .free .2) i ∷ []
+      ∷ nth n 28 ∷ unused 29 (r .free .0) i ∷ unused 30 (r .free .1) i ∷ []
 
-  numbers-own : length n ≡ headCount → numbersOf (entryWith (sessionWith (entryOf n))) ≡ n
+  numbers-own : length n ≡ headCount → numbersOf (entryWith (sessionWith (entryOf n 0))) ≡ n
   numbers-own long = each-own ∙ ap (elements (nth n) 0) (sym long) ∙ all-elements n
 
 -- a block's bytes are those of the session that it is read as

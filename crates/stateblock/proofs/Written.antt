@@ -5,9 +5,10 @@ use native.Mathlib.Omega.{arith}
 use Prim.Native.Nat.{ℕ}
 use lib.ListN.{length, length-append}
 use lib.Seq.{sets}
+use Rattle.lists.specs.Fours.{numberBytes}
 use Rattle.lists.proofs.Stores.{sets-at, sets-whole}
 use Rattle.entries.specs.Numbers.{numbersOf}
-use Rattle.entries.specs.Bytes.{numbersBytes, headLength, numberBytes}
+use Rattle.entries.specs.Bytes.{numbersBytes, headLength}
 use Rattle.entries.specs.declared.Entry.{Entry}
 use Rattle.entries.proofs.Joined.{head-long}
 use Rattle.worlds.specs.declared.Session.{Session}

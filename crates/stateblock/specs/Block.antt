@@ -1,5 +1,5 @@
 -- The state's block: 32 numbers of four bytes, low byte first: the 31 of a journal entry's head, and a 0. The used journal and the mount's
--- journal length stand where an entry has its data's place and length, and the numbers after them are 0.
+-- journal length stand where an entry has its data's place and length, and the numbers after them are 0, but for the used places of the table.
 use mathlib.Core.Bool.{Bool, true, false, _&&_}
 use mathlib.Core.List.{List, _++_}
 use mathlib.Core.Path.{_≡_}
@@ -8,7 +8,8 @@ use lib.Dec.{eqb, ltb}
 use lib.ListN.{length}
 use Rattle.lists.specs.Words.{Bytes}
 use Rattle.entries.specs.Numbers.{entryOf, nth, numbersOf}
-use Rattle.entries.specs.Bytes.{numbersBytes, headCount, headLength, headNumbers, numberAt, numberBytes}
+use Rattle.lists.specs.Fours.{numberAt, numberBytes}
+use Rattle.entries.specs.Bytes.{numbersBytes, headCount, headLength, headNumbers}
 use Rattle.entries.specs.declared.Entry.{Entry}
 use Rattle.commands.specs.declared.plans.Answer.{Answer}
 use Rattle.commands.specs.declared.plans.Answer.the-variants as answer
@@ -19,6 +20,7 @@ unfoldable pub entryWith : Session → Entry
 entryWith s =
     record {
       unit = s .unit;
+      objects = s .objects;
       touched =
           record {
             «data_at» = s .used;
@@ -28,11 +30,13 @@ entryWith s =
             «message_length» = 0;
             «reel_at» = 0;
             «reel_blocks» = 0;
+            «place_at» = 0;
+            places = 0;
           };
     }
 
 unfoldable pub sessionWith : Entry → Session
-sessionWith e = record { unit = e .unit; used = e .touched .«data_at»; journal = e .touched .«data_length» }
+sessionWith e = record { unit = e .unit; objects = e .objects; used = e .touched .«data_at»; journal = e .touched .«data_length» }
 
 -- the block of a session
 unfoldable pub stateBlock : Session → List ℕ
@@ -40,7 +44,7 @@ stateBlock s = numbersBytes (numbersOf (entryWith s)) ++ numberBytes 0
 
 -- the session that a block is read as, whatever its bytes
 unfoldable pub sessionIn : List ℕ → Session
-sessionIn b = sessionWith (entryOf (headNumbers headCount b))
+sessionIn b = sessionWith (entryOf (headNumbers headCount b) 0)
 
 -- number i is a flag's; number i is 0
 abbrev flag : List ℕ → ℕ → Bool
@@ -58,7 +62,7 @@ flagsRight n =
 
 unfoldable pub restZero : List ℕ → Bool
 restZero n =
-    unused n 23 && (unused n 24 && (unused n 25 && (unused n 26 && (unused n 27 && (unused n 28 && (unused n 29 && unused n 30))))))
+    unused n 23 && (unused n 24 && (unused n 25 && (unused n 26 && (unused n 27 && (unused n 29 && unused n 30)))))
 
 -- the bytes are some session's block: the laws `block-own` and `block-is` say that this is so exactly when they are the block of what they are read as
 unfoldable pub isBlock : List ℕ → Bool

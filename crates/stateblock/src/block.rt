@@ -5,10 +5,10 @@ use entries::Entry;
 use entries::HEAD;
 use entries::entry_of;
 use entries::head_at;
-use entries::number_at;
 use entries::numbers_of;
 use entries::put_head;
-use entries::put_number;
+use lists::number_at;
+use lists::put_number;
 use touched::Touched;
 use worlds::Outcome;
 use worlds::Session;
@@ -32,8 +32,14 @@ fn entry_with(s: Session) -> Entry
         message_length: 0,
         reel_at: 0,
         reel_blocks: 0,
+        place_at: 0,
+        places: 0,
     };
-    Entry { unit, touched }
+    Entry {
+        unit,
+        objects: s.objects,
+        touched,
+    }
 }
 
 fn session_with(e: Entry) -> Session
@@ -42,6 +48,7 @@ fn session_with(e: Entry) -> Session
     let unit = e.unit;
     Session {
         unit,
+        objects: e.objects,
         used: e.touched.data_at,
         journal: e.touched.data_length,
     }
@@ -62,7 +69,7 @@ fn flags_right(n: [u32; 31]) -> bool
 fn rest_zero(n: [u32; 31]) -> bool
     ensures { λ r. ⌜ r ≡ restZero n ⌝ }
 {
-    let free = (n[28] == 0) & ((n[29] == 0) & (n[30] == 0));
+    let free = (n[29] == 0) & (n[30] == 0);
     (n[23] == 0) & ((n[24] == 0) & ((n[25] == 0) & ((n[26] == 0) & ((n[27] == 0) & free))))
 }
 
@@ -78,7 +85,7 @@ pub fn block_right(b: &[u8; 128]) -> bool
 pub fn session_in(b: &[u8; 128]) -> Session
     ensures { λ r. ⌜ r ≡ sessionIn (now (b .entry)) ⌝ }
 {
-    session_with(entry_of(head_at(b, 0)))
+    session_with(entry_of(head_at(b, 0), 0))
 }
 
 // The session after a step is written over the block; any other answer leaves the block alone.

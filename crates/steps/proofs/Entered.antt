@@ -1,15 +1,18 @@
--- The entry that the code makes of a step is the step's, and what it leaves in memory and reel is the core after it: for a plan carried out,
+-- The entry that the code makes of a step is the step's, and what it leaves in memory, reel and table is the core after it: for a plan carried out,
 -- a change of the state alone and a host store.
 use mathlib.Core.Path.{_≡_, refl, ap, _∙_}
 use mathlib.Core.Bool.{false}
 use mathlib.Core.List.{List}
-use Prim.Native.Nat.{ℕ, _+_, _≤_}
+use Prim.Native.Nat.{ℕ, _+_, _*_, _≤_}
 use borrow.Author.Tests.{le-ltb}
 use lib.ListN.{length}
 use lib.Seq.{sets}
 use Rattle.lists.specs.Places.{placed}
 use Rattle.tape.specs.Bytes.{movedBytes, movedTo, readInto, recordBytes}
 use Rattle.tape.specs.Objects.{imagesOf}
+use Rattle.index.specs.Cutting.{extended}
+use Rattle.index.specs.Table.{placeLength, placesRow, tableFrom}
+use Rattle.index.specs.declared.Cut.{Cut}
 use Rattle.state.specs.declared.Unit.{Unit}
 use Rattle.motions.specs.Parts.{laidBlocks, movedLength, objectBlocks}
 use Rattle.commands.specs.Ends.{still}
@@ -19,37 +22,46 @@ use Rattle.storing.specs.Stored.{StoredPlan, laidObject, laidObjects, laidOn, m
 use Rattle.touched.specs.Touches.{none}
 use Rattle.touched.specs.declared.Touched.{Touched}
 use Rattle.unit.specs.Cores.{Core}
-use Rattle.unit.specs.Steps.{carried, changed, hostLimit, storeWrong, stored}
-use Rattle.unit.specs.Touching.{hostTouched, movedPlace, touchedBy}
+use Rattle.unit.specs.Steps.{carried, changed, cutFor, cutOf, hostLimit, noCut, objectsAfter, storeWrong, stored, tableAfter}
+use Rattle.unit.specs.Touching.{hostTouched, laidPlaces, movedPlace, objectPlaces, touchedBy}
+use Rattle.unit.proofs.Rows.{filled-table}
 use Rattle.entries.specs.Entries.{entryBare, entryLength}
 use Rattle.entries.specs.declared.Entry.{Entry}
 use Rattle.worlds.specs.Calls.{entryFor}
 
-abbrev entryOn : Unit → Touched → Entry
-entryOn u t = record { unit = u; touched = t }
+abbrev entryOn : Core → Touched → Entry
+entryOn c t = record { unit = c .unit; objects = c .objects; touched = t }
 
 module _ (c : Core) where
-  -- a plan
-  module _ (p : Plan) where
-    pub step-entry : (t : Touched) → t ≡ touchedBy p → entryOn (c .unit) t ≡ entryFor c (carried c p)
+  -- a plan p that cuts the table at x
+  module _ (p : Plan) (x : Cut) (dx : x ≡ cutOf c (p .laid)) where
+    pub step-entry : (t : Touched) → t ≡ touchedBy p (x .place) → entryOn c t ≡ entryFor c (carried c p)
     unfolding entryFor carried
-    step-entry t h = ap (entryOn (c .unit)) h
+    step-entry t h = ap (entryOn c) (h ∙ ap (λ (y : Cut). touchedBy p (y .place)) dx)
 
-    pub step-after : (m′ r′ : List ℕ) → StoredPlan p (c .memory) (c .reel) m′ r′ → (record { unit = p .unit; memory = m′; reel = r′ }) ≡ carried c p .after
+    pub step-objects : (top : ℕ) → top ≡ objectsAfter (p .laid) x (c .objects) → top ≡ carried c p .after .objects
     unfolding carried
-    step-after m′ r′ h = rw (h .memory, h .reel)
+    step-objects top h = h ∙ ap (λ (y : Cut). objectsAfter (p .laid) y (c .objects)) dx
 
-  -- a change of the state alone: it touches nothing
+    pub step-after : (top : ℕ) (m′ r′ tb′ : List ℕ) → top ≡ objectsAfter (p .laid) x (c .objects) → StoredPlan p (c .memory) (c .reel) m′ r′ → tb′ ≡ sets (c .table) (placeLength * x .place) (placesRow (p .laid .at) (x .marks) (laidPlaces (p .laid))) → (record { unit = p .unit; objects = top; memory = m′; reel = r′; table = tb′ }) ≡ carried c p .after
+    unfolding carried
+    step-after top m′ r′ tb′ k h l = rw (step-objects top k, h .memory, h .reel, filled-table c (p .laid) tb′ (rw dx at l))
+
+  -- a change of the state alone: it touches nothing, and the objects stay
   module _ (v : Unit) where
-    still-touched : none ≡ touchedBy (changed v)
-    unfolding touchedBy movedPlace movedTo movedLength still laidBlocks objectBlocks
+    uncut : noCut ≡ cutOf c (changed v .laid)
+    unfolding cutFor laidPlaces objectPlaces still
+    uncut = refl
+
+    still-touched : none ≡ touchedBy (changed v) 0
+    unfolding touchedBy movedPlace movedTo movedLength still laidBlocks objectBlocks laidPlaces objectPlaces
     still-touched = refl
 
-    pub change-entry : (t : Touched) → t ≡ none → entryOn (c .unit) t ≡ entryFor c (carried c (changed v))
-    change-entry t h = step-entry (changed v) t (h ∙ still-touched)
+    pub change-entry : (t : Touched) → t ≡ none → entryOn c t ≡ entryFor c (carried c (changed v))
+    change-entry t h = step-entry (changed v) noCut uncut t (h ∙ still-touched)
 
-    pub change-after : (record { unit = v; memory = c .memory; reel = c .reel }) ≡ carried c (changed v) .after
-    unfolding carried still memoryAfter messageOn movedOn reelAfter laidOn laidObjects laidObject imagesOf readInto recordBytes movedBytes movedTo placed
+    pub change-after : (record { unit = v; objects = c .objects; memory = c .memory; reel = c .reel; table = c .table }) ≡ carried c (changed v) .after
+    unfolding carried still memoryAfter messageOn movedOn reelAfter laidOn laidObjects laidObject imagesOf readInto recordBytes movedBytes movedTo placed cutFor laidPlaces objectPlaces objectsAfter tableAfter extended tableFrom
     change-after = refl
 
   -- a host store that 5 does not refuse
@@ -58,11 +70,11 @@ module _ (c : Core) where
     unfolding stored
     store-answer = rw right
 
-    pub store-entry : (t : Touched) → t ≡ hostTouched place (length bytes) → entryOn (c .unit) t ≡ entryFor c (stored c place bytes)
+    pub store-entry : (t : Touched) → t ≡ hostTouched place (length bytes) → entryOn c t ≡ entryFor c (stored c place bytes)
     unfolding entryFor stored
-    store-entry t h = rw right (ap (entryOn (c .unit)) h)
+    store-entry t h = rw right (ap (entryOn c) h)
 
-    pub store-after : (m′ : List ℕ) → m′ ≡ sets (c .memory) place bytes → (record { unit = c .unit; memory = m′; reel = c .reel }) ≡ stored c place bytes .after
+    pub store-after : (m′ : List ℕ) → m′ ≡ sets (c .memory) place bytes → (record { unit = c .unit; objects = c .objects; memory = m′; reel = c .reel; table = c .table }) ≡ stored c place bytes .after
     unfolding stored
     store-after m′ h = rw (right, h)
 
@@ -71,6 +83,6 @@ unfolding storeWrong
 store-right memory place n h k = rw (le-ltb hostLimit n h, le-ltb memory (place + n) k)
 
 -- the entry of a step that touches nothing saves no bytes
-pub bare-length : (u : Unit) (t : Touched) → t ≡ none → entryBare ≡ entryLength (entryOn u t)
+pub bare-length : (c : Core) (t : Touched) → t ≡ none → entryBare ≡ entryLength (entryOn c t)
 unfolding entryLength
-bare-length u t h = rw h
+bare-length c t h = rw h

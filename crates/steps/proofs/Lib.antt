@@ -2,5 +2,6 @@
 pub mod Outs
 pub mod Entered
 pub mod Called
-pub mod Backs
 pub mod Readies
+pub mod Backs
+pub mod Mounting

@@ -1,36 +1,41 @@
 -- Where the checks let pass, what a step touches lies inside memory and reel, and what an advance planned can be carried out.
-use mathlib.Core.Path.{_≡_, sym, ap, subst, _∙_}
-use mathlib.Core.Bool.{Bool, false}
+use mathlib.Core.Path.{_≡_, refl, sym, ap, subst, _∙_}
+use mathlib.Core.Bool.{Bool, true, false, _||_, true≢false}
 use mathlib.Core.List.{List}
-use Prim.Native.Nat.{ℕ, _+_, _≤_}
+use Prim.Native.Nat.{ℕ, _+_, _*_, _≤_}
 use native.Mathlib.Omega.{arith}
 use borrow.Author.Tests.{ltb-false}
 use lib.Dec.{ltb}
 use lib.ListN.{length}
 use Rattle.state.proofs.Tests.{neither}
+use Rattle.index.specs.Table.{placeLength, placesIn, placesLimit}
+use Rattle.index.specs.declared.Cut.{Cut}
+use Rattle.motions.specs.declared.parts.Laid.{Laid}
 use Rattle.commands.specs.Answers.{isStep}
 use Rattle.commands.specs.declared.plans.Answer.the-variants as answer
 use Rattle.commands.specs.declared.plans.Plan.{Plan}
 use Rattle.storing.specs.Stored.{Storable}
 use Rattle.advance.specs.Steps.{advanced}
-use Rattle.touched.specs.Touches.{Sizes, TouchedIn}
+use Rattle.touched.specs.Touches.{PlacesIn, Sizes, TouchedIn, placeBelow}
+use Rattle.touched.proofs.Fits.{places-inside}
 use Rattle.touched.specs.declared.Touched.{Touched}
-use Rattle.unit.specs.Steps.{hostLimit, storeWrong}
-use Rattle.unit.specs.Touching.{hostTouched, touchedBy}
+use Rattle.unit.specs.Steps.{cutFor, hostLimit, storeWrong, tooSmall}
+use Rattle.unit.specs.Touching.{hostTouched, laidPlaces, touchedBy}
+use Rattle.unit.proofs.Rows.{Enough, cut-fewer, cut-filled, cut-low, enough-after, enough-before}
 use Rattle.unit.proofs.Stepping.{advanced-fits}
 use Rattle.unit.proofs.Touches.{host-in, plan-in}
 use Rattle.worlds.specs.Refusals.{checked}
 use Rattle.worlds.specs.Worlds.{worldOf}
 use Rattle.worlds.specs.declared.Session.{Session}
 use Rattle.worlds.proofs.Passing.{core-accepted, passed, sizes}
-use Rattle.steps.specs.Readiness.{HostReady, Ready, Unrefused}
+use Rattle.steps.specs.Readiness.{CutReady, HostReady, Ready, Unrefused}
 
 module _ (s : Session) (m r : List ℕ) (journal : ℕ) (k : Unrefused s (length m) (length r) journal) where
   pub sound-sizes : Sizes (length m) (length r)
-  sound-sizes = sizes (worldOf s m r m) journal (passed s (length m) (length r) journal (k .right))
+  sound-sizes = sizes (worldOf s m r m m) journal (passed s (length m) (length r) journal (k .right))
 
-  pub step-in : (p : Plan) (t : Touched) → t ≡ touchedBy p → Storable p (length m) (length r) → TouchedIn t (length m) (length r)
-  step-in p t h f = subst (λ (x : Touched). TouchedIn x (length m) (length r)) (sym h) (plan-in p m r f sound-sizes)
+  pub step-in : (p : Plan) (k : ℕ) (t : Touched) → t ≡ touchedBy p k → Storable p (length m) (length r) → TouchedIn t (length m) (length r)
+  step-in p k t h f = subst (λ (x : Touched). TouchedIn x (length m) (length r)) (sym h) (plan-in p m r f k sound-sizes)
 
   pub store-in : (place : ℕ) (bytes : List ℕ) (t : Touched) → t ≡ hostTouched place (length bytes) → place + length bytes ≤ length m → TouchedIn t (length m) (length r)
   store-in place bytes t h i =
@@ -40,10 +45,10 @@ pub advance-ready : (s : Session) (p : Plan) (m r : List ℕ) (journal n : ℕ) 
 unfolding isStep
 advance-ready s p m r journal n e f q i d =
     let right = sym e ∙ f in
-    let a = core-accepted (worldOf s m r m) journal (passed s (length m) (length r) journal right) in
+    let a = core-accepted (worldOf s m r m m) journal (passed s (length m) (length r) journal right) in
     record {
       sound = record { right = right };
-      storable = subst (λ (x : Plan). Storable x (length m) (length r)) (sym q) (advanced-fits (worldOf s m r m .core) a);
+      storable = subst (λ (x : Plan). Storable x (length m) (length r)) (sym q) (advanced-fits (worldOf s m r m m .core) a);
       done = ap isStep d;
     }
 
@@ -56,3 +61,33 @@ host-ready s memory reel journal place n k t e f dt h =
       short = ltb-false hostLimit n (q .0);
       inside = ltb-false memory (place + n) (q .1);
     }
+
+-- a table that is too small for the objects now is so whatever comes after
+pub small-now : (table n n′ : ℕ) → tooSmall table n n ≡ true → tooSmall table n n′ ≡ true
+unfolding tooSmall
+small-now table n n′ h = by-part (ltb (placesIn table) n) (ltb (placesIn table) n′) h
+  where
+    by-part : (a b : Bool) → (a || a) ≡ true → (a || b) ≡ true
+    by-part true b h = refl
+    by-part false b h = absurd (true≢false (sym h))
+
+pub cut-counted : (l : Laid) (tb : List ℕ) (n : ℕ) (r : List ℕ) (x : Cut) → x ≡ cutFor l tb n r → tooSmall (length tb) n n ≡ false → x .place ≤ placesLimit
+cut-counted l tb n r x e h =
+    let low : x .place ≤ n = rw e (cut-low l tb n r) in
+    omega (arith, enough-before (length tb) n n h .few)
+
+-- the places that a step fills lie inside the table
+module _ (s : Session) (p : Plan) (c : Cut) (top : ℕ) (r tb : List ℕ) (memory journal : ℕ) (h : CutReady s p c top r tb memory journal) where
+  pub top-room : Enough (length tb) top
+  top-room = enough-after (length tb) (s .objects) top (h .large)
+
+  pub fills : placeLength * (c .place + laidPlaces (p .laid)) ≤ length tb
+  unfolding touchedBy
+  fills =
+      let filled : c .place ≡ placeBelow top (laidPlaces (p .laid)) = rw (h .after, h .cut) (cut-filled (p .laid) tb (s .objects) r) in
+      let fewer : laidPlaces (p .laid) ≤ top = rw (h .after, h .cut) (cut-fewer (p .laid) tb (s .objects) r) in
+      places-inside (touchedBy p (c .place)) top (length tb) filled fewer (top-room .room)
+
+  pub filled-in : (t : Touched) → t ≡ touchedBy p (c .place) → PlacesIn t (length tb)
+  unfolding touchedBy
+  filled-in t e = rw e fills

@@ -1,11 +1,14 @@
 -- What the checks have shown before a step is entered or undone. Lengths are in bytes.
-use mathlib.Core.Bool.{true}
+use mathlib.Core.Bool.{true, false}
+use mathlib.Core.List.{List}
 use mathlib.Core.Path.{_≡_}
 use Prim.Native.Nat.{ℕ, _+_, _≤_}
+use lib.ListN.{length}
 use Rattle.commands.specs.Answers.{isStep}
 use Rattle.commands.specs.declared.plans.Plan.{Plan}
 use Rattle.storing.specs.Stored.{Storable}
-use Rattle.unit.specs.Steps.{hostLimit}
+use Rattle.index.specs.declared.Cut.{Cut}
+use Rattle.unit.specs.Steps.{cutFor, hostLimit, objectsAfter, tooSmall}
 use Rattle.entries.specs.Entries.{entryBare}
 use Rattle.worlds.specs.Refusals.{checked}
 use Rattle.worlds.specs.declared.Session.{Session}
@@ -17,6 +20,13 @@ pub record Ready (s : Session) (p : Plan) (memory reel journal : ℕ) : Type 0 w
   pub sound : Unrefused s memory reel journal
   pub storable : Storable p memory reel
   pub done : isStep (p .answer) ≡ true
+
+-- a step whose table is large enough: it cuts the table tb at c, and leaves `top` places used
+pub record CutReady (s : Session) (p : Plan) (c : Cut) (top : ℕ) (r tb : List ℕ) (memory journal : ℕ) : Type 0 where
+  pub ready : Ready s p memory (length r) journal
+  pub cut : c ≡ cutFor (p .laid) tb (s .objects) r
+  pub after : top ≡ objectsAfter (p .laid) c (s .objects)
+  pub large : tooSmall (length tb) (s .objects) top ≡ false
 
 pub record HostReady (s : Session) (memory reel journal place n : ℕ) : Type 0 where
   pub sound : Unrefused s memory reel journal

@@ -10,11 +10,16 @@ use entries::enter_run;
 use entries::entry_fits;
 use entries::entry_length;
 use entries::newest_entry;
+use index::Cut;
 use state::Unit;
 use touched::nothing;
+use unit::cut_for;
+use unit::fill_places;
 use unit::host_touched;
+use unit::objects_after;
 use unit::put_host;
 use unit::store;
+use unit::too_small;
 use unit::touched_by;
 use worlds::Outcome;
 use worlds::Session;
@@ -24,7 +29,7 @@ ghost use lib.ListN.{length};
 ghost use Rattle.unit.specs.Steps.{carried, changed, stored};
 ghost use Rattle.worlds.specs.Worlds.{Leaves, worldOf};
 ghost use Rattle.worlds.specs.Calls.{takenAs, undoOn};
-ghost use Rattle.steps.specs.Readiness.{HostReady, Ready, Unrefused, Undoable};
+ghost use Rattle.steps.specs.Readiness.{CutReady, HostReady, Ready, Unrefused, Undoable};
 
 // Refusal n changes nothing.
 pub fn refused(s: Session, n: usize) -> Outcome
@@ -36,40 +41,97 @@ pub fn refused(s: Session, n: usize) -> Outcome
     }
 }
 
-// A step with plan p: refused with 9 where its entry doesn't fit, else entered and then carried out.
-pub fn step(s: Session, p: Plan, mem: &mut [u8], reel: &mut [u8], jrnl: &mut [u8]) -> Outcome
-    requires { ⌜ Ready s p (length (now mem)) (length (now reel)) (length (now jrnl)) ⌝ }
-    ensures { λ r. ⌜ Leaves (takenAs (worldOf s (now (mem .entry)) (now (reel .entry)) (now (jrnl .entry))) (carried (record { unit = s .unit; memory = now (mem .entry); reel = now (reel .entry) }) p) (p .answer)) (now (jrnl .entry)) r (now (mem .exit)) (now (reel .exit)) (now (jrnl .exit)) ⌝ }
+// A step with plan p, for which the table is large enough: refused with 9 where its entry doesn't fit, else entered and then carried out. It cuts the table at
+// c, and leaves so many places used.
+fn take_step(
+    s: Session,
+    p: Plan,
+    c: Cut,
+    top: usize,
+    mem: &mut [u8],
+    reel: &mut [u8],
+    table: &mut [u8],
+    jrnl: &mut [u8],
+) -> Outcome
+    requires { ⌜ CutReady s p c top (now reel) (now table) (length (now mem)) (length (now jrnl)) ⌝ }
+    ensures { λ r. ⌜ Leaves (takenAs (worldOf s (now (mem .entry)) (now (reel .entry)) (now (table .entry)) (now (jrnl .entry))) (carried (record { unit = s .unit; objects = s .objects; memory = now (mem .entry); reel = now (reel .entry); table = now (table .entry) }) p) (p .answer)) (now (jrnl .entry)) r (now (mem .exit)) (now (reel .exit)) (now (table .exit)) (now (jrnl .exit)) ⌝ }
 {
     let unit = s.unit;
-    let touched = touched_by(p);
-    let e = Entry { unit, touched };
+    let touched = touched_by(p, c.place);
+    let e = Entry {
+        unit,
+        objects: s.objects,
+        touched,
+    };
     let n = entry_length(e, mem.len(), reel.len());
     if s.journal - s.used < n {
         return refused(s, 9);
     }
-    enter(jrnl, s.used, e, mem, reel);
+    enter(jrnl, s.used, e, mem, reel, table);
     store(p, mem, reel);
+    let l = p.laid;
+    fill_places(table, l, c);
     let answer = p.answer;
     let next = p.unit;
     Outcome {
         answer,
         session: Session {
             unit: next,
+            objects: top as u32,
             used: s.used + n,
             journal: s.journal,
         },
     }
 }
 
-// A change of the state alone: its entry saves no bytes, and nothing is stored.
-pub fn change(s: Session, next: Unit, mem: &mut [u8], reel: &mut [u8], jrnl: &mut [u8]) -> Outcome
-    requires { ⌜ Unrefused s (length (now mem)) (length (now reel)) (length (now jrnl)) ⌝ }
-    ensures { λ r. ⌜ Leaves (takenAs (worldOf s (now (mem .entry)) (now (reel .entry)) (now (jrnl .entry))) (carried (record { unit = s .unit; memory = now (mem .entry); reel = now (reel .entry) }) (changed next)) (Answer.Done false)) (now (jrnl .entry)) r (now (mem .exit)) (now (reel .exit)) (now (jrnl .exit)) ⌝ }
+// A step with plan p: 11 where the table is too small for the objects before it or after it; then 9.
+pub fn step(
+    s: Session,
+    p: Plan,
+    mem: &mut [u8],
+    reel: &mut [u8],
+    table: &mut [u8],
+    jrnl: &mut [u8],
+) -> Outcome
+    requires { ⌜ Ready s p (length (now mem)) (length (now reel)) (length (now jrnl)) ⌝ }
+    ensures { λ r. ⌜ Leaves (takenAs (worldOf s (now (mem .entry)) (now (reel .entry)) (now (table .entry)) (now (jrnl .entry))) (carried (record { unit = s .unit; objects = s .objects; memory = now (mem .entry); reel = now (reel .entry); table = now (table .entry) }) p) (p .answer)) (now (jrnl .entry)) r (now (mem .exit)) (now (reel .exit)) (now (table .exit)) (now (jrnl .exit)) ⌝ }
 {
+    let objects = s.objects as usize;
+    if too_small(table.len(), objects, objects) {
+        return refused(s, 11);
+    }
+    let l = p.laid;
+    let c = cut_for(l, table, objects, reel);
+    let top = objects_after(l, c, objects);
+    if too_small(table.len(), objects, top) {
+        return refused(s, 11);
+    }
+    take_step(s, p, c, top, mem, reel, table, jrnl)
+}
+
+// A change of the state alone: its entry saves no bytes, and nothing is stored.
+pub fn change(
+    s: Session,
+    next: Unit,
+    mem: &mut [u8],
+    reel: &mut [u8],
+    table: &[u8],
+    jrnl: &mut [u8],
+) -> Outcome
+    requires { ⌜ Unrefused s (length (now mem)) (length (now reel)) (length (now jrnl)) ⌝ }
+    ensures { λ r. ⌜ Leaves (takenAs (worldOf s (now (mem .entry)) (now (reel .entry)) (now (table .entry)) (now (jrnl .entry))) (carried (record { unit = s .unit; objects = s .objects; memory = now (mem .entry); reel = now (reel .entry); table = now (table .entry) }) (changed next)) (Answer.Done false)) (now (jrnl .entry)) r (now (mem .exit)) (now (reel .exit)) (now (table .entry)) (now (jrnl .exit)) ⌝ }
+{
+    let objects = s.objects as usize;
+    if too_small(table.len(), objects, objects) {
+        return refused(s, 11);
+    }
     let unit = s.unit;
     let touched = nothing();
-    let e = Entry { unit, touched };
+    let e = Entry {
+        unit,
+        objects: s.objects,
+        touched,
+    };
     if s.journal - s.used < BARE {
         return refused(s, 9);
     }
@@ -78,6 +140,7 @@ pub fn change(s: Session, next: Unit, mem: &mut [u8], reel: &mut [u8], jrnl: &mu
         answer: Answer::Done(false),
         session: Session {
             unit: next,
+            objects: s.objects,
             used: s.used + BARE,
             journal: s.journal,
         },
@@ -89,16 +152,25 @@ pub fn host_step(
     s: Session,
     mem: &mut [u8],
     reel: &[u8],
+    table: &[u8],
     jrnl: &mut [u8],
     place: usize,
     bytes: &[u8],
 ) -> Outcome
     requires { ⌜ HostReady s (length (now mem)) (length (now reel)) (length (now jrnl)) place (length (now bytes)) ⌝ }
-    ensures { λ r. ⌜ Leaves (takenAs (worldOf s (now (mem .entry)) (now (reel .entry)) (now (jrnl .entry))) (stored (record { unit = s .unit; memory = now (mem .entry); reel = now (reel .entry) }) place (now (bytes .entry))) (Answer.Done false)) (now (jrnl .entry)) r (now (mem .exit)) (now (reel .entry)) (now (jrnl .exit)) ⌝ }
+    ensures { λ r. ⌜ Leaves (takenAs (worldOf s (now (mem .entry)) (now (reel .entry)) (now (table .entry)) (now (jrnl .entry))) (stored (record { unit = s .unit; objects = s .objects; memory = now (mem .entry); reel = now (reel .entry); table = now (table .entry) }) place (now (bytes .entry))) (Answer.Done false)) (now (jrnl .entry)) r (now (mem .exit)) (now (reel .entry)) (now (table .entry)) (now (jrnl .exit)) ⌝ }
 {
+    let objects = s.objects as usize;
+    if too_small(table.len(), objects, objects) {
+        return refused(s, 11);
+    }
     let unit = s.unit;
     let touched = host_touched(place, bytes.len());
-    let e = Entry { unit, touched };
+    let e = Entry {
+        unit,
+        objects: s.objects,
+        touched,
+    };
     let n = entry_length(e, mem.len(), reel.len());
     if s.journal - s.used < n {
         return refused(s, 9);
@@ -110,29 +182,36 @@ pub fn host_step(
         answer: Answer::Done(false),
         session: Session {
             unit: same,
+            objects: s.objects,
             used: s.used + n,
             journal: s.journal,
         },
     }
 }
 
-// The newest entry brought back, if its numbers fit and the state it holds is one that 1 accepts.
-pub fn undo(s: Session, mem: &mut [u8], reel: &mut [u8], jrnl: &[u8]) -> Outcome
+// The newest entry brought back: 8 if its numbers don't fit or the state it holds is one that 1 refuses, 11 if the table is too small for the objects now or
+// for those that come back.
+pub fn undo(s: Session, mem: &mut [u8], reel: &mut [u8], table: &mut [u8], jrnl: &[u8]) -> Outcome
     requires { ⌜ Undoable s (length (now mem)) (length (now reel)) (length (now jrnl)) ⌝ }
-    ensures { λ r. ⌜ Leaves (undoOn (worldOf s (now (mem .entry)) (now (reel .entry)) (now (jrnl .entry)))) (now (jrnl .entry)) r (now (mem .exit)) (now (reel .exit)) (now (jrnl .entry)) ⌝ }
+    ensures { λ r. ⌜ Leaves (undoOn (worldOf s (now (mem .entry)) (now (reel .entry)) (now (table .entry)) (now (jrnl .entry)))) (now (jrnl .entry)) r (now (mem .exit)) (now (reel .exit)) (now (table .exit)) (now (jrnl .entry)) ⌝ }
 {
-    let e = newest_entry(jrnl, s.used);
+    let e = newest_entry(jrnl, s.used, s.objects);
     let unit = e.unit;
     let mounted = s.unit.lengths;
-    if !(entry_fits(e, s.used, mounted, mem.len(), reel.len()) & !state::state_wrong(unit)) {
+    if !(entry_fits(e, s.used, mounted, mem.len(), reel.len(), s.objects)
+        & !state::state_wrong(unit)) {
         return refused(s, 8);
     }
+    if too_small(table.len(), s.objects as usize, e.objects as usize) {
+        return refused(s, 11);
+    }
     let n = entry_length(e, mem.len(), reel.len());
-    bring_entry_back(jrnl, s.used, e, mem, reel);
+    bring_entry_back(jrnl, s.used, e, mem, reel, table);
     Outcome {
         answer: Answer::Done(false),
         session: Session {
             unit,
+            objects: e.objects,
             used: s.used - n,
             journal: s.journal,
         },

@@ -21,19 +21,20 @@ use Rattle.worlds.specs.declared.Outcome.{Outcome}
 use Rattle.worlds.specs.declared.RegisterRead.{RegisterRead}
 use Rattle.stateblock.specs.Block.{blockAfter, isBlock, sessionIn, stateBlock}
 
--- all that a host holds and hands to a call: the state's block and three buffers
+-- all that a host holds and hands to a call: the state's block and four buffers
 pub record Host : Type 0 where
   pub block : List ℕ
   pub memory : List ℕ
   pub reel : List ℕ
+  pub table : List ℕ
   pub journal : List ℕ
 
-abbrev pub holding : (b m r j : List ℕ) → Host
-holding b m r j = record { block = b; memory = m; reel = r; journal = j }
+abbrev pub holding : (b m r tb j : List ℕ) → Host
+holding b m r tb j = record { block = b; memory = m; reel = r; table = tb; journal = j }
 
 -- the world of the session that it holds
 abbrev pub worldIn : Host → World
-worldIn h = worldOf (sessionIn (h .block)) (h .memory) (h .reel) (h .journal)
+worldIn h = worldOf (sessionIn (h .block)) (h .memory) (h .reel) (h .table) (h .journal)
 
 -- bytes that are no session's block are refused with 1, as a state out of range is
 unfoldable pub opened : Host → Answered → Answered
@@ -68,6 +69,7 @@ pub record Gives (h : Host) (x : Answered) (number : ℕ) (h′ : Host) : Type 0
   pub state : h′ .block ≡ blockAfter (h .block) (x .answer) (sessionOf (x .world))
   pub memory : h′ .memory ≡ x .world .core .memory
   pub reel : h′ .reel ≡ x .world .core .reel
+  pub table : h′ .table ≡ x .world .core .table
   pub journal : usedIn (x .world .ledger .used) (h′ .journal) ≡ x .world .ledger .bytes
   -- and every byte of it where no step was taken
   pub unless-step : isStep (x .answer) ≡ false → h′ .journal ≡ h .journal
@@ -84,9 +86,10 @@ pub record Reads (x : RegisterRead) (number w : ℕ) : Type 0 where
   pub answer : number ≡ numberOf (x .answer)
   pub word : w ≡ x .word
 
--- a mount: "a refused mount hands that back"
-pub record Mounts (b : List ℕ) (o : Outcome) (number : ℕ) (b′ : List ℕ) (k f : ℕ) : Type 0 where
+-- a mount, whose table is then tb: "a refused mount hands that back"
+pub record Mounts (b : List ℕ) (o : Outcome) (tb : List ℕ) (number : ℕ) (b′ tb′ : List ℕ) (k f : ℕ) : Type 0 where
   pub answer : number ≡ numberOf (o .answer)
   pub state : b′ ≡ blockAfter b (o .answer) (o .session)
+  pub table : tb′ ≡ tb
   pub block : k ≡ blockIn (o .answer)
   pub fault : f ≡ faultIn (o .answer)

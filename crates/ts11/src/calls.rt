@@ -1,4 +1,5 @@
 // The exported calls. A buffer is a pointer and a length; buffers do not overlap.
+use crate::finds::number_in;
 use commands::Answer;
 use state::Act;
 use stateblock::block_right;
@@ -8,7 +9,9 @@ use unit::Register;
 ghost use mathlib.Core.Path.{_≡_};
 ghost use Rattle.commands.specs.Answers.{blockIn, faultIn, interruptIn, isStep, numberOf};
 ghost use Rattle.unit.specs.Asks.{Ask};
-ghost use Rattle.worlds.specs.Calls.{mountOn};
+ghost use lib.ListN.{length};
+ghost use Rattle.tape.specs.Afresh.{objectsIn};
+ghost use Rattle.worlds.specs.Calls.{mountOn, tableMounted};
 ghost use Rattle.stateblock.specs.Block.{sessionIn};
 ghost use Rattle.ts11.specs.Given.{Gives, Mounts, Reads, Tells, actOf, backGiven, holding, registerGiven, registerOf, stepGiven};
 
@@ -64,6 +67,7 @@ pub extern "C" fn ts11_mount(
     state: &mut [u8; 128],
     memory_length: usize,
     reel: &[u8],
+    table: &mut [u8],
     journal_length: usize,
     end: usize,
     online: bool,
@@ -71,13 +75,14 @@ pub extern "C" fn ts11_mount(
     block: &mut usize,
     fault: &mut u8,
 ) -> usize
-    ensures { λ r. ⌜ Mounts (now (state .entry)) (mountOn (sessionIn (now (state .entry))) «memory_length» (now (reel .entry)) «journal_length» end online locked) r (now (state .exit)) (now (block .exit)) (now (fault .exit)) ⌝ }
+    ensures { λ r. ⌜ Mounts (now (state .entry)) (mountOn (sessionIn (now (state .entry))) «memory_length» (now (reel .entry)) (length (now (table .entry))) «journal_length» end online locked) (tableMounted (now (table .entry)) (objectsIn (now (reel .entry)) end) (mountOn (sessionIn (now (state .entry))) «memory_length» (now (reel .entry)) (length (now (table .entry))) «journal_length» end online locked .answer)) r (now (state .exit)) (now (table .exit)) (now (block .exit)) (now (fault .exit)) ⌝ }
 {
     let session = session_in(state);
     let o = journal::mount(
         session,
         memory_length,
         reel,
+        table,
         journal_length,
         end,
         online,
@@ -94,17 +99,18 @@ pub extern "C" fn ts11_write_tsdb(
     state: &mut [u8; 128],
     memory: &mut [u8],
     reel: &mut [u8],
+    table: &[u8],
     journal: &mut [u8],
     word: u16,
 ) -> usize
-    ensures { λ r. ⌜ Gives (holding (now (state .entry)) (now (memory .entry)) (now (reel .entry)) (now (journal .entry))) (stepGiven (Ask.write-tsdb word) (holding (now (state .entry)) (now (memory .entry)) (now (reel .entry)) (now (journal .entry)))) r (holding (now (state .exit)) (now (memory .exit)) (now (reel .exit)) (now (journal .exit))) ⌝ }
+    ensures { λ r. ⌜ Gives (holding (now (state .entry)) (now (memory .entry)) (now (reel .entry)) (now (table .entry)) (now (journal .entry))) (stepGiven (Ask.write-tsdb word) (holding (now (state .entry)) (now (memory .entry)) (now (reel .entry)) (now (table .entry)) (now (journal .entry)))) r (holding (now (state .exit)) (now (memory .exit)) (now (reel .exit)) (now (table .entry)) (now (journal .exit))) ⌝ }
 {
     if !block_right(state) {
         return 1;
     }
     close(
         state,
-        journal::write_tsdb(session_in(state), memory, reel, journal, word),
+        journal::write_tsdb(session_in(state), memory, reel, table, journal, word),
     )
 }
 
@@ -113,17 +119,18 @@ pub extern "C" fn ts11_write_tssr(
     state: &mut [u8; 128],
     memory: &mut [u8],
     reel: &mut [u8],
+    table: &[u8],
     journal: &mut [u8],
     _word: u16,
 ) -> usize
-    ensures { λ r. ⌜ Gives (holding (now (state .entry)) (now (memory .entry)) (now (reel .entry)) (now (journal .entry))) (stepGiven Ask.write-tssr (holding (now (state .entry)) (now (memory .entry)) (now (reel .entry)) (now (journal .entry)))) r (holding (now (state .exit)) (now (memory .exit)) (now (reel .exit)) (now (journal .exit))) ⌝ }
+    ensures { λ r. ⌜ Gives (holding (now (state .entry)) (now (memory .entry)) (now (reel .entry)) (now (table .entry)) (now (journal .entry))) (stepGiven Ask.write-tssr (holding (now (state .entry)) (now (memory .entry)) (now (reel .entry)) (now (table .entry)) (now (journal .entry)))) r (holding (now (state .exit)) (now (memory .exit)) (now (reel .exit)) (now (table .entry)) (now (journal .exit))) ⌝ }
 {
     if !block_right(state) {
         return 1;
     }
     close(
         state,
-        journal::write_tssr(session_in(state), memory, reel, journal),
+        journal::write_tssr(session_in(state), memory, reel, table, journal),
     )
 }
 
@@ -142,11 +149,12 @@ pub extern "C" fn ts11_operate(
     state: &mut [u8; 128],
     memory: &mut [u8],
     reel: &mut [u8],
+    table: &[u8],
     journal: &mut [u8],
     write_lock: bool,
     on: bool,
 ) -> usize
-    ensures { λ r. ⌜ Gives (holding (now (state .entry)) (now (memory .entry)) (now (reel .entry)) (now (journal .entry))) (stepGiven (Ask.operate (actOf «write_lock» on)) (holding (now (state .entry)) (now (memory .entry)) (now (reel .entry)) (now (journal .entry)))) r (holding (now (state .exit)) (now (memory .exit)) (now (reel .exit)) (now (journal .exit))) ⌝ }
+    ensures { λ r. ⌜ Gives (holding (now (state .entry)) (now (memory .entry)) (now (reel .entry)) (now (table .entry)) (now (journal .entry))) (stepGiven (Ask.operate (actOf «write_lock» on)) (holding (now (state .entry)) (now (memory .entry)) (now (reel .entry)) (now (table .entry)) (now (journal .entry)))) r (holding (now (state .exit)) (now (memory .exit)) (now (reel .exit)) (now (table .entry)) (now (journal .exit))) ⌝ }
 {
     if !block_right(state) {
         return 1;
@@ -157,6 +165,7 @@ pub extern "C" fn ts11_operate(
             session_in(state),
             memory,
             reel,
+            table,
             journal,
             act_of(write_lock, on),
         ),
@@ -167,17 +176,6 @@ fn register_of(tssr: bool) -> Register
     ensures { λ r. ⌜ r ≡ registerOf tssr ⌝ }
 {
     if tssr { Register::Tssr } else { Register::Tsba }
-}
-
-fn number_in(a: Answer) -> usize
-    ensures { λ r. ⌜ r ≡ numberOf a ⌝ }
-{
-    match a {
-        Answer::Done(_) => 0,
-        Answer::Idle => 0,
-        Answer::Refused(n) => n,
-        Answer::BadBlock(_, _) => 7,
-    }
 }
 
 #[no_mangle]
@@ -200,18 +198,27 @@ pub extern "C" fn ts11_host_store(
     state: &mut [u8; 128],
     memory: &mut [u8],
     reel: &[u8],
+    table: &[u8],
     journal: &mut [u8],
     place: usize,
     bytes: &[u8],
 ) -> usize
-    ensures { λ r. ⌜ Gives (holding (now (state .entry)) (now (memory .entry)) (now (reel .entry)) (now (journal .entry))) (stepGiven (Ask.host-store place (now (bytes .entry))) (holding (now (state .entry)) (now (memory .entry)) (now (reel .entry)) (now (journal .entry)))) r (holding (now (state .exit)) (now (memory .exit)) (now (reel .entry)) (now (journal .exit))) ⌝ }
+    ensures { λ r. ⌜ Gives (holding (now (state .entry)) (now (memory .entry)) (now (reel .entry)) (now (table .entry)) (now (journal .entry))) (stepGiven (Ask.host-store place (now (bytes .entry))) (holding (now (state .entry)) (now (memory .entry)) (now (reel .entry)) (now (table .entry)) (now (journal .entry)))) r (holding (now (state .exit)) (now (memory .exit)) (now (reel .entry)) (now (table .entry)) (now (journal .exit))) ⌝ }
 {
     if !block_right(state) {
         return 1;
     }
     close(
         state,
-        journal::host_store(session_in(state), memory, reel, journal, place, bytes),
+        journal::host_store(
+            session_in(state),
+            memory,
+            reel,
+            table,
+            journal,
+            place,
+            bytes,
+        ),
     )
 }
 
@@ -220,14 +227,15 @@ pub extern "C" fn ts11_advance(
     state: &mut [u8; 128],
     memory: &mut [u8],
     reel: &mut [u8],
+    table: &mut [u8],
     journal: &mut [u8],
     stepped: &mut bool,
     interrupt: &mut bool,
     block: &mut usize,
     fault: &mut u8,
 ) -> usize
-    ensures { λ r. ⌜ Gives (holding (now (state .entry)) (now (memory .entry)) (now (reel .entry)) (now (journal .entry))) (stepGiven Ask.advance (holding (now (state .entry)) (now (memory .entry)) (now (reel .entry)) (now (journal .entry)))) r (holding (now (state .exit)) (now (memory .exit)) (now (reel .exit)) (now (journal .exit))) ⌝ }
-    ensures { λ _. ⌜ Tells (stepGiven Ask.advance (holding (now (state .entry)) (now (memory .entry)) (now (reel .entry)) (now (journal .entry)))) (now (stepped .exit)) (now (interrupt .exit)) (now (block .exit)) (now (fault .exit)) ⌝ }
+    ensures { λ r. ⌜ Gives (holding (now (state .entry)) (now (memory .entry)) (now (reel .entry)) (now (table .entry)) (now (journal .entry))) (stepGiven Ask.advance (holding (now (state .entry)) (now (memory .entry)) (now (reel .entry)) (now (table .entry)) (now (journal .entry)))) r (holding (now (state .exit)) (now (memory .exit)) (now (reel .exit)) (now (table .exit)) (now (journal .exit))) ⌝ }
+    ensures { λ _. ⌜ Tells (stepGiven Ask.advance (holding (now (state .entry)) (now (memory .entry)) (now (reel .entry)) (now (table .entry)) (now (journal .entry)))) (now (stepped .exit)) (now (interrupt .exit)) (now (block .exit)) (now (fault .exit)) ⌝ }
 {
     if !block_right(state) {
         *stepped = false;
@@ -237,7 +245,7 @@ pub extern "C" fn ts11_advance(
         return 1;
     }
     let session = session_in(state);
-    let o = journal::advance(session, memory, reel, journal);
+    let o = journal::advance(session, memory, reel, table, journal);
     let answer = o.answer;
     *stepped = is_step(answer);
     *interrupt = interrupts(answer);
@@ -251,15 +259,16 @@ pub extern "C" fn ts11_step_back(
     state: &mut [u8; 128],
     memory: &mut [u8],
     reel: &mut [u8],
+    table: &mut [u8],
     journal: &[u8],
 ) -> usize
-    ensures { λ r. ⌜ Gives (holding (now (state .entry)) (now (memory .entry)) (now (reel .entry)) (now (journal .entry))) (backGiven (holding (now (state .entry)) (now (memory .entry)) (now (reel .entry)) (now (journal .entry)))) r (holding (now (state .exit)) (now (memory .exit)) (now (reel .exit)) (now (journal .entry))) ⌝ }
+    ensures { λ r. ⌜ Gives (holding (now (state .entry)) (now (memory .entry)) (now (reel .entry)) (now (table .entry)) (now (journal .entry))) (backGiven (holding (now (state .entry)) (now (memory .entry)) (now (reel .entry)) (now (table .entry)) (now (journal .entry)))) r (holding (now (state .exit)) (now (memory .exit)) (now (reel .exit)) (now (table .exit)) (now (journal .entry))) ⌝ }
 {
     if !block_right(state) {
         return 1;
     }
     close(
         state,
-        journal::step_back(session_in(state), memory, reel, journal),
+        journal::step_back(session_in(state), memory, reel, table, journal),
     )
 }

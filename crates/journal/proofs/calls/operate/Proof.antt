@@ -15,7 +15,7 @@ refused-requires c κs = search needs
 
 returns : tie.Need-returns
 unfolding stepOn
-returns c = guarded-stops _ _ _ _ _ _ _ (c .before .before .check .ensures) (c .before .if1 .taken) (c .refused .ensures .0) (c .refused .ensures .1)
+returns c = guarded-stops _ _ _ _ _ _ _ _ (c .before .before .check .ensures) (c .before .if1 .taken) (c .refused .ensures .0) (c .refused .ensures .1)
 
 operate-requires : tie.Need-operate-requires
 operate-requires c κs = search needs
@@ -34,7 +34,7 @@ same-length-3 c = search needs
 
 returns-2 : tie.Need-returns-2
 unfolding stepOn stepOf
-returns-2 c = guarded-goes _ _ _ _ _ _ _ _ _ _ (c .before .before .before .before .before .before .before .before .before .before .before .before .before .check .ensures) (c .before .before .before .before .before .before .before .before .before .before .before .before .if1 .left) (change-takes _ _ _ _ _ _ _ _ _ _ (c .before .before .before .before .before .before .before .before .before .before .operate .ensures) (c .before .before .before .before .before .before .change .ensures))
+returns-2 c = guarded-goes _ _ _ _ _ _ _ _ _ _ _ _ (c .before .before .before .before .before .before .before .before .before .before .before .before .before .check .ensures) (c .before .before .before .before .before .before .before .before .before .before .before .before .if1 .left) (change-takes _ _ _ _ _ _ _ _ _ _ _ _ (c .before .before .before .before .before .before .before .before .before .before .operate .ensures) (c .before .before .before .before .before .before .change .ensures))
 
 pub operate-spec : {M : Type 1} → statement M
 operate-spec =

@@ -10,9 +10,6 @@ array-read-free c = search needs
 array-read-free-2 : tie.Need-array-read-free-2
 array-read-free-2 c = search needs
 
-array-read-free-3 : tie.Need-array-read-free-3
-array-read-free-3 c = search needs
-
 array-read-result : tie.Need-array-read-result
 array-read-result c = search needs
 
@@ -38,7 +35,6 @@ rest-zero-spec =
     (tie.spec
     array-read-free
     array-read-free-2
-    array-read-free-3
     array-read-result
     array-read-result-2
     array-read-result-3

@@ -1,44 +1,40 @@
--- `step` meets its contract: refusal 9, or the entry first and then the stores.
-use Rattle.steps.proofs.Outs.{taken-goes, taken-stops}
-use Rattle.steps.proofs.Entered.{step-after, step-entry}
-use Rattle.steps.proofs.Readies.{step-in}
+-- `step` meets its contract: refusal 11 for the objects before it, or for those after it, else the step.
+use mathlib.Core.Path.{ap, sym, _∙_}
+use Rattle.unit.specs.Steps.{tooSmall}
+use Rattle.steps.proofs.Outs.{small-stops}
+use Rattle.steps.proofs.Entered.{step-objects}
+use Rattle.steps.proofs.Readies.{cut-counted, small-now}
+use Rattle.unit.proofs.Rows.{enough-before}
 use Rattle.worlds.specs.Worlds.{worldOf}
-use Rattle.worlds.proofs.Passing.{passed, room}
-use native.Mathlib.Omega.{arith}
 use borrow.Author.Needs.{needs}
 use Rattle.steps.proofs.steps.step.Statement.{statement}
 use Rattle.steps.proofs.steps.step.Tie as tie
 
-touched-by-requires : tie.Need-touched-by-requires
-touched-by-requires c κs = search needs
+cast-objects : tie.Need-cast-objects
+cast-objects c = search needs
 
-entry-length-requires : tie.Need-entry-length-requires
-entry-length-requires c κs =
-    let s = c .before .before .before .before .before in
-    step-in (s .args .s) (s .args .mem .now) (s .args .reel .now) _ (s .pre .sound) (s .args .p) _ (c .touched-by .ensures) (s .pre .storable)
-
-sub-if1 : tie.Need-sub-if1
-sub-if1 c = omega (arith, passed _ _ _ _ (c .before .before .before .before .before .before .before .pre .sound .right) .used)
+too-small-requires : tie.Need-too-small-requires
+too-small-requires c κs = search needs
 
 refused-requires : tie.Need-refused-requires
 refused-requires c κs = search needs
 
 returns : tie.Need-returns
-returns c = taken-stops _ _ _ _ _ _ _ (step-entry _ _ _ (c .before .before .before .before .touched-by .ensures)) (c .before .before .before .entry-length .ensures) _ _ (c .before .if1 .taken) (c .refused .ensures .0) (c .refused .ensures .1)
+returns c = small-stops _ _ _ _ _ _ _ _ (small-now _ _ _ (sym (c .before .before .too-small .ensures) ∙ c .before .if1 .taken)) (c .refused .ensures .0) (c .refused .ensures .1)
 
-enter-requires : tie.Need-enter-requires
-enter-requires c κs =
+cut-for-requires : tie.Need-cut-for-requires
+cut-for-requires c κs = enough-before _ _ _ (sym (c .before .before .before .before .too-small .ensures) ∙ c .before .before .before .if1 .left) .room
+
+objects-after-requires : tie.Need-objects-after-requires
+objects-after-requires c κs =
     let s = c .before .before .before .before .before .before .before .before .before .before .before in
-    let w = worldOf (s .args .s) (s .args .mem .now) (s .args .reel .now) (s .args .jrnl .now) in (
-      room w _ (passed _ _ _ _ (s .pre .sound .right)) _ _ (c .before .before .before .before .before .entry-length .ensures) (c .before .before .before .if1 .left),
-      step-in (s .args .s) (s .args .mem .now) (s .args .reel .now) _ (s .pre .sound) (s .args .p) _ (c .before .before .before .before .before .before .touched-by .ensures) (s .pre .storable),
-    )
+    cut-counted _ (s .args .table .now) _ (s .args .reel .now) _ (c .cut-for .ensures) (sym (c .before .before .before .before .before .too-small .ensures) ∙ c .before .before .before .before .if1 .left)
 
-store-requires : tie.Need-store-requires
-store-requires c κs = search needs
+too-small-requires-2 : tie.Need-too-small-requires-2
+too-small-requires-2 c κs = search needs
 
-add-t13 : tie.Need-add-t13
-add-t13 c = search needs
+refused-requires-2 : tie.Need-refused-requires-2
+refused-requires-2 c κs = search needs
 
 same-length : tie.Need-same-length
 same-length c = search needs
@@ -46,28 +42,55 @@ same-length c = search needs
 same-length-2 : tie.Need-same-length-2
 same-length-2 c = search needs
 
+returns-2 : tie.Need-returns-2
+returns-2 c =
+    let s = c .before .before .before .before .before .before .before .before .before .before .before .before .before .before .before in
+    let w = worldOf (s .args .s) (s .args .mem .now) (s .args .reel .now) (s .args .table .now) (s .args .jrnl .now) in
+    let top = step-objects (w .core) (s .args .p) _ (c .before .before .before .before .cut-for .ensures) _ (c .before .before .before .objects-after .ensures) in
+    small-stops _ _ _ _ _ _ _ _ (sym (ap (tooSmall _ _) top) ∙ sym (c .before .before .too-small2 .ensures) ∙ c .before .if2 .taken) (c .refused2 .ensures .0) (c .refused2 .ensures .1)
+
+take-step-requires : tie.Need-take-step-requires
+take-step-requires c κs =
+    record {
+      ready = c .before .before .before .before .before .before .before .before .before .before .before .before .before .before .before .before .before .before .pre;
+      cut = c .before .before .before .before .before .before .before .cut-for .ensures;
+      after = c .before .before .before .before .before .before .objects-after .ensures;
+      large = sym (c .before .before .before .before .before .too-small2 .ensures) ∙ c .before .before .before .before .if2 .left;
+    }
+
 same-length-3 : tie.Need-same-length-3
 same-length-3 c = search needs
 
-returns-2 : tie.Need-returns-2
-returns-2 c =
-    let s = c .before .before .before .before .before .before .before .before .before .before .before .before .before .before .before .before .before .before .before .before .before .before .before in
-    let w = worldOf (s .args .s) (s .args .mem .now) (s .args .reel .now) (s .args .jrnl .now) in
-    taken-goes _ _ _ _ _ _ _ (step-entry _ _ _ (c .before .before .before .before .before .before .before .before .before .before .before .before .before .before .before .before .before .before .touched-by .ensures)) (c .before .before .before .before .before .before .before .before .before .before .before .before .before .before .before .before .before .entry-length .ensures) _ _ _ _ _ (s .pre .done) (c .before .before .before .before .before .before .before .before .before .before .before .before .before .before .before .if1 .left) (room w _ (passed _ _ _ _ (s .pre .sound .right)) _ _ (c .before .before .before .before .before .before .before .before .before .before .before .before .before .before .before .before .before .entry-length .ensures) (c .before .before .before .before .before .before .before .before .before .before .before .before .before .before .before .if1 .left)) (c .before .before .before .before .before .before .before .before .before .before .before .enter .ensures) (step-after _ _ _ _ (c .before .before .before .before .before .before .store .ensures))
+same-length-4 : tie.Need-same-length-4
+same-length-4 c = search needs
+
+same-length-5 : tie.Need-same-length-5
+same-length-5 c = search needs
+
+same-length-6 : tie.Need-same-length-6
+same-length-6 c = search needs
+
+returns-3 : tie.Need-returns-3
+returns-3 c = c .before .before .before .before .before .before .before .before .take-step .ensures
 
 pub step-spec : {M : Type 1} → statement M
 step-spec =
     tie.close
     (tie.spec
-    touched-by-requires
-    entry-length-requires
-    sub-if1
+    cast-objects
+    too-small-requires
     refused-requires
     returns
-    enter-requires
-    store-requires
-    add-t13
+    cut-for-requires
+    objects-after-requires
+    too-small-requires-2
+    refused-requires-2
     same-length
     same-length-2
+    returns-2
+    take-step-requires
     same-length-3
-    returns-2)
+    same-length-4
+    same-length-5
+    same-length-6
+    returns-3)

@@ -40,13 +40,16 @@ same-length-2 c = search needs
 same-length-3 : tie.Need-same-length-3
 same-length-3 c = search needs
 
+same-length-4 : tie.Need-same-length-4
+same-length-4 c = search needs
+
 returns-2 : tie.Need-returns-2
 returns-2 c =
-    let right = c .before .before .before .before .before .before .before .before .before .before .before .before .before .before .before .before .before .before .before .block-right .ensures in
-    let opens = c .before .before .before .before .before .before .before .before .before .before .before .before .before .before .before .before .before .before .if1 .left in
-    let read = c .before .before .before .before .before .before .before .before .before .before .before .before .before .before .before .before .session-in .ensures in
-    let does = c .before .before .before .before .before .before .before .before .before .before .before .before .advance .ensures in
-    (step-goes _ _ right _ _ _ _ _ opens read _ does (c .close .ensures .0) (c .close .ensures .1), step-told _ _ right _ _ _ _ _ opens read _ does (c .before .before .before .before .before .is-step .ensures) (c .before .before .before .before .interrupts .ensures) (c .before .before .before .block-in .ensures) (c .before .before .fault-in .ensures))
+    let right = c .before .before .before .before .before .before .before .before .before .before .before .before .before .before .before .before .before .before .before .before .before .before .block-right .ensures in
+    let opens = c .before .before .before .before .before .before .before .before .before .before .before .before .before .before .before .before .before .before .before .before .before .if1 .left in
+    let read = c .before .before .before .before .before .before .before .before .before .before .before .before .before .before .before .before .before .before .before .session-in .ensures in
+    let does = c .before .before .before .before .before .before .before .before .before .before .before .before .before .before .advance .ensures in
+    (step-goes _ _ right _ _ _ _ _ _ opens read _ does (c .close .ensures .0) (c .close .ensures .1), step-told _ _ right _ _ _ _ _ _ opens read _ does (c .before .before .before .before .before .is-step .ensures) (c .before .before .before .before .interrupts .ensures) (c .before .before .before .block-in .ensures) (c .before .before .fault-in .ensures))
 
 pub ts11-advance-spec : {M : Type 1} → statement M
 ts11-advance-spec =
@@ -64,4 +67,5 @@ ts11-advance-spec =
     same-length
     same-length-2
     same-length-3
+    same-length-4
     returns-2)

@@ -25,8 +25,11 @@ same-length c = search needs
 same-length-2 : tie.Need-same-length-2
 same-length-2 c = search needs
 
+same-length-3 : tie.Need-same-length-3
+same-length-3 c = search needs
+
 returns-2 : tie.Need-returns-2
-returns-2 c = back-goes _ _ (c .before .before .before .before .before .before .before .before .before .before .before .before .block-right .ensures) _ _ _ _ _ (c .before .before .before .before .before .before .before .before .before .before .before .if1 .left) (c .before .before .before .before .before .before .before .before .session-in .ensures) (c .before .before .before .before .before .step-back .ensures) (c .close .ensures .0) (c .close .ensures .1)
+returns-2 c = back-goes _ _ (c .before .before .before .before .before .before .before .before .before .before .before .before .before .before .before .block-right .ensures) _ _ _ _ _ _ (c .before .before .before .before .before .before .before .before .before .before .before .before .before .before .if1 .left) (c .before .before .before .before .before .before .before .before .before .before .before .session-in .ensures) (c .before .before .before .before .before .before .before .step-back .ensures) (c .close .ensures .0) (c .close .ensures .1)
 
 pub ts11-step-back-spec : {M : Type 1} → statement M
 ts11-step-back-spec =
@@ -39,4 +42,5 @@ ts11-step-back-spec =
     close-requires
     same-length
     same-length-2
+    same-length-3
     returns-2)

@@ -29,7 +29,7 @@ same-length-3 : tie.Need-same-length-3
 same-length-3 c = search needs
 
 returns-2 : tie.Need-returns-2
-returns-2 c = step-goes _ _ (c .before .before .before .before .before .before .before .before .before .before .before .before .before .before .before .block-right .ensures) _ _ _ _ _ (c .before .before .before .before .before .before .before .before .before .before .before .before .before .before .if1 .left) (c .before .before .before .before .before .before .before .before .before .before .before .session-in .ensures) _ (c .before .before .before .before .before .before .before .write-tssr .ensures) (c .close .ensures .0) (c .close .ensures .1)
+returns-2 c = step-goes _ _ (c .before .before .before .before .before .before .before .before .before .before .before .before .before .before .before .block-right .ensures) _ _ _ _ _ _ (c .before .before .before .before .before .before .before .before .before .before .before .before .before .before .if1 .left) (c .before .before .before .before .before .before .before .before .before .before .before .session-in .ensures) _ (c .before .before .before .before .before .before .before .write-tssr .ensures) (c .close .ensures .0) (c .close .ensures .1)
 
 pub ts11-write-tssr-spec : {M : Type 1} → statement M
 ts11-write-tssr-spec =

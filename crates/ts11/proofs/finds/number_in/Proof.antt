@@ -1,8 +1,8 @@
 -- `number_in` meets its contract, answer by answer.
 use Rattle.commands.specs.Answers.{numberOf}
 use borrow.Author.Needs.{needs}
-use Rattle.ts11.proofs.calls.number_in.Statement.{statement}
-use Rattle.ts11.proofs.calls.number_in.Tie as tie
+use Rattle.ts11.proofs.finds.number_in.Statement.{statement}
+use Rattle.ts11.proofs.finds.number_in.Tie as tie
 
 enum-told : tie.Need-enum-told
 enum-told c = search needs
