@@ -43,29 +43,37 @@ use Rattle.kept.proofs.Standing.{unlaid}
 use Rattle.kept.proofs.Unwritten.{Unlaid, writes-or-stays}
 use Rattle.kept.proofs.Writing.{RightLength, laid-allowed}
 
+-- the plan q lays something behind a bound of the objects os on the reel s: where, and what the reel holds then
+pub record LaysBehind (m s : List ℕ) (os : List Object) (q : Plan) : Type 0 where
+  pub at : Bound os (q .laid .at)
+  pub some : 1 ≤ length (laidObjects m (q .laid))
+  pub holds : Holds (reelAfter q m s) (q .unit .tape .end) (at .before ++ laidObjects m (q .laid))
+
+-- where a stretch in reverse ends is a bound
+abbrev back-at : {os over : List Object} {p q : ℕ} → Between os true p q over → Bound os q
+back-at {over = over} c = record { before = c .before; after = over ++ c .after; whole = c .whole; place = sym (c .to) }
+
 -- a write of the object o in this mode, from the tape t over the reel s, which holds the objects os
 module _ (s m : List ℕ) (t : Tape) (os : List Object) (o : Object) (mode : ℕ) where
-  -- the reel s′ and the tape t′ as it leaves them: what it went over is gone, and what it lays stands last, where the tape stands
-  record Left (s′ : List ℕ) (t′ : Tape) : Type 0 where
-    stop : ℕ
+  -- it laid l, and the tape is t′ then: what it went over is gone, and what it laid stands last, where the tape stands
+  record Left (l : Laid) (t′ : Tape) : Type 0 where
     over : List Object
-    new : List Object
-    between : Between os true (t .position) stop over
-    lays : Lays o mode over new
-    holds : Holds s′ (t′ .end) (between .before ++ new)
+    between : Between os true (t .position) (l .at) over
+    lays : Lays o mode over (laidObjects m l)
+    holds : Holds (laidOn s m l) (t′ .end) (between .before ++ laidObjects m l)
     last : t′ .position ≡ t′ .end
 
   -- or nothing laid, and the recorded end as it was
   abbrev MotionLeaves : Motion → Type 0
-  MotionLeaves (motion.Ended x) = Left (laidOn s m (x .laid)) (x .tape) ⊎ ((x .laid ≡ noLay) × (x .tape .end ≡ t .end))
+  MotionLeaves (motion.Ended x) = Left (x .laid) (x .tape) ⊎ ((x .laid ≡ noLay) × (x .tape .end ≡ t .end))
   MotionLeaves (motion.Fault why k) = ⊥
 
   abbrev PlanLeaves : Plan → Type 0
-  PlanLeaves q = Left (reelAfter q m s) (q .unit .tape) ⊎ Unlaid (t .end) q
+  PlanLeaves q = Left (q .laid) (q .unit .tape) ⊎ Unlaid (t .end) q
 
   -- a plan leaves what its motion leaves
   plan-leaves : (u : Unit) (ie : Bool) (y : Motion) → MotionLeaves y → PlanLeaves (motionPlan u ie y)
-  unfolding motionPlanUnder toldUnder toldUnit ended reelAfter
+  unfolding motionPlanUnder toldUnder toldUnit ended
   plan-leaves u ie (motion.Ended x) k = k
   plan-leaves u ie (motion.Fault why b) k = absurd k
 
@@ -75,15 +83,12 @@ module _ (s m : List ℕ) (t : Tape) (os : List Object) (o : Object) (mode : ℕ
       laid-leaves : l .at + laidBlocks l ≤ blocks → MotionLeaves (writtenMotion l blocks mark)
       unfolding writtenMotionUnder laidOn
       laid-leaves fits =
-          let at : Bound os (l .at) = record { before = c .before; after = over ++ c .after; whole = c .whole; place = sym (c .to) } in
           inl
           (record {
-            stop = l .at;
             over = over;
-            new = laidObjects m l;
             between = c;
             lays = y;
-            holds = overlaid h at (laidObjects m l) (laidBlocks l) (blocks-laid m l) (laid-allowed m l r) (omega arith);
+            holds = overlaid h (back-at c) (laidObjects m l) (laidBlocks l) (blocks-laid m l) (laid-allowed m l r) (omega arith);
             last = refl;
           })
 
@@ -115,6 +120,12 @@ module _ (s m : List ℕ) (t : Tape) (os : List Object) (o : Object) (mode : ℕ
       unfolding retriedUnder
       laying-leaves = pick-told MotionLeaves (eqb mode 2) _ _ (λ e. again-by (eqb-true mode 2 e) (finds h true b)) plain-leaves
 
+-- something is laid
+lays-some : {o : Object} {mode : ℕ} {over new : List Object} → Lays o mode over new → 1 ≤ length new
+lays-some (plainly e) = omega arith
+lays-some (again-over-record e g) = omega arith
+lays-some (again-over-mark e g) = omega arith
+
 -- a plan that lays one object leaves what its motion leaves
 lay-leaves : (v : Unit) (m s : List ℕ) (h : Header) (p : Packet) {q : Plan} {os : List Object} → length s ≡ blockBytes * v .lengths .blocks → Holds s (v .tape .end) os → Bound os (v .tape .position) → Lay v m s h p q → PlanLeaves s m (v .tape) os (objectFor m h p) (h .mode) q
 lay-leaves v m s h p {q} {os} whole f b y =
@@ -142,13 +153,17 @@ module _ (u : Unit) (m s : List ℕ) {os : List Object} (whole : length s ≡ bl
   leaves : WriteRuns u m s → PlanLeaves s m (u .tape) os Asked (header u m s .mode) (advanced u m s)
   leaves w = lay-leaves (started u m s) m s (header u m s) (packet u m s) whole f b (advance-lays u m s w)
 
-  as-wrote : Left s m (u .tape) os Asked (header u m s .mode) (reelAfter (advanced u m s) m s) (advanced u m s .unit .tape) → Wrote u m s os (advanced u m s .unit) (reelAfter (advanced u m s) m s)
+  abbrev LeftBy : Type 0
+  LeftBy = Left s m (u .tape) os Asked (header u m s .mode) (advanced u m s .laid) (advanced u m s .unit .tape)
+
+  as-wrote : LeftBy → Wrote u m s os (advanced u m s .unit) (reelAfter (advanced u m s) m s)
+  unfolding reelAfter
   as-wrote y =
       record {
         before = y .between .before;
         over = y .over;
         beyond = y .between .after;
-        new = y .new;
+        new = laidObjects m (advanced u m s .laid);
         whole = y .between .whole;
         stood = y .between .from;
         lays = y .lays;
@@ -156,8 +171,17 @@ module _ (u : Unit) (m s : List ℕ) {os : List Object} (whole : length s ≡ bl
         position = y .last ∙ sym (y .holds .ends);
       }
 
+  left-or-stays : (WriteRuns u m s × LeftBy) ⊎ Unlaid (u .tape .end) (advanced u m s)
+  left-or-stays = ⊎-elim (λ w. ⊎-elim (λ y. inl (w, y)) inr (leaves w)) inr (writes-or-stays u m s (bound-below f b))
+
   wrote-or-stays : (WriteRuns u m s × Wrote u m s os (advanced u m s .unit) (reelAfter (advanced u m s) m s)) ⊎ Unlaid (u .tape .end) (advanced u m s)
-  wrote-or-stays = ⊎-elim (λ w. ⊎-elim (λ y. inl (w, as-wrote y)) inr (leaves w)) inr (writes-or-stays u m s (bound-below f b))
+  wrote-or-stays = ⊎-elim (λ y. inl (y .0, as-wrote (y .1))) inr left-or-stays
+
+  -- and an advance that lays, lays at a bound, where the tape stood or before that, and the reel then holds the objects below it and those laid
+  pub lays-or-stays : LaysBehind m s os (advanced u m s) ⊎ Unlaid (u .tape .end) (advanced u m s)
+  unfolding reelAfter
+  lays-or-stays =
+      ⊎-elim (λ y. inl (record { at = back-at (y .1 .between); some = lays-some (y .1 .lays); holds = y .1 .holds })) inr left-or-stays
 
   -- a Write or Format that is carried out leaves the objects before the position, a retry those before the one that it goes over, and the new
   -- ones; or the reel and its recorded end are as they were

@@ -8,10 +8,12 @@ use borrow.Author.Tests.{eqb-false, eqb-true, ltb-false, ltb-true}
 use lib.Dec.{eqb, ltb}
 use lib.ListN.{length}
 use Rattle.lists.proofs.Cases.{by-test}
+use Rattle.tape.specs.Afresh.{objectsIn}
 use Rattle.tape.specs.Numbers.{blockBytes}
 use Rattle.tape.specs.Sweep.{sweptBelow}
 use Rattle.tape.specs.declared.Swept.{Swept}
 use Rattle.tape.specs.declared.Swept.the-variants as swept
+use Rattle.index.specs.Table.{placesIn}
 use Rattle.state.specs.Changes.{mountedAs}
 use Rattle.state.specs.Checks.{blocksRight, memoryRight, refusalOf, stateWrong}
 use Rattle.state.specs.declared.Unit.{Unit}
@@ -30,19 +32,21 @@ use Rattle.demands.proofs.Reached.{advanced-must, must-first}
 use Rattle.demands.proofs.Ways.{advanced-is}
 use Rattle.unit.specs.Asks.{advance}
 use Rattle.unit.specs.Cores.{Admitted, Core}
+use Rattle.unit.proofs.Accepted.{accepts}
 use Rattle.unit.specs.Mounts.{mountCallUnder, mountRefusal, mountSwept}
-use Rattle.unit.specs.Steps.{carried, stepOf}
+use Rattle.unit.specs.Steps.{Step, carried, stepOf}
+use Rattle.unit.proofs.Accepted.{accepts}
 use Rattle.entries.specs.Entries.{entryLength}
 use Rattle.worlds.specs.Worlds.{World, sessionOf}
 use Rattle.worlds.specs.Refusals.{checked, journalLimit, sessionWrong}
-use Rattle.worlds.specs.Calls.{entryFor, guarded, mountOn, mountedBy, stepOn, takenAs, takenBy, tooFull}
+use Rattle.worlds.specs.Calls.{entryFor, guarded, mountOn, mountedBy, noPlace, stepOn, takenAs, takenBy, tooFull}
 use Rattle.worlds.specs.declared.Session.{Session}
 use Rattle.worlds.specs.declared.Outcome.{Outcome}
 use Rattle.worlds.proofs.Passing.{core-accepted, passed}
-use Rattle.sessions.specs.Advancing.{Comes, Idle, Names, a-step, at-fault, checkedWith, idle, no-room, refused}
+use Rattle.sessions.specs.Advancing.{Comes, Idle, Names, a-step, at-fault, checkedWith, idle, no-place, no-room, refused}
 use Rattle.sessions.specs.Calling.{doing}
-use Rattle.sessions.proofs.Mounting.{accepts}
 use Rattle.sessions.proofs.Obeying.{advanced-obeys}
+use Rattle.sessions.proofs.Room.{crowded, never-crowded}
 
 -- refusals 1 to 4 have these numbers, and so has a mount's 2 or 3
 abbrev pub Few : ℕ → Type 0
@@ -84,10 +88,13 @@ module _ (n : ℕ) (w : World) where
     unfolding takenBy takenAs carried stepOf doing
     comes-by (answer.Done i) e d busy =
         let free : ℕ = w .ledger .length - w .ledger .used in
-        let long : ℕ = entryLength (entryFor (w .core) (carried (w .core) plan)) in
-        by-test (tooFull (w .ledger) (entryFor (w .core) (carried (w .core) plan)))
-        (λ t. no-room sound busy (ltb-true free long t) (rw t))
-        (λ t. rw t (a-step sound busy (λ f. absurd (omega (arith, f, ltb-false free long t))) refl (advanced-obeys (w .core) admitted i e)))
+        let x : Step = carried (w .core) plan in
+        let long : ℕ = entryLength (entryFor (w .core) x) in
+        by-test (noPlace (w .core) x)
+        (λ s. no-place sound busy (crowded (w .core) x s) (rw s))
+        (λ s. by-test (tooFull (w .ledger) (entryFor (w .core) x))
+        (λ t. no-room sound busy (never-crowded (w .core) x s) (ltb-true free long t) (rw (s, t)))
+        (λ t. rw (s, t) (a-step sound busy (never-crowded (w .core) x s) (λ f. absurd (omega (arith, f, ltb-false free long t))) refl (advanced-obeys (w .core) admitted i e))))
     comes-by answer.Idle e d busy = absurd d
     comes-by (answer.Refused k) e d busy = absurd d
     comes-by (answer.BadBlock why k) e d busy =
@@ -114,20 +121,23 @@ module _ (n : ℕ) (w : World) where
       (λ t. rw t (comes-on (eqb-true c 0 t)))
       (λ t. rw t (refused (eqb-false c 0 t) refl))
 
-module _ (old : Session) (memory : ℕ) (r : List ℕ) (journal e : ℕ) (online locked : Bool) where
+module _ (old : Session) (memory : ℕ) (r : List ℕ) (table journal e : ℕ) (online locked : Bool) where
   -- a mount's answer, and its state, by what the sweep came to
   abbrev after : Swept → Outcome
   after x =
       let new = mountSwept (old .unit) (mountedAs e online locked (record { memory = memory; blocks = length r / blockBytes })) x in
-      mountedBy old journal (new .unit) (new .answer)
+      mountedBy old table journal (objectsIn r e) (new .unit) (new .answer)
 
   swept-seven : (x : Swept) → e ≤ length r / blockBytes → sweptBelow r e ≡ x → numberOf (after x .answer) ≡ 7 → Names r e (after x .answer)
   unfolding mountSwept mountedBy numberOf
-  swept-seven swept.Whole h y z = absurd (omega (arith, z))
+  swept-seven swept.Whole h y z =
+      by-test (ltb (placesIn table) (length (objectsIn r e)))
+      (λ t. let n : _≡_ {A = ℕ} 11 7 = rw t at z in absurd (omega arith))
+      (λ t. let n : _≡_ {A = ℕ} 0 7 = rw t at z in absurd (omega arith))
   swept-seven (swept.Bad why k) h y z = let first = swept-first r e why k y in (why, k, refl, omega (arith, first .below), first)
 
   -- a mount that answers 7 names the first block at fault from block 0 on
-  pub mount-names : numberOf (mountOn old memory r journal e online locked .answer) ≡ 7 → Names r e (mountOn old memory r journal e online locked .answer)
+  pub mount-names : numberOf (mountOn old memory r table journal e online locked .answer) ≡ 7 → Names r e (mountOn old memory r table journal e online locked .answer)
   unfolding mountOn mountCallUnder numberOf
   mount-names z =
       by-test (eqb (mountRefusal memory (length r) e) 0)

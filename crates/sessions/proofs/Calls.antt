@@ -15,7 +15,7 @@ use Rattle.sessions.specs.Good.{Fresh, Good}
 use Rattle.sessions.proofs.Striking.{fit-clean, fit-ran, goes-back, strike-clean, struck}
 use Rattle.sessions.proofs.Stood.{stands-as, went-to}
 use Rattle.worlds.proofs.Undoing.{core-undone}
-use Rattle.sessions.proofs.Taken.{doing-keeps, doing-sound, stays, step-fit, step-undone, took}
+use Rattle.sessions.proofs.Taken.{doing-indexed, doing-keeps, doing-sound, stays, step-fit, step-undone, took}
 
 -- a noted entry is the ledger's newest
 ledger-noted : (n : ℕ) (c : Call) (d : Core) (ks : List Noted) → noted (ledgerOf n ks) (entryAt c d) d ≡ ledgerOf n (notedAt c d ∷ ks)
@@ -32,6 +32,7 @@ module _ (n : ℕ) where
       record {
         fit = rw (← stepped-world c s k) (step-fit n (worldFrom n s) (f .fit) c k);
         formed = doing-keeps n (worldFrom n s) (f .fit) c k (f .formed);
+        indexed = doing-indexed n (worldFrom n s) (f .fit) c k (f .formed) (f .indexed);
       }
 
   -- a step is undone by its entry
@@ -57,7 +58,7 @@ module _ (n : ℕ) where
 
   -- Any session from its beginning on.
   module _ {s₀ s : Here} {l : List (Done (calls n))} (f : Fresh n s₀) (r : Ran (calls n) s₀ l s) where
-    -- no check refuses; "the reel is well formed, the position is 0 or just after an object"
+    -- no check refuses; "the reel is well formed, the position is 0 or just after an object"; the table is "the table worked out afresh from the reel"
     pub always-good : Good n s
     always-good = fit-ran (calls n) lawful (f .good) (f .none) r
 
@@ -87,7 +88,7 @@ module _ (n : ℕ) where
     pub entry-each : s .entries ≡ map (entryOf (calls n)) (stood (calls n) r)
     entry-each = stands-as (calls n) (f .none) r
 
-    -- "going back k gives the state, memory and reel that stood before the earliest of those k": by k calls of step back, and no others
+    -- "going back k gives the state, memory and reel that stood before the earliest of those k", and the table: by k calls of step back, and no others
     pub back-stood : (k : ℕ) → k ≤ length (stood (calls n) r) → backCalls n k (worldFrom n s) ≡ worldFrom n (before (calls n) r k)
     back-stood k h =
         let many : length (s .entries) ≡ length (stood (calls n) r) = ap length entry-each ∙ length-map (stood (calls n) r) (entryOf (calls n)) in

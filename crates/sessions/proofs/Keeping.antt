@@ -48,7 +48,7 @@ module _ (c : Core) (f : CoreFormed c) where
       (either (λ (p : ℕ). Formed (c .reel) (standing p (c .unit .tape .end))) (c .unit .panel .online) 0 (c .unit .tape .position) (f .0, f .1, first-bound (f .0)) f)
 
   -- an act leaves the tape alone
-  operated-tape : (a : Act) → operated (c .unit) a .tape ≡ c .unit .tape
+  pub operated-tape : (a : Act) → operated (c .unit) a .tape ≡ c .unit .tape
   unfolding operated switchedLine switchedLock
   operated-tape act.OnLine = either (λ (v : Unit). v .tape ≡ c .unit .tape) (c .unit .panel .online) (c .unit) (switchedLine (c .unit) true) refl refl
   operated-tape act.OffLine = either (λ (v : Unit). v .tape ≡ c .unit .tape) (c .unit .panel .online) (switchedLine (c .unit) false) (c .unit) refl refl

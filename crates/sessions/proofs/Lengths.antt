@@ -1,4 +1,4 @@
--- "of exactly 128 bytes plus the memory and reel bytes that step stored": the entry of each step that stands.
+-- "of exactly 128 bytes plus the memory and reel bytes that step stored", and eight for each object written: the entry of each step that stands.
 use mathlib.Core.Path.{_≡_, refl}
 use mathlib.Core.Bool.{Bool}
 use mathlib.Core.List.{List}
@@ -50,7 +50,7 @@ call-stores (read-register r) d f x = absurd x
 -- and that its entry counts them
 entry-counts : (c : Call) (d : Core) (x : Stores d (doing c d) (bytesAt c d)) → entryLength (entryAt c d) ≡ longFor (bytesAt c d)
 unfolding entryLength entryFor
-entry-counts c d x = omega (arith, x .data-long, x .message-long, x .reel-long)
+entry-counts c d x = omega (arith, x .data-long, x .message-long, x .reel-long, x .places)
 
 module _ (n : ℕ) where
   step-long : (c : Call) (s : Here) → Good n s → kindNow n c s ≡ stepped → EntryLong n (record { call = c; was = s })

@@ -2,6 +2,7 @@
 pub mod Striking
 pub mod Stood
 pub mod Keeping
+pub mod Indexing
 pub mod Taken
 pub mod Room
 pub mod Calls

@@ -1,66 +1,43 @@
--- A mount begins a session: its world is fit, its reel well formed, and its journal empty.
+-- A mount begins a session: its world is fit, its reel well formed, its table worked out, and its journal empty.
 use mathlib.Core.Path.{_≡_, refl, ap}
-use mathlib.Core.Bool.{Bool, true, false, _||_, not}
+use mathlib.Core.Bool.{Bool, false}
 use mathlib.Core.List.{List}
-use Prim.Native.Nat.{ℕ, _*_, _/_, _%_, _≤_}
+use Prim.Native.Nat.{ℕ, _/_, _≤_}
 use native.Mathlib.Omega.{arith}
-use borrow.Author.Tests.{eqb-true, ltb-false, not-false}
+use borrow.Author.Tests.{eqb-true, ltb-false}
 use lib.Dec.{eqb, ltb}
 use lib.ListN.{length}
-use Rattle.lists.specs.Pick.{pick}
 use Rattle.lists.specs.Words.{Bytes}
-use Rattle.lists.proofs.Cases.{by-test, past}
+use Rattle.lists.proofs.Cases.{by-test}
+use Rattle.tape.specs.Afresh.{objectsIn}
 use Rattle.tape.specs.Numbers.{blockBytes}
+use Rattle.tape.specs.Objects.{Holds}
 use Rattle.tape.specs.Sweep.{sweptBelow}
-use Rattle.tape.proofs.Sweeps.{whole-swept}
+use Rattle.tape.proofs.Afresh.{objects-held}
 use Rattle.tape.specs.declared.Swept.{Swept}
 use Rattle.tape.specs.declared.Swept.the-variants as swept
 use Rattle.tape.specs.declared.BlockFault.{BlockFault}
+use Rattle.index.specs.Table.{placesIn}
+use Rattle.index.proofs.Cuts.{filled-indexed}
 use Rattle.state.specs.Changes.{mountedAs}
-use Rattle.state.specs.Checks.{blocksRight, memoryRight}
 use Rattle.state.specs.declared.Unit.{Unit}
 use Rattle.state.proofs.Legal.{legal-mounted}
-use Rattle.state.proofs.Tests.{neither}
 use Rattle.commands.specs.declared.plans.Answer.the-variants as answer
+use Rattle.unit.proofs.Accepted.{Accepts, accepts}
 use Rattle.unit.specs.Mounts.{mountCallUnder, mountRefusal, mountSwept}
+use Rattle.unit.proofs.Accepted.{Accepts, accepts}
 use Rattle.worlds.specs.declared.Session.{Session}
 use Rattle.worlds.specs.declared.Outcome.{Outcome}
 use Rattle.worlds.specs.Refusals.{journalLimit}
-use Rattle.worlds.specs.Calls.{mountOn, mountedBy, session}
+use Rattle.worlds.specs.Calls.{mountOn, mountedBy, session, tableMounted}
 use Rattle.worlds.proofs.Passing.{let-pass}
 use Rattle.worlds.specs.Passes.{Fit}
 use Rattle.sessions.specs.Session.{refused, stepped}
 use Rattle.sessions.specs.Calling.{journalOf, lengthOf, stepKind, worldFrom}
 use Rattle.kept.specs.Formed.{Formed}
-use Rattle.sessions.specs.Good.{Fresh, mountMoment}
+use Rattle.sessions.specs.Good.{CoreIndexed, Fresh, mountMoment}
 use Rattle.sessions.proofs.Keeping.{first-bound}
 use Rattle.sessions.proofs.Taken.{refused-none}
-
--- a mount that is not refused
-pub record Accepts (memory reel e : ℕ) : Type 0 where
-  pub memory-right : memoryRight memory ≡ true
-  pub whole : reel ≡ blockBytes * (reel / blockBytes)
-  pub blocks-right : blocksRight (reel / blockBytes) ≡ true
-  pub below : e ≤ reel / blockBytes
-
-pub accepts : (memory reel e : ℕ) → mountRefusal memory reel e ≡ 0 → Accepts memory reel e
-unfolding mountRefusal
-accepts memory reel e h =
-    by-test (memoryRight memory)
-    (λ t.
-    let odd : Bool = not (eqb (reel % blockBytes) 0) || not (blocksRight (reel / blockBytes)) in
-    let y : pick (odd || ltb (reel / blockBytes) e) 3 0 ≡ 0 = rw t at h in
-    let p = past (odd || ltb (reel / blockBytes) e) 3 0 0 (λ z. omega arith) y in
-    let q = neither odd (ltb (reel / blockBytes) e) (p .0) in
-    let o = neither (not (eqb (reel % blockBytes) 0)) (not (blocksRight (reel / blockBytes))) (q .0) in
-    let even : reel % blockBytes ≡ 0 = eqb-true (reel % blockBytes) 0 (not-false (eqb (reel % blockBytes) 0) (o .0)) in
-    record {
-      memory-right = t;
-      whole = omega arith;
-      blocks-right = not-false (blocksRight (reel / blockBytes)) (o .1);
-      below = ltb-false (reel / blockBytes) e (q .1);
-    })
-    (λ t. let y : _≡_ {A = ℕ} 2 0 = rw t at h in absurd (omega arith))
 
 -- the state of a mount
 abbrev mountUnit : ℕ → ℕ → ℕ → Bool → Bool → Unit
@@ -76,26 +53,32 @@ unfolding stepKind
 no-bad why k e = let z : refused ≡ stepped = ap stepKind e in refused-none z
 
 -- what a mount that was done has found
-pub record MountDone (old : Session) (memory : ℕ) (r : List ℕ) (journal e : ℕ) (online locked : Bool) : Type 0 where
+pub record MountDone (old : Session) (memory : ℕ) (r : List ℕ) (table journal e : ℕ) (online locked : Bool) : Type 0 where
   pub accepts : Accepts memory (length r) e
   pub limit : journal ≤ journalLimit
   pub swept : sweptBelow r e ≡ swept.Whole
-  pub is : mountOn old memory r journal e online locked .session ≡ session (mountUnit memory (length r) e online locked) 0 journal
+  pub places : length (objectsIn r e) ≤ placesIn table
+  pub is : mountOn old memory r table journal e online locked .session ≡ session (mountUnit memory (length r) e online locked) (length (objectsIn r e)) 0 journal
 
-module _ (old : Session) (memory : ℕ) (r : List ℕ) (journal e : ℕ) (online locked : Bool) where
+module _ (old : Session) (memory : ℕ) (r : List ℕ) (table journal e : ℕ) (online locked : Bool) where
   -- by what the sweep found
   abbrev by : Swept → Outcome
   by x =
-      mountedBy old journal
+      mountedBy old table journal (objectsIn r e)
       (mountSwept (old .unit) (mountUnit memory (length r) e online locked) x .unit)
       (mountSwept (old .unit) (mountUnit memory (length r) e online locked) x .answer)
 
-  swept-done : (x : Swept) → by x .answer ≡ answer.Done false → (x ≡ swept.Whole) × (by x .session ≡ session (mountUnit memory (length r) e online locked) 0 journal)
+  swept-done : (x : Swept) → by x .answer ≡ answer.Done false
+      → (x ≡ swept.Whole) × (length (objectsIn r e) ≤ placesIn table) × (by x .session ≡ session (mountUnit memory (length r) e online locked) (length (objectsIn r e)) 0 journal)
   unfolding mountSwept mountedBy
-  swept-done swept.Whole k = (refl, refl)
+  swept-done swept.Whole k =
+      let few : Bool = ltb (placesIn table) (length (objectsIn r e)) in
+      by-test few
+      (λ t. let y : answer.Refused 11 ≡ answer.Done false = rw t at k in not-done 11 y)
+      (λ t. (refl, ltb-false (placesIn table) (length (objectsIn r e)) t, rw t))
   swept-done (swept.Bad why j) k = no-bad why j k
 
-  pub mount-done : mountOn old memory r journal e online locked .answer ≡ answer.Done false → MountDone old memory r journal e online locked
+  pub mount-done : mountOn old memory r table journal e online locked .answer ≡ answer.Done false → MountDone old memory r table journal e online locked
   unfolding mountOn mountCallUnder
   mount-done k =
       by-test (eqb (mountRefusal memory (length r) e) 0)
@@ -108,24 +91,25 @@ module _ (old : Session) (memory : ℕ) (r : List ℕ) (journal e : ℕ) (online
         accepts = accepts memory (length r) e (eqb-true (mountRefusal memory (length r) e) 0 t);
         limit = ltb-false journalLimit journal v;
         swept = z .0;
-        is = rw (t, v) (z .1);
+        places = z .1;
+        is = rw (t, v) (z .2);
       }))
       (λ t. let y : answer.Refused (mountRefusal memory (length r) e) ≡ answer.Done false = rw t at k in not-done (mountRefusal memory (length r) e) y)
 
-module _ (old : Session) (m r : List ℕ) (journal e : ℕ) (online locked : Bool) (k : mountOn old (length m) r journal e online locked .answer ≡ answer.Done false) where
-  found : MountDone old (length m) r journal e online locked
-  found = mount-done old (length m) r journal e online locked k
+module _ (old : Session) (m r tb : List ℕ) (journal e : ℕ) (online locked : Bool) (k : mountOn old (length m) r (length tb) journal e online locked .answer ≡ answer.Done false) where
+  found : MountDone old (length m) r (length tb) journal e online locked
+  found = mount-done old (length m) r (length tb) journal e online locked k
 
-  pub mount-session : mountOn old (length m) r journal e online locked .session ≡ session (mountUnit (length m) (length r) e online locked) 0 journal
+  pub mount-session : mountOn old (length m) r (length tb) journal e online locked .session ≡ session (mountUnit (length m) (length r) e online locked) (length (objectsIn r e)) 0 journal
   mount-session = found .is
 
-  pub mounted-fit : Fit journal (worldFrom journal (mountMoment old m r journal e online locked))
+  pub mounted-fit : Fit journal (worldFrom journal (mountMoment old m r tb journal e online locked))
   unfolding mountedAs lengthOf journalOf
   mounted-fit =
       let a = found .accepts in
       rw (found .is)
       (record {
-        sound = let-pass (session (mountUnit (length m) (length r) e online locked) 0 journal) (length m) (length r) journal
+        sound = let-pass (session (mountUnit (length m) (length r) e online locked) (length (objectsIn r e)) 0 journal) (length m) (length r) journal
             (record {
               legal = legal-mounted (length m) (length r / blockBytes) e online locked (a .memory-right) (a .blocks-right) (a .below);
               memory-is = refl;
@@ -137,13 +121,20 @@ module _ (old : Session) (m r : List ℕ) (journal e : ℕ) (online locked : Boo
         whole = refl;
       })
 
-  -- the reel of a mount is well formed, and the tape stands at its first block
-  mounted-formed : Bytes r → Formed r (mountOn old (length m) r journal e online locked .session .unit .tape)
-  unfolding mountedAs
-  mounted-formed bytes =
-      let f = whole-swept r e bytes (found .swept) in
-      rw (found .is) (f .0, f .1, first-bound (f .0))
+  module _ (bytes : Bytes r) where
+    held : Holds r e (objectsIn r e)
+    held = objects-held bytes (found .swept)
 
-  -- a mount begins a session
-  pub mounted : Bytes r → Fresh journal (mountMoment old m r journal e online locked)
-  mounted bytes = record { good = record { fit = mounted-fit; formed = mounted-formed bytes }; none = refl }
+    -- the reel of a mount is well formed, and the tape stands at its first block
+    mounted-formed : Formed r (mountOn old (length m) r (length tb) journal e online locked .session .unit .tape)
+    unfolding mountedAs
+    mounted-formed = rw (found .is) (objectsIn r e, held, first-bound (objectsIn r e))
+
+    -- its table is that of the objects below the end
+    mounted-indexed : CoreIndexed (mountMoment old m r tb journal e online locked .core)
+    unfolding mountedAs tableMounted
+    mounted-indexed = rw (found .is, k) (filled-indexed tb held (omega (arith, found .places)))
+
+    -- a mount begins a session
+    pub mounted : Fresh journal (mountMoment old m r tb journal e online locked)
+    mounted = record { good = record { fit = mounted-fit; formed = mounted-formed; indexed = mounted-indexed }; none = refl }

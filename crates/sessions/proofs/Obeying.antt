@@ -30,6 +30,7 @@ use Rattle.kept.proofs.NoRoom.{no-room-retry, no-room-told, none-found}
 use Rattle.kept.proofs.Telling.{room-told, room-told-retry}
 use Rattle.kept.proofs.Unwritten.{writes-or-stays}
 use Rattle.unit.specs.Cores.{Admitted, Core}
+use Rattle.unit.specs.Steps.{cutOf, objectsAfter, tableAfter}
 use Rattle.unit.proofs.Stepping.{advanced-fits}
 use Rattle.sessions.specs.Rules.{Obeys, Short, again, at-once, headerIn, objectIn, packetIn}
 
@@ -50,7 +51,14 @@ module _ (c : Core) (a : Admitted c) (i : Bool) where
   plan = advanced (c .unit) (c .memory) (c .reel)
 
   abbrev after : Core
-  after = record { unit = plan .unit; memory = memoryAfter plan (c .memory) (c .reel); reel = reelAfter plan (c .memory) (c .reel) }
+  after =
+      record {
+        unit = plan .unit;
+        objects = objectsAfter (plan .laid) (cutOf c (plan .laid)) (c .objects);
+        memory = memoryAfter plan (c .memory) (c .reel);
+        reel = reelAfter plan (c .memory) (c .reel);
+        table = tableAfter c (plan .laid);
+      }
 
   module _ (done : plan .answer ≡ answer.Done i) where
     sent : Fetched (c .unit) (c .memory) (c .reel) → Tells (headerIn c) → Sent (c .unit) (c .memory) (c .reel)

@@ -1,5 +1,5 @@
--- What is known of a call that took a step, from any world that was handed to it: the checks had passed, its entry fitted, and the world after
--- it is the step's core with the entry noted. A call that took none left the world as it was.
+-- What is known of a call that took a step, from any world that was handed to it: the checks had passed, the table was large enough, its entry
+-- fitted, and the world after it is the step's core with the entry noted. A call that took none left the world as it was.
 use mathlib.Core.Path.{_≡_, refl, sym, subst}
 use mathlib.Core.Bool.{Bool, false}
 use Prim.Native.Nat.{ℕ, _+_, _-_, _≤_}
@@ -18,12 +18,13 @@ use Rattle.unit.proofs.Stepping.{sound}
 use Rattle.entries.specs.Entries.{entryLength}
 use Rattle.worlds.specs.Worlds.{Answered, World, answered, sessionOf}
 use Rattle.worlds.specs.Refusals.{checked}
-use Rattle.worlds.specs.Calls.{backOn, entryFor, guarded, tooFull, refusedAs, stepOn, takenAs, takenBy}
+use Rattle.worlds.specs.Calls.{backOn, entryFor, guarded, noPlace, refusedAs, stepOn, takenAs, takenBy, tooFull}
 use Rattle.worlds.proofs.Passing.{core-accepted, passed}
 use Rattle.worlds.specs.Passes.{Fit}
 use Rattle.sessions.specs.Session.{looked, refused, stepped}
 use Rattle.sessions.specs.Calling.{Call, Left, Took, doing, entryAt, callKind, onCall, read-register, readKind, step, stepKind}
-use Rattle.sessions.specs.Good.{CoreFormed}
+use Rattle.sessions.specs.Good.{CoreFormed, CoreIndexed}
+use Rattle.sessions.proofs.Indexing.{indexing}
 use Rattle.sessions.proofs.Keeping.{keeping}
 use Rattle.worlds.proofs.Undoing.{fit-after, taken-undone}
 
@@ -71,9 +72,11 @@ module _ (w : World) (x : Step) where
   took-as : (a : Answer) → stepKind (takenAs w x a .answer) ≡ stepped → Took w (takenAs w x a .world) x
   unfolding takenAs stepKind
   took-as a k =
-      by-test (tooFull (w .ledger) (entryFor (w .core) x))
-      (λ t. let z : refused ≡ stepped = rw t at k in refused-none z)
-      (λ t. record { is = rw t; room = t })
+      by-test (noPlace (w .core) x)
+      (λ s. let z : refused ≡ stepped = rw s at k in refused-none z)
+      (λ s. by-test (tooFull (w .ledger) (entryFor (w .core) x))
+      (λ t. let z : refused ≡ stepped = rw (s, t) at k in refused-none z)
+      (λ t. record { is = rw (s, t); places = s; room = t }))
 
   took-by : (a : Answer) → stepKind (takenBy w x a .answer) ≡ stepped → Took w (takenBy w x a .world) x
   unfolding takenBy stepKind
@@ -104,6 +107,11 @@ module _ (n : ℕ) (w : World) (fit : Fit n w) where
   doing-keeps (step a h) k f = keeping (w .core) f accepts a
   doing-keeps (read-register r) k f = read-none _ k
 
+  pub doing-indexed : (c : Call) → callKind c (onCall n c w .answer) ≡ stepped → CoreFormed (w .core) → CoreIndexed (w .core) → CoreIndexed (doing c (w .core) .after)
+  unfolding doing
+  doing-indexed (step a h) k f x = indexing (w .core) f x accepts a (took n (step a h) w k .places)
+  doing-indexed (read-register r) k f x = x
+
   module _ (c : Call) (k : callKind c (onCall n c w .answer) ≡ stepped) where
     has-room : w .ledger .used + entryLength (entryAt c (w .core)) ≤ w .ledger .length
     has-room =
@@ -113,7 +121,7 @@ module _ (n : ℕ) (w : World) (fit : Fit n w) where
 
     -- the step back after a step gives the world before it
     pub step-undone : backOn (onCall n c w .world) n ≡ answered (answer.Done false) w
-    step-undone = rw (took n c w k .is) (taken-undone n w (doing c (w .core)) fit (doing-sound c k) has-room)
+    step-undone = rw (took n c w k .is) (taken-undone n w (doing c (w .core)) fit (doing-sound c k) has-room (took n c w k .places))
 
     pub step-fit : Fit n (onCall n c w .world)
     step-fit =
@@ -129,7 +137,9 @@ module _ (n : ℕ) (w : World) where
 
   as-left : (x : Step) (i : Bool) → Left w (takenAs w x (answer.Done i))
   unfolding takenAs stepKind
-  as-left x i = either (Left w) (tooFull (w .ledger) (entryFor (w .core) x)) (refusedAs 9 w) _ (λ g. refl) (λ g. absurd (g refl))
+  as-left x i =
+      either (Left w) (noPlace (w .core) x) (refusedAs 11 w) _ (λ g. refl)
+      (either (Left w) (tooFull (w .ledger) (entryFor (w .core) x)) (refusedAs 9 w) _ (λ g. refl) (λ g. absurd (g refl)))
 
   by-left : (x : Step) (a : Answer) → Left w (takenBy w x a)
   unfolding takenBy

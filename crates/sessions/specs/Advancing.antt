@@ -1,4 +1,4 @@
--- What a call of advance comes to, from every world and with every lent journal: refused with 1 to 4, idle, refused with 7 or with 9, or a step. A
+-- What a call of advance comes to, from every world and with every lent journal: refused with 1 to 4, idle, refused with 7, 11 or 9, or a step. A
 -- unit that refuses always or does nothing is none of these. (01, "Calls", and the table of refusals)
 use mathlib.Core.Bool.{Bool, true, false, _&&_}
 use mathlib.Core.List.{List}
@@ -15,11 +15,13 @@ use Rattle.demands.specs.Faults.{FirstFault}
 use Rattle.demands.specs.MustRead.{MustRead}
 use Rattle.unit.specs.Asks.{advance}
 use Rattle.unit.specs.Cores.{Core}
+use Rattle.unit.specs.Steps.{stepOf}
 use Rattle.entries.specs.Entries.{entryLength}
 use Rattle.worlds.specs.Calls.{refusedAs}
 use Rattle.worlds.specs.Refusals.{checked}
 use Rattle.worlds.specs.Worlds.{Answered, World, answered, sessionOf}
 use Rattle.sessions.specs.Calling.{entryAt, step}
+use Rattle.sessions.specs.Good.{NoPlace}
 use Rattle.sessions.specs.Rules.{Obeys, headerIn}
 
 -- "Advance with no command waiting and no attention to send answers Idle after checks 1 to 4"; one is sent only while the unit owns the buffer
@@ -41,6 +43,10 @@ Names r e a = (why : BlockFault) × (k : ℕ) × (a ≡ answer.BadBlock why k) �
 abbrev pub Full : World → Type 0
 Full w = w .ledger .length - w .ledger .used < entryLength (entryAt (step advance tt) (w .core))
 
+-- "11 when the table is too small for the objects, checked after 8 and before 9" (02, [8])
+abbrev pub Crowded : World → Type 0
+Crowded w = NoPlace (w .core) (stepOf advance (w .core))
+
 -- the first of refusals 1 to 4 that holds, 0 where none does
 abbrev pub checkedWith : ℕ → World → ℕ
 checkedWith n w = checked (sessionOf w) (length (w .core .memory)) (length (w .core .reel)) n
@@ -50,5 +56,6 @@ pub data Comes (n : ℕ) (w : World) (x : Answered) : Type 0 where
   refused : (checkedWith n w ≡ 0 → ⊥) → x ≡ refusedAs (checkedWith n w) w → Comes n w x
   idle : checkedWith n w ≡ 0 → Idle (w .core .unit) → x ≡ answered answer.Idle w → Comes n w x
   at-fault : {why : BlockFault} {k : ℕ} → checkedWith n w ≡ 0 → (Idle (w .core .unit) → ⊥) → FaultAhead (w .core) why k → x ≡ answered (answer.BadBlock why k) w → Comes n w x
-  no-room : checkedWith n w ≡ 0 → (Idle (w .core .unit) → ⊥) → Full w → x ≡ refusedAs 9 w → Comes n w x
-  a-step : {i : Bool} → checkedWith n w ≡ 0 → (Idle (w .core .unit) → ⊥) → (Full w → ⊥) → x .answer ≡ answer.Done i → Obeys (w .core) i (x .world .core) → Comes n w x
+  no-place : checkedWith n w ≡ 0 → (Idle (w .core .unit) → ⊥) → Crowded w → x ≡ refusedAs 11 w → Comes n w x
+  no-room : checkedWith n w ≡ 0 → (Idle (w .core .unit) → ⊥) → (Crowded w → ⊥) → Full w → x ≡ refusedAs 9 w → Comes n w x
+  a-step : {i : Bool} → checkedWith n w ≡ 0 → (Idle (w .core .unit) → ⊥) → (Crowded w → ⊥) → (Full w → ⊥) → x .answer ≡ answer.Done i → Obeys (w .core) i (x .world .core) → Comes n w x

@@ -13,7 +13,7 @@ use Rattle.unit.specs.declared.registers.Register.{Register}
 use Rattle.entries.specs.Entries.{entryBytes, entryLength}
 use Rattle.entries.specs.declared.Entry.{Entry}
 use Rattle.worlds.specs.Worlds.{Answered, Ledger, World, answered, sessionOf}
-use Rattle.worlds.specs.Calls.{backOn, entryFor, noted, registerOn, stepOn, tooFull, undone}
+use Rattle.worlds.specs.Calls.{backOn, entryFor, noPlace, noted, registerOn, stepOn, tooFull, undone}
 use Rattle.sessions.specs.Session.{Kind, Machine, Moment, looked, refused, stepped}
 
 -- a call of a session
@@ -65,9 +65,10 @@ entryAt k c = entryFor c (doing k c)
 abbrev pub takenTo : World → Step → World
 takenTo w x = record { core = x .after; ledger = noted (w .ledger) (entryFor (w .core) x) (w .core) }
 
--- the step took w to next, and its entry had room
+-- the step took w to next, the table was large enough, and its entry had room
 pub record Took (w next : World) (x : Step) : Type 0 where
   pub is : next ≡ takenTo w x
+  pub places : noPlace (w .core) x ≡ false
   pub room : tooFull (w .ledger) (entryFor (w .core) x) ≡ false
 
 -- a call that took no step left the world as it was: refusals, an idle advance and a reading
@@ -84,8 +85,8 @@ unfoldable pub notedAt : Call → Core → Noted
 notedAt k c =
     record {
       entry = entryAt k c;
-      saved = savedBytes (doing k c .touched) (c .memory) (c .reel);
-      bytes = entryBytes (entryAt k c) (c .memory) (c .reel);
+      saved = savedBytes (doing k c .touched) (c .memory) (c .reel) (c .table);
+      bytes = entryBytes (entryAt k c) (c .memory) (c .reel) (c .table);
     }
 
 -- the used journal that holds these entries, newest first, and how long it is

@@ -10,13 +10,17 @@
 //              and tells what is wrong with it                              mount-names
 //   demand 3   a mount begins such a session                                mounted        proofs/Mounting.antt
 //              the reel is well formed, the position 0 or after an object   always-good    proofs/Calls.antt
+//              the used part of the table is the table worked out afresh
+//              from the reel, after a mount and after every call            always-good    (`indexed` of specs/Good.antt)
 //              one entry for each step that stands, and it is that step's   entry-each
 //              the journal is those entries and nothing else                stepped-world, does-that
-//              each is 128 bytes and those that its step stored             entries-long   proofs/Lengths.antt
+//              each is 128 bytes and those that its step stored, and eight
+//              for each object written                                      entries-long   proofs/Lengths.antt
 //              a step back gives the world before the step                  step-undone    proofs/Taken.antt
 //              going back k gives the moment before the earliest of the k   back-stood     proofs/Calls.antt
 //              the call step back does that                                 back-does, back-none
-//              refused for room exactly when the entry doesn't fit          room-exactly   proofs/Room.antt
+//              refused for room exactly when the entry doesn't fit, and
+//              before that with 11 exactly when the table is too small      room-exactly   proofs/Room.antt
 //              what was undone never was                                    never-was      proofs/Calls.antt
 //
 // A session is a log (specs/Session.antt, for any machine with a law of undo); specs/Calling.antt makes the calls that machine.

@@ -17,21 +17,21 @@ use Rattle.demands.specs.Faults.{FirstFault}
 use Rattle.unit.specs.Asks.{advance}
 use Rattle.worlds.specs.Worlds.{Answered, World, sessionOf}
 use Rattle.worlds.specs.Calls.{mountOn, stepOn}
-use Rattle.sessions.specs.Advancing.{Comes, FaultAhead, a-step, at-fault, checkedWith, idle, no-room, refused}
+use Rattle.sessions.specs.Advancing.{Comes, FaultAhead, a-step, at-fault, checkedWith, idle, no-place, no-room, refused}
 use Rattle.sessions.specs.Calling.{Call, onCall, step}
 use Rattle.sessions.specs.Rules.{Obeys}
 use Rattle.sessions.proofs.Advances.{advance-comes, checked-few, mount-names}
 use Rattle.stateblock.specs.Block.{Block, isBlock, sessionIn, stateLength}
 use Rattle.ts11.specs.Given.{Host, Mounts, Tells, opened, worldIn}
 use Rattle.surface.specs.Hosting.{HostComes, Returned, given}
-use Rattle.surface.specs.Hosting.{a-step as host-step, at-fault as host-fault, idle as host-idle, no-room as host-full, no-state, refused-first}
+use Rattle.surface.specs.Hosting.{a-step as host-step, at-fault as host-fault, idle as host-idle, no-place as host-crowded, no-room as host-full, no-state, refused-first}
 use Rattle.surface.proofs.Refused.{call-nothing}
 use Rattle.surface.proofs.Runs.{given-is, runs-as}
 
 abbrev call : Call
 call = step advance tt
 
--- any 128 bytes in the place of a state, and any memory, reel and journal
+-- any 128 bytes in the place of a state, and any memory, reel, table and journal
 module _ (h : Host) (long : length (h .block) ≡ stateLength) (bytes : Bytes (h .block)) {h′ : Host} {number block fault : ℕ} {steps interrupts : Bool}
     (g : Returned h (given call h) number h′) (t : Tells (given call h) steps interrupts block fault) where
   abbrev does : Answered
@@ -74,11 +74,12 @@ module _ (h : Host) (long : length (h .block) ≡ stateLength) (bytes : Bytes (h
     comes-as (at-fault c busy f e) =
         let y = reads-as e in
         host-fault busy (subst (FaultAhead (worldIn h .core) _) (sym (blocked y)) f) (faulted y) (numbered y) (nothing y refl .0) (nothing y refl .1)
-    comes-as (no-room c busy f e) = let y = reads-as e in host-full busy f (numbered y) (nothing y refl .0) (blocked y) (faulted y) (nothing y refl .1)
-    comes-as (a-step {i} c busy room e o) =
+    comes-as (no-place c busy f e) = let y = reads-as e in host-crowded busy f (numbered y) (nothing y refl .0) (blocked y) (faulted y) (nothing y refl .1)
+    comes-as (no-room c busy places f e) = let y = reads-as e in host-full busy places f (numbered y) (nothing y refl .0) (blocked y) (faulted y) (nothing y refl .1)
+    comes-as (a-step {i} c busy places room e o) =
         let y : given call h .answer ≡ answer.Done i = ap (λ (x : Answered). x .answer) is ∙ e in
         let after = subst (λ (w : World). Obeys (worldIn h .core) i (w .core)) (sym (runs-as call h b g .1)) o in
-        host-step busy room (numbered y) (t .stepped ∙ ap isStep y) (blocked y) (faulted y) (subst (λ (i : Bool). Obeys (worldIn h .core) i (worldIn h′ .core)) (sym (t .interrupt ∙ ap interruptIn y)) after)
+        host-step busy places room (numbered y) (t .stepped ∙ ap isStep y) (blocked y) (faulted y) (subst (λ (i : Bool). Obeys (worldIn h .core) i (worldIn h′ .core)) (sym (t .interrupt ∙ ap interruptIn y)) after)
 
   -- demand 2 of every exported advance
   pub host-comes : Here
@@ -89,11 +90,11 @@ module _ (h : Host) (long : length (h .block) ≡ stateLength) (bytes : Bytes (h
       (λ r. let y : given call h .answer ≡ answer.Refused 1 = rw r in no-state r (g .gives .answer ∙ ap numberOf y) (nothing y refl .0) (blocked y) (faulted y) (nothing y refl .1))
 
 -- a mount that returns 7 names the first block at fault from block 0 on, and tells what is wrong with it
-pub host-mount-names : {b b′ : List ℕ} {number block fault : ℕ} (memory : ℕ) (r : List ℕ) (journal e : ℕ) (online locked : Bool)
-    → Mounts b (mountOn (sessionIn b) memory r journal e online locked) number b′ block fault → number ≡ 7
+pub host-mount-names : {b b′ t t′ : List ℕ} {number block fault : ℕ} (memory : ℕ) (r : List ℕ) (table journal e : ℕ) (online locked : Bool)
+    → Mounts b (mountOn (sessionIn b) memory r table journal e online locked) t number b′ t′ block fault → number ≡ 7
     → (why : BlockFault) × (fault ≡ letterOf why) × (block < length r / blockBytes) × FirstFault r e false 0 why block
 unfolding blockIn faultIn
-host-mount-names {b} memory r journal e online locked g z =
-    let n = mount-names (sessionIn b) memory r journal e online locked (sym (g .answer) ∙ z) in
+host-mount-names {b} memory r table journal e online locked g z =
+    let n = mount-names (sessionIn b) memory r table journal e online locked (sym (g .answer) ∙ z) in
     let is = g .block ∙ ap blockIn (n .2) in
     (n .0, g .fault ∙ ap faultIn (n .2), omega (arith, is, n .3), subst (FirstFault r e false 0 (n .0)) (sym is) (n .4))

@@ -6,9 +6,9 @@ use lib.ListN.{length}
 use Rattle.worlds.specs.Worlds.{World}
 use Rattle.worlds.specs.Passes.{Fit}
 use Rattle.sessions.specs.Session.{Done, Ran, back, stood}
-use Rattle.sessions.specs.Calling.{Call, Noted, calls, entryAt, worldFrom}
+use Rattle.sessions.specs.Calling.{Call, Noted, calls, doing, entryAt, worldFrom}
 use Rattle.kept.specs.Formed.{Formed}
-use Rattle.sessions.specs.Good.{Each, EntryLong, Exactly, Good, Steppable}
+use Rattle.sessions.specs.Good.{CoreIndexed, Each, EntryLong, Exactly, Good, Steppable}
 use Rattle.sessions.proofs.Calls.{always-good, entry-each, never-was}
 use Rattle.sessions.proofs.Lengths.{entries-long}
 use Rattle.sessions.proofs.Room.{room-exactly}
@@ -27,19 +27,20 @@ module _ {h₀ h : Host} {d : List Line} (s : Begins h₀) (r : Hosted h₀ d h)
   abbrev follows : Follows n (first h₀) d h
   follows = host-ran s r
 
-  -- no check refuses, the reel is well formed, and the position is 0 or just after an object
+  -- no check refuses, the reel is well formed, the position is 0 or just after an object, and the table is the one worked out afresh from the reel
   pub host-good : GoodHost h
   host-good =
       let good : Good n (follows .moment) = always-good n (s .fresh) (follows .ran) in
       record {
         fit = subst (λ (i : ℕ). Fit i (worldIn h)) (sym (follows .here .long)) (subst (Fit n) (follows .here .world) (good .fit));
         formed = subst (λ (w : World). Formed (w .core .reel) (w .core .unit .tape)) (follows .here .world) (good .formed);
+        indexed = subst (λ (w : World). CoreIndexed (w .core)) (follows .here .world) (good .indexed);
       }
 
-  -- a step is refused for room exactly when its entry doesn't fit
-  pub host-room : (c : Call) → Steppable c (worldIn h .core) → Exactly (worldIn h) (entryAt c (worldIn h .core)) (given c h)
+  -- a step is refused for room exactly when its entry doesn't fit, and for places exactly when the table is too small
+  pub host-room : (c : Call) → Steppable c (worldIn h .core) → Exactly (worldIn h) (doing c (worldIn h .core)) (entryAt c (worldIn h .core)) (given c h)
   host-room c x =
-      subst (Exactly (worldIn h) (entryAt c (worldIn h .core))) (sym (given-is c h (follows .here .block))) (room-exactly (length (h .journal)) c (worldIn h) (host-good .fit) x)
+      subst (Exactly (worldIn h) (doing c (worldIn h .core)) (entryAt c (worldIn h .core))) (sym (given-is c h (follows .here .block))) (room-exactly (length (h .journal)) c (worldIn h) (host-good .fit) x)
 
 -- Whatever session of the model the host's log follows; `host-ran` says that there is one.
 module _ {h₀ h : Host} {d : List Line} (s : Begins h₀) (f : Follows (length (h₀ .journal)) (first h₀) d h) where
@@ -53,7 +54,7 @@ module _ {h₀ h : Host} {d : List Line} (s : Begins h₀) (f : Follows (length 
         bytes = ap (λ (w : World). w .ledger .bytes) (sym (f .here .world));
       }
 
-  -- and it is 128 bytes and those that the step stored
+  -- and it is 128 bytes, those that the step stored, and eight for each place that it filled
   pub host-entries-long : Each (EntryLong (length (h₀ .journal))) (stood (calls (length (h₀ .journal))) (f .ran))
   host-entries-long = entries-long (length (h₀ .journal)) (s .fresh) (f .ran)
 
@@ -67,7 +68,7 @@ module _ {h₀ h : Host} {d : List Line} (s : Begins h₀) (f : Follows (length 
         let z = back-empty f (s .fresh) g q in
         (z .0, world-bytes (f .here .block) (z .1 .block) (sym (z .1 .world) ∙ f .here .world))
 
--- what was undone never was, byte for byte: two runs whose steps that stand are the same end in the same block, memory, reel and used journal
+-- what was undone never was, byte for byte: two runs whose steps that stand are the same end in the same block, memory, reel, table and used journal
 pub same-bytes : {h₀ h h₂ : Host} {d d₂ : List Line} → Begins h₀ → (f : Follows (length (h₀ .journal)) (first h₀) d h) (g : Follows (length (h₀ .journal)) (first h₀) d₂ h₂) → stands f ≡ stands g → Unchanged h h₂
 same-bytes {h₀} {h} {h₂} s f g e =
     let n : ℕ = length (h₀ .journal) in

@@ -16,7 +16,7 @@ use Rattle.surface.proofs.Goes.{Went, leaves, opens, stayed, went}
 went-as : (n : ℕ) (w : World) (x : Answered) → WentBack n w x → Went w x
 unfolding stepKind undone
 went-as n w x stayed-back = stayed refl
-went-as n w x (brought-back e d p v) =
+went-as n w x (brought-back e d p v f) =
     let q = back-passed n w e p v in
     went refl (small-legal (sessionOf (backTo w e)) (q .legal) (q .used) (q .limit))
 

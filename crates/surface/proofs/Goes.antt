@@ -48,7 +48,7 @@ module _ {h h′ : Host} {x : Answered} {n : ℕ} (k : Block (h .block)) (g : Gi
   buffers e =
       let journal : usedIn (sessionIn (h′ .block) .used) (h′ .journal) ≡ x .world .ledger .bytes = ap (λ (s : Session). usedIn (s .used) (h′ .journal)) e ∙ g .journal in
       λ i. record {
-        core = record { unit = e i .unit; memory = g .memory i; reel = g .reel i };
+        core = record { unit = e i .unit; objects = e i .objects; memory = g .memory i; reel = g .reel i; table = g .table i };
         ledger = record { used = e i .used; length = e i .journal; bytes = journal i };
       }
 
@@ -70,5 +70,6 @@ world-bytes {h} {h′} b c e =
       block = same;
       memory = ap (λ (w : World). w .core .memory) e;
       reel = ap (λ (w : World). w .core .reel) e;
+      table = ap (λ (w : World). w .core .table) e;
       journal = ap (λ (y : List ℕ). usedIn (sessionIn y .used) (h′ .journal)) (sym same) ∙ ap (λ (w : World). w .ledger .bytes) e;
     }

@@ -12,4 +12,5 @@ pub mod Hosts
 pub mod Stands
 pub mod Mounted
 pub mod Always
+pub mod Founds
 pub mod Advances

@@ -30,6 +30,7 @@ given-register h tssr k x =
             state = sym (block-same (h .block) (y .answer) k);
             memory = refl;
             reel = refl;
+            table = refl;
             journal = refl;
             unless-step = λ z. refl;
           }),

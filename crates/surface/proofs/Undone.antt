@@ -1,4 +1,4 @@
--- The step back after a step gives back the bytes of state, memory and reel, from any block, be it of a state that no session ever had.
+-- The step back after a step gives back the bytes of state, memory, reel and table, from any block, be it of a state that no session ever had.
 use mathlib.Core.Bool.{false}
 use mathlib.Core.Path.{_≡_, refl, sym, ap, subst, _∙_}
 use Prim.Native.Nat.{ℕ}

@@ -1,4 +1,4 @@
--- An exported call's contract permits one outcome: number, block, memory, reel and used journal.
+-- An exported call's contract permits one outcome: number, block, memory, reel, table and used journal.
 use mathlib.Core.Bool.{Bool}
 use mathlib.Core.List.{List}
 use mathlib.Core.Path.{_≡_, sym, _∙_}
@@ -16,6 +16,7 @@ gives-unique p q = (
     block = p .state ∙ sym (q .state);
     memory = p .memory ∙ sym (q .memory);
     reel = p .reel ∙ sym (q .reel);
+    table = p .table ∙ sym (q .table);
     journal = p .journal ∙ sym (q .journal);
   },
 )
@@ -27,5 +28,5 @@ tells-unique p q = (p .stepped ∙ sym (q .stepped), p .interrupt ∙ sym (q .in
 pub reads-unique : {x : RegisterRead} {n₁ n₂ w₁ w₂ : ℕ} → Reads x n₁ w₁ → Reads x n₂ w₂ → (n₁ ≡ n₂) × (w₁ ≡ w₂)
 reads-unique p q = (p .answer ∙ sym (q .answer), p .word ∙ sym (q .word))
 
-pub mounts-unique : {b b₁ b₂ : List ℕ} {o : Outcome} {n₁ n₂ k₁ k₂ f₁ f₂ : ℕ} → Mounts b o n₁ b₁ k₁ f₁ → Mounts b o n₂ b₂ k₂ f₂ → (n₁ ≡ n₂) × (b₁ ≡ b₂) × (k₁ ≡ k₂) × (f₁ ≡ f₂)
-mounts-unique p q = (p .answer ∙ sym (q .answer), p .state ∙ sym (q .state), p .block ∙ sym (q .block), p .fault ∙ sym (q .fault))
+pub mounts-unique : {b b₁ b₂ tb t₁ t₂ : List ℕ} {o : Outcome} {n₁ n₂ k₁ k₂ f₁ f₂ : ℕ} → Mounts b o tb n₁ b₁ t₁ k₁ f₁ → Mounts b o tb n₂ b₂ t₂ k₂ f₂ → (n₁ ≡ n₂) × (b₁ ≡ b₂) × (t₁ ≡ t₂) × (k₁ ≡ k₂) × (f₁ ≡ f₂)
+mounts-unique p q = (p .answer ∙ sym (q .answer), p .state ∙ sym (q .state), p .table ∙ sym (q .table), p .block ∙ sym (q .block), p .fault ∙ sym (q .fault))

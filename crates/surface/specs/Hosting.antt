@@ -1,20 +1,23 @@
--- A host of the exported calls: it holds the state's block and three buffers, and hands them to one call after another.
+-- A host of the exported calls: it holds the state's block and four buffers, and hands them to one call after another.
 use mathlib.Core.List.{List, [], _∷_, map}
 use mathlib.Core.Bool.{Bool, true, false}
 use mathlib.Core.Path.{_≡_}
 use Prim.Native.Nat.{ℕ, suc, _≤_}
 use lib.ListN.{drop, length}
 use Rattle.lists.specs.Words.{Bytes}
+use Rattle.tape.specs.Afresh.{objectsIn}
 use Rattle.tape.specs.Letters.{letterOf}
+use Rattle.index.specs.Table.{Indexed}
 use Rattle.tape.specs.declared.BlockFault.{BlockFault}
 use Rattle.entries.specs.Entries.{usedIn}
 use Rattle.worlds.specs.Worlds.{Answered}
-use Rattle.worlds.specs.Calls.{mountOn}
+use Rattle.worlds.specs.Calls.{mountOn, tableMounted}
+use Rattle.worlds.specs.declared.Outcome.{Outcome}
 use Rattle.worlds.specs.Passes.{Fit}
 use Rattle.sessions.specs.Session.{Kind, Standing, entryOf, looked, refused, stepped}
 use Rattle.sessions.specs.Calling.{Call, Here, Noted, callKind, calls, journalOf, lengthOf, onCall, worldFrom}
 use Rattle.kept.specs.Formed.{Formed}
-use Rattle.sessions.specs.Advancing.{FaultAhead, Full, Idle, checkedWith}
+use Rattle.sessions.specs.Advancing.{Crowded, FaultAhead, Full, Idle, checkedWith}
 use Rattle.sessions.specs.Good.{Fresh}
 use Rattle.sessions.specs.Rules.{Obeys}
 use Rattle.stateblock.specs.Block.{Block, isBlock, sessionIn}
@@ -29,6 +32,7 @@ pub record Alike (used : ℕ) (h h′ : Host) : Type 0 where
   pub block : h′ .block ≡ h .block
   pub memory : h′ .memory ≡ h .memory
   pub reel : h′ .reel ≡ h .reel
+  pub table : h′ .table ≡ h .table
   pub journal : usedIn used (h′ .journal) ≡ usedIn used (h .journal)
 
 -- h′ holds all that h holds. "Journal bytes outside the used part are not promised." (01)
@@ -41,14 +45,21 @@ pub record Returned (h : Host) (x : Answered) (k : ℕ) (h′ : Host) : Type 0 w
   pub long : length (h′ .journal) ≡ length (h .journal)
   pub bytes : Bytes (h′ .block)
 
+-- what a mount comes to, and the table after it
+abbrev pub mountGiven : Host → ℕ → ℕ → ℕ → Bool → Bool → Outcome
+mountGiven h memory journal end online locked = mountOn (sessionIn (h .block)) memory (h .reel) (length (h .table)) journal end online locked
+
+abbrev pub tableGiven : Host → ℕ → ℕ → ℕ → Bool → Bool → List ℕ
+tableGiven h memory journal end online locked = tableMounted (h .table) (objectsIn (h .reel) end) (mountGiven h memory journal end online locked .answer)
+
 -- any exported call on h returned k, and then the host holds h′: a step or a reading, a step back, or a mount, which is handed no memory and no
 -- journal
 pub data Exported (h : Host) (k : ℕ) : Host → Type 0 where
   a-call : {h′ : Host} (c : Call) → Returned h (given c h) k h′ → Exported h k h′
   a-step-back : {h′ : Host} → Returned h (backGiven h) k h′ → Exported h k h′
-  a-mount : {b′ : List ℕ} {block fault : ℕ} (memory journal end : ℕ) (online locked : Bool)
-      → Mounts (h .block) (mountOn (sessionIn (h .block)) memory (h .reel) journal end online locked) k b′ block fault
-      → Exported h k (record { block = b′; memory = h .memory; reel = h .reel; journal = h .journal })
+  a-mount : {b′ tb′ : List ℕ} {block fault : ℕ} (memory journal end : ℕ) (online locked : Bool)
+      → Mounts (h .block) (mountGiven h memory journal end online locked) (tableGiven h memory journal end online locked) k b′ tb′ block fault
+      → Exported h k (record { block = b′; memory = h .memory; reel = h .reel; table = tb′; journal = h .journal })
 
 -- what a host did, and the number that it was returned
 pub data Line : Type 0 where
@@ -101,10 +112,11 @@ pub record Begins (h : Host) : Type 0 where
   pub fresh : Fresh (length (h .journal)) (first h)
   pub here : AtMoment (length (h .journal)) (first h) h
 
--- no check refuses; "the reel is well formed, the position is 0 or just after an object"
+-- no check refuses; "the reel is well formed, the position is 0 or just after an object"; the table is the one worked out afresh from the reel
 pub record GoodHost (h : Host) : Type 0 where
   pub fit : Fit (length (h .journal)) (worldIn h)
   pub formed : Formed (h .reel) (sessionIn (h .block) .unit .tape)
+  pub indexed : Indexed (h .reel) (sessionIn (h .block) .unit .tape .end) (h .table) (sessionIn (h .block) .objects)
 
 -- "the journal holds one entry per step taken and still standing": the used journal is the entries of these steps, each that step's own, and
 -- nothing else
@@ -115,12 +127,19 @@ pub record Entries (h : Host) (n : ℕ) (steps : List (Standing (calls n))) : Ty
   pub bytes : usedIn (sessionIn (h .block) .used) (h .journal) ≡ journalOf noted
 
 -- what an exported advance on h returned and told, and that it left h′: bytes that are no state's, refusals 1 to 4, idle, 7 with the block and its
--- fault's letter, 9, or a step
+-- fault's letter, 11, 9, or a step
 pub data HostComes (h : Host) (number : ℕ) (steps interrupts : Bool) (block fault : ℕ) (h′ : Host) : Type 0 where
   no-state : isBlock (h .block) ≡ false → number ≡ 1 → steps ≡ false → block ≡ 0 → fault ≡ 0 → h′ ≡ h → HostComes h number steps interrupts block fault h′
   refused-first : (number ≡ 0 → ⊥) → number ≤ 4 → number ≡ checkedWith (length (h .journal)) (worldIn h) → steps ≡ false → block ≡ 0 → fault ≡ 0 → h′ ≡ h → HostComes h number steps interrupts block fault h′
   idle : Idle (worldIn h .core .unit) → number ≡ 0 → steps ≡ false → block ≡ 0 → fault ≡ 0 → h′ ≡ h → HostComes h number steps interrupts block fault h′
   at-fault : {why : BlockFault} → (Idle (worldIn h .core .unit) → ⊥) → FaultAhead (worldIn h .core) why block → fault ≡ letterOf why → number ≡ 7 → steps ≡ false → h′ ≡ h → HostComes h number steps interrupts block fault h′
-  no-room : (Idle (worldIn h .core .unit) → ⊥) → Full (worldIn h) → number ≡ 9 → steps ≡ false → block ≡ 0 → fault ≡ 0 → h′ ≡ h → HostComes h number steps interrupts block fault h′
-  a-step : (Idle (worldIn h .core .unit) → ⊥) → (Full (worldIn h) → ⊥) → number ≡ 0 → steps ≡ true → block ≡ 0 → fault ≡ 0 → Obeys (worldIn h .core) interrupts (worldIn h′ .core)
+  no-place : (Idle (worldIn h .core .unit) → ⊥) → Crowded (worldIn h) → number ≡ 11 → steps ≡ false → block ≡ 0 → fault ≡ 0 → h′ ≡ h → HostComes h number steps interrupts block fault h′
+  no-room : (Idle (worldIn h .core .unit) → ⊥) → (Crowded (worldIn h) → ⊥) → Full (worldIn h) → number ≡ 9 → steps ≡ false → block ≡ 0 → fault ≡ 0 → h′ ≡ h → HostComes h number steps interrupts block fault h′
+  a-step : (Idle (worldIn h .core .unit) → ⊥) → (Crowded (worldIn h) → ⊥) → (Full (worldIn h) → ⊥) → number ≡ 0 → steps ≡ true → block ≡ 0 → fault ≡ 0 → Obeys (worldIn h .core) interrupts (worldIn h′ .core)
       → HostComes h number steps interrupts block fault h′
+
+-- a look-up was not refused, and told of a place exactly where P has one
+pub record Locates (P : ℕ → Type 0) (number : ℕ) (told : Bool) (place : ℕ) : Type 0 where
+  pub answered : number ≡ 0
+  pub right : told ≡ true → P place
+  pub all : (i : ℕ) → P i → (told ≡ true) × (place ≡ i)
