@@ -2,7 +2,9 @@
 """unproved.py: the crates with their contracts left out, compiled as Rust into target/unproved/.
 
 For running a change on the vectors before it is proved: `target/unproved/replay < SCRIPT`, or a host test linked with
-target/unproved/libts11.a (-lpthread -ldl -lm). It proves nothing, and no test of the gate uses it. Wants rustc.
+target/unproved/libts11.a (-lpthread -ldl -lm). It proves nothing, and no test of the gate uses it. Wants rustc. C can't hand that
+archive a slice whose pointer is in the last register: rustc puts such a slice on the stack whole, and the toolchain's compiler does not.
+`unproved.py ts11` compiles that crate and those below it alone.
 """
 import os
 import re
@@ -96,7 +98,15 @@ def build_crate(name, uses):
 
 compile_rust(write(os.path.join(OUT, "src", "libc.rs"), LIBC), "libc", "rlib", [])
 compile_rust(write(os.path.join(OUT, "src", "io.rs"), IO), "io", "rlib", ["libc"])
+below = {}
 for line in open(os.path.join(TOP, "crates.txt")):
     if ":" in line and not line.startswith("#"):
-        crate, below = line.split(":")
-        build_crate(crate, below.split())
+        crate, uses = line.split(":")
+        below[crate] = uses.split()
+wanted = set(sys.argv[1:]) or set(below)
+for crate in reversed(below):
+    if crate in wanted:
+        wanted |= set(below[crate])
+for crate, uses in below.items():
+    if crate in wanted:
+        build_crate(crate, uses)

@@ -1,4 +1,4 @@
--- What a line that sets the desk up comes to, where the buffers are m, r and j bytes; and whether it keeps their bytes.
+-- What a line that sets the desk up comes to, where the buffers are so long; and the lengths of what it clears.
 use mathlib.Core.Bool.{Bool, true, false}
 use Prim.Native.Nat.{ℕ}
 use lib.Dec.{ltb}
@@ -12,8 +12,8 @@ use Rattle.results.specs.Fields.{fieldsOf, sessionWith}
 use Rattle.desk.specs.declared.desk.Desk.{Desk}
 use Rattle.desk.specs.declared.Said.the-variants as said
 use Rattle.desk.specs.declared.Turn.{Turn}
-use Rattle.desk.specs.Desks.{freshAt, sizesBeyond}
-use Rattle.desk.specs.Turns.{still, wrong}
+use Rattle.desk.specs.Desks.{freshAt, noSizes, sizesBeyond}
+use Rattle.desk.specs.Turns.{still, withSizes, wrong}
 
 -- more than the program has room for
 abbrev pub noRoom : Desk → Turn
@@ -23,37 +23,38 @@ noRoom d = wrong d fault.BeyondBuffers
 abbrev pub startedCase : Desk → Turn
 startedCase d = record { desk = freshAt (d .line); said = said.Itself }
 
--- the sizes of the case, and the lengths that its calls are handed
-unfoldable pub resized : Desk → Sizes → ℕ → ℕ → ℕ → Turn
-resized d s m r j =
-    pick (sizesBeyond s m r j) (noRoom d)
-    (still (record { session = d .session; sizes = s; cuts = d .cuts; cut = d .cut; cursor = d .cursor; line = d .line; stopped = d .stopped }))
+-- the sizes of the case, and the lengths that its calls are handed, the table's with them or not
+unfoldable pub resized : Desk → Sizes → Sizes → Turn
+resized d s room = pick (sizesBeyond s room) (noRoom d) (still (withSizes d s))
 
-unfoldable pub cutTo : Desk → Sizes → ℕ → ℕ → ℕ → Turn
-cutTo d s m r j =
-    pick (sizesBeyond s m r j) (noRoom d)
-    (still (record { session = d .session; sizes = d .sizes; cuts = s; cut = true; cursor = d .cursor; line = d .line; stopped = d .stopped }))
+unfoldable pub cutTo : Desk → Sizes → Bool → Sizes → Turn
+cutTo d s table room =
+    pick (sizesBeyond s room) (noRoom d)
+    (still (record { session = d .session; sizes = d .sizes; cuts = s; cut = true; «table_cut» = table; cursor = d .cursor; line = d .line; stopped = d .stopped }))
 
 abbrev pub uncutOf : Desk → Turn
-uncutOf d = still (record { session = d .session; sizes = d .sizes; cuts = d .cuts; cut = false; cursor = d .cursor; line = d .line; stopped = d .stopped })
+uncutOf d = still (record { session = d .session; sizes = d .sizes; cuts = d .cuts; cut = false; «table_cut» = d .«table_cut»; cursor = d .cursor; line = d .line; stopped = d .stopped })
 
--- field k of the session made up; it has 23
+-- field k of the session made up; it has 24
 unfoldable pub setTo : Desk → ℕ → ℕ → Turn
 setTo d k v =
-    pick (ltb 22 k) (noRoom d)
-    (still (record { session = sessionWith (set (fieldsOf (d .session)) k v); sizes = d .sizes; cuts = d .cuts; cut = d .cut; cursor = d .cursor; line = d .line; stopped = d .stopped }))
+    pick (ltb 23 k) (noRoom d)
+    (still (record { session = sessionWith (set (fieldsOf (d .session)) k v); sizes = d .sizes; cuts = d .cuts; cut = d .cut; «table_cut» = d .«table_cut»; cursor = d .cursor; line = d .line; stopped = d .stopped }))
 
-unfoldable pub arranged : Desk → Arrange → ℕ → ℕ → ℕ → Turn
-arranged d arrange.Case m r j = startedCase d
-arranged d (arrange.Sizes s) m r j = resized d s m r j
-arranged d (arrange.Cut s) m r j = cutTo d s m r j
-arranged d arrange.Uncut m r j = uncutOf d
-arranged d (arrange.Set k v) m r j = setTo d k v
+unfoldable pub arranged : Desk → Arrange → Sizes → Turn
+arranged d arrange.Case room = startedCase d
+arranged d (arrange.Sizes s) room = resized d s room
+arranged d (arrange.Cut s table) room = cutTo d s table room
+arranged d arrange.Uncut room = uncutOf d
+arranged d (arrange.Set k v) room = setTo d k v
 
--- a case, and new sizes that there is room for, clear the bytes within the old sizes; any other line keeps every byte
-unfoldable pub keepsBytes : Arrange → ℕ → ℕ → ℕ → Bool
-keepsBytes arrange.Case m r j = false
-keepsBytes (arrange.Sizes s) m r j = sizesBeyond s m r j
-keepsBytes (arrange.Cut s) m r j = true
-keepsBytes arrange.Uncut m r j = true
-keepsBytes (arrange.Set k v) m r j = true
+-- a case, and new sizes that there is room for, clear the bytes within the old sizes; any other line clears none
+unfoldable pub clearedUnless : Desk → Sizes → Sizes → Sizes
+clearedUnless d s room = pick (sizesBeyond s room) noSizes (d .sizes)
+
+unfoldable pub clearedBy : Desk → Arrange → Sizes → Sizes
+clearedBy d arrange.Case room = d .sizes
+clearedBy d (arrange.Sizes s) room = clearedUnless d s room
+clearedBy d (arrange.Cut s table) room = noSizes
+clearedBy d arrange.Uncut room = noSizes
+clearedBy d (arrange.Set k v) room = noSizes

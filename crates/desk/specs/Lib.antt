@@ -3,3 +3,4 @@ pub mod Desks
 pub mod Turns
 pub mod Arranges
 pub mod Builds
+pub mod Tables

@@ -3,73 +3,62 @@ use crate::Desk;
 use crate::Said;
 use crate::Turn;
 use crate::desk::beyond;
-use crate::desk::clear;
 use crate::desk::cleared;
+use crate::desk::no_sizes;
+use crate::desk::trim;
 use lines::Arrange;
 use lines::Sizes;
 use results::with_field;
 use script::Fault;
 ghost use mathlib.Core.Path.{_≡_};
-ghost use lib.ListN.{length};
-ghost use Rattle.lists.specs.Pick.{pick};
 ghost use Rattle.script.specs.Fills.{wiped};
-ghost use Rattle.desk.specs.Desks.{sizesBeyond};
+ghost use Rattle.desk.specs.Desks.{roomOf};
 ghost use Rattle.desk.specs.Turns.{still};
-ghost use Rattle.desk.specs.Arranges.{arranged, cutTo, keepsBytes, noRoom, resized, setTo, startedCase, uncutOf};
+ghost use Rattle.desk.specs.Arranges.{arranged, clearedBy, clearedUnless, cutTo, noRoom, resized, setTo, startedCase, uncutOf};
 
-fn unsaid(desk: Desk) -> Turn
+pub fn unsaid(desk: Desk) -> Turn
     ensures { λ r. ⌜ r ≡ still desk ⌝ }
 {
     let said = Said::Nothing;
     Turn { desk, said }
 }
 
-fn refused(desk: Desk) -> Turn
+pub fn refused(desk: Desk) -> Turn
     ensures { λ r. ⌜ r ≡ noRoom desk ⌝ }
 {
     let said = Said::Wrong(Fault::BeyondBuffers);
     Turn { desk, said }
 }
 
-// The bytes beyond the sizes are zero between calls.
-fn start_case(d: Desk, mem: &mut [u8], reel: &mut [u8], jrnl: &mut [u8]) -> Turn
-    ensures turn { λ r. ⌜ r ≡ startedCase d ⌝ }
-    ensures memory { λ _. ⌜ now (mem .exit) ≡ wiped (now (mem .entry)) 0 (d .sizes .memory) ⌝ }
-    ensures reel { λ _. ⌜ now (reel .exit) ≡ wiped (now (reel .entry)) 0 (d .sizes .reel) ⌝ }
-    ensures journal { λ _. ⌜ now (jrnl .exit) ≡ wiped (now (jrnl .entry)) 0 (d .sizes .journal) ⌝ }
+fn start_case(d: Desk) -> Turn
+    ensures { λ r. ⌜ r ≡ startedCase d ⌝ }
 {
-    let s = d.sizes;
-    clear(s, mem, reel, jrnl);
     let desk = cleared(d);
     let said = Said::Itself;
     Turn { desk, said }
 }
 
-fn resize(d: Desk, s: Sizes, mem: &mut [u8], reel: &mut [u8], jrnl: &mut [u8]) -> Turn
-    ensures turn { λ r. ⌜ r ≡ resized d s (length (now (mem .entry))) (length (now (reel .entry))) (length (now (jrnl .entry))) ⌝ }
-    ensures memory { λ _. ⌜ now (mem .exit) ≡ pick (sizesBeyond s (length (now (mem .entry))) (length (now (reel .entry))) (length (now (jrnl .entry)))) (now (mem .entry)) (wiped (now (mem .entry)) 0 (d .sizes .memory)) ⌝ }
-    ensures reel { λ _. ⌜ now (reel .exit) ≡ pick (sizesBeyond s (length (now (mem .entry))) (length (now (reel .entry))) (length (now (jrnl .entry)))) (now (reel .entry)) (wiped (now (reel .entry)) 0 (d .sizes .reel)) ⌝ }
-    ensures journal { λ _. ⌜ now (jrnl .exit) ≡ pick (sizesBeyond s (length (now (mem .entry))) (length (now (reel .entry))) (length (now (jrnl .entry)))) (now (jrnl .entry)) (wiped (now (jrnl .entry)) 0 (d .sizes .journal)) ⌝ }
+fn resize(d: Desk, s: Sizes, room: Sizes) -> Turn
+    ensures { λ r. ⌜ r ≡ resized d s room ⌝ }
 {
-    if beyond(s, mem.len(), reel.len(), jrnl.len()) {
+    if beyond(s, room) {
         return refused(d);
     }
-    let old = d.sizes;
-    clear(old, mem, reel, jrnl);
     let mut e = d;
     e.sizes = s;
     unsaid(e)
 }
 
-fn cut_to(d: Desk, s: Sizes, m: usize, r: usize, j: usize) -> Turn
-    ensures { λ t. ⌜ t ≡ cutTo d s m r j ⌝ }
+fn cut_to(d: Desk, s: Sizes, table: bool, room: Sizes) -> Turn
+    ensures { λ r. ⌜ r ≡ cutTo d s table room ⌝ }
 {
-    if beyond(s, m, r, j) {
+    if beyond(s, room) {
         return refused(d);
     }
     let mut e = d;
     e.cuts = s;
     e.cut = true;
+    e.table_cut = table;
     unsaid(e)
 }
 
@@ -84,7 +73,7 @@ fn uncut(d: Desk) -> Turn
 fn set(d: Desk, k: usize, v: usize) -> Turn
     ensures { λ r. ⌜ r ≡ setTo d k v ⌝ }
 {
-    if 22 < k {
+    if 23 < k {
         return refused(d);
     }
     let s = d.session;
@@ -94,17 +83,59 @@ fn set(d: Desk, k: usize, v: usize) -> Turn
     unsaid(e)
 }
 
-pub fn arrange(d: Desk, a: Arrange, mem: &mut [u8], reel: &mut [u8], jrnl: &mut [u8]) -> Turn
-    ensures turn { λ r. ⌜ r ≡ arranged d a (length (now (mem .entry))) (length (now (reel .entry))) (length (now (jrnl .entry))) ⌝ }
-    ensures memory { λ _. ⌜ now (mem .exit) ≡ pick (keepsBytes a (length (now (mem .entry))) (length (now (reel .entry))) (length (now (jrnl .entry)))) (now (mem .entry)) (wiped (now (mem .entry)) 0 (d .sizes .memory)) ⌝ }
-    ensures reel { λ _. ⌜ now (reel .exit) ≡ pick (keepsBytes a (length (now (mem .entry))) (length (now (reel .entry))) (length (now (jrnl .entry)))) (now (reel .entry)) (wiped (now (reel .entry)) 0 (d .sizes .reel)) ⌝ }
-    ensures journal { λ _. ⌜ now (jrnl .exit) ≡ pick (keepsBytes a (length (now (mem .entry))) (length (now (reel .entry))) (length (now (jrnl .entry)))) (now (jrnl .entry)) (wiped (now (jrnl .entry)) 0 (d .sizes .journal)) ⌝ }
+fn arrange_desk(d: Desk, a: Arrange, room: Sizes) -> Turn
+    ensures { λ r. ⌜ r ≡ arranged d a room ⌝ }
 {
     match a {
-        Arrange::Case => start_case(d, mem, reel, jrnl),
-        Arrange::Sizes(s) => resize(d, s, mem, reel, jrnl),
-        Arrange::Cut(s) => cut_to(d, s, mem.len(), reel.len(), jrnl.len()),
+        Arrange::Case => start_case(d),
+        Arrange::Sizes(s) => resize(d, s, room),
+        Arrange::Cut(s, table) => cut_to(d, s, table, room),
         Arrange::Uncut => uncut(d),
         Arrange::Set(k, v) => set(d, k, v),
     }
+}
+
+fn cleared_unless(d: Desk, s: Sizes, room: Sizes) -> Sizes
+    ensures { λ r. ⌜ r ≡ clearedUnless d s room ⌝ }
+{
+    let old = d.sizes;
+    if beyond(s, room) { no_sizes() } else { old }
+}
+
+// The lengths of what goes back to zero: the bytes beyond the sizes are zero between calls.
+fn cleared_by(d: Desk, a: Arrange, room: Sizes) -> Sizes
+    ensures { λ r. ⌜ r ≡ clearedBy d a room ⌝ }
+{
+    let old = d.sizes;
+    match a {
+        Arrange::Case => old,
+        Arrange::Sizes(s) => cleared_unless(d, s, room),
+        Arrange::Cut(_, _) => no_sizes(),
+        Arrange::Uncut => no_sizes(),
+        Arrange::Set(_, _) => no_sizes(),
+    }
+}
+
+pub fn arrange(
+    d: Desk,
+    a: Arrange,
+    mem: &mut [u8],
+    reel: &mut [u8],
+    table: &mut [u8],
+    jrnl: &mut [u8],
+) -> Turn
+    ensures turn { λ r. ⌜ r ≡ arranged d a (roomOf (now (mem .entry)) (now (reel .entry)) (now (table .entry)) (now (jrnl .entry))) ⌝ }
+    ensures memory { λ _. ⌜ now (mem .exit) ≡ wiped (now (mem .entry)) 0 (clearedBy d a (roomOf (now (mem .entry)) (now (reel .entry)) (now (table .entry)) (now (jrnl .entry))) .memory) ⌝ }
+    ensures reel { λ _. ⌜ now (reel .exit) ≡ wiped (now (reel .entry)) 0 (clearedBy d a (roomOf (now (mem .entry)) (now (reel .entry)) (now (table .entry)) (now (jrnl .entry))) .reel) ⌝ }
+    ensures table { λ _. ⌜ now (table .exit) ≡ wiped (now (table .entry)) 0 (clearedBy d a (roomOf (now (mem .entry)) (now (reel .entry)) (now (table .entry)) (now (jrnl .entry))) .table) ⌝ }
+    ensures journal { λ _. ⌜ now (jrnl .exit) ≡ wiped (now (jrnl .entry)) 0 (clearedBy d a (roomOf (now (mem .entry)) (now (reel .entry)) (now (table .entry)) (now (jrnl .entry))) .journal) ⌝ }
+{
+    let room = Sizes {
+        memory: mem.len(),
+        reel: reel.len(),
+        table: table.len(),
+        journal: jrnl.len(),
+    };
+    trim(no_sizes(), cleared_by(d, a, room), mem, reel, table, jrnl);
+    arrange_desk(d, a, room)
 }

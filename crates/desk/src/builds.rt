@@ -132,7 +132,7 @@ fn build_at(b: Build, p: usize, data: &[u8], n: usize, mem: &mut [u8], reel: &mu
     }
 }
 
-fn settle(d: Desk, v: Value) -> Turn
+pub fn settle(d: Desk, v: Value) -> Turn
     ensures { λ r. ⌜ r ≡ settled d v ⌝ }
 {
     match v {

@@ -19,6 +19,8 @@ pub struct Desk {
     // What the calls are handed while `cut`.
     pub cuts: Sizes,
     pub cut: bool,
+    // Whether of the table too.
+    pub table_cut: bool,
     // The block that the next object is laid at.
     pub cursor: usize,
     // The number of the line.
@@ -32,6 +34,7 @@ pub fn no_sizes() -> Sizes
     Sizes {
         memory: 0,
         reel: 0,
+        table: 0,
         journal: 0,
     }
 }
@@ -81,6 +84,7 @@ fn no_session() -> Session
 {
     Session {
         unit: no_unit(),
+        objects: 0,
         used: 0,
         journal: 0,
     }
@@ -95,6 +99,7 @@ pub fn fresh() -> Desk
         sizes: no_sizes(),
         cuts: no_sizes(),
         cut: false,
+        table_cut: false,
         cursor: 0,
         line: 0,
         stopped: false,
@@ -116,14 +121,25 @@ pub fn handed(d: Desk) -> Sizes
 {
     let cuts = d.cuts;
     let sizes = d.sizes;
-    if d.cut { cuts } else { sizes }
+    if d.cut {
+        if d.table_cut {
+            return cuts;
+        }
+        let mut s = cuts;
+        s.table = sizes.table;
+        return s;
+    }
+    sizes
 }
 
-// Whether sizes are more than these.
-pub fn beyond(s: Sizes, memory: usize, reel: usize, journal: usize) -> bool
-    ensures { λ r. ⌜ r ≡ sizesBeyond s memory reel journal ⌝ }
+// Whether sizes are more than there is room for.
+pub fn beyond(s: Sizes, room: Sizes) -> bool
+    ensures { λ r. ⌜ r ≡ sizesBeyond s room ⌝ }
 {
-    (memory < s.memory) | (reel < s.reel) | (journal < s.journal)
+    (room.memory < s.memory)
+        | (room.reel < s.reel)
+        | (room.table < s.table)
+        | (room.journal < s.journal)
 }
 
 // The next line starts.
@@ -138,23 +154,14 @@ pub fn next_line(d: Desk) -> Desk
 }
 
 // Zeros from the sizes s to the sizes h, where h is more.
-pub fn trim(s: Sizes, h: Sizes, mem: &mut [u8], reel: &mut [u8], jrnl: &mut [u8])
+pub fn trim(s: Sizes, h: Sizes, mem: &mut [u8], reel: &mut [u8], table: &mut [u8], jrnl: &mut [u8])
     ensures memory { λ _. ⌜ now (mem .exit) ≡ wiped (now (mem .entry)) (s .memory) (h .memory) ⌝ }
     ensures reel { λ _. ⌜ now (reel .exit) ≡ wiped (now (reel .entry)) (s .reel) (h .reel) ⌝ }
+    ensures table { λ _. ⌜ now (table .exit) ≡ wiped (now (table .entry)) (s .table) (h .table) ⌝ }
     ensures journal { λ _. ⌜ now (jrnl .exit) ≡ wiped (now (jrnl .entry)) (s .journal) (h .journal) ⌝ }
 {
     wipe(mem, s.memory, h.memory);
     wipe(reel, s.reel, h.reel);
+    wipe(table, s.table, h.table);
     wipe(jrnl, s.journal, h.journal);
-}
-
-// The bytes within the sizes go back to zero.
-pub fn clear(s: Sizes, mem: &mut [u8], reel: &mut [u8], jrnl: &mut [u8])
-    ensures memory { λ _. ⌜ now (mem .exit) ≡ wiped (now (mem .entry)) 0 (s .memory) ⌝ }
-    ensures reel { λ _. ⌜ now (reel .exit) ≡ wiped (now (reel .entry)) 0 (s .reel) ⌝ }
-    ensures journal { λ _. ⌜ now (jrnl .exit) ≡ wiped (now (jrnl .entry)) 0 (s .journal) ⌝ }
-{
-    wipe(mem, 0, s.memory);
-    wipe(reel, 0, s.reel);
-    wipe(jrnl, 0, s.journal);
 }

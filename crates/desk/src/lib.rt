@@ -2,6 +2,7 @@
 mod arranges;
 mod builds;
 mod desk;
+mod tables;
 
 pub use arranges::arrange;
 pub use builds::build;
@@ -12,6 +13,7 @@ pub use desk::next_line;
 pub use desk::trim;
 use results::Told;
 use script::Fault;
+pub use tables::tabled;
 
 // What a line has printed.
 pub enum Said {

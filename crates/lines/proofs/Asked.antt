@@ -1,6 +1,6 @@
 -- Laws of lines that ask for numbers, or for a word of a list.
-use mathlib.Core.Path.{_≡_, ap, _∙_}
-use mathlib.Core.Bool.{Bool, true, false}
+use mathlib.Core.Path.{_≡_, sym, ap, _∙_}
+use mathlib.Core.Bool.{Bool, true, false, not}
 use mathlib.Core.List.{List}
 use Prim.Native.Nat.{ℕ}
 use borrow.Author.Tests.{eq-eqb, ne-eqb}
@@ -15,7 +15,7 @@ use Rattle.lines.specs.declared.Arrange.the-variants as arrange
 use Rattle.lines.specs.declared.Line.{Line}
 use Rattle.lines.specs.Makes.{arrangesLine, onNumber, onNumbers, wrongLine}
 use Rattle.lines.specs.Starts.{hasWord, mostWords}
-use Rattle.lines.specs.Arranging.{reelBytes}
+use Rattle.lines.specs.Arranging.{reelBytes, tableBytes}
 use Rattle.lines.specs.Calling.{operateBy, registerBy}
 
 -- a number that was read, or not
@@ -56,9 +56,16 @@ pub operate-none : (k : ℕ) (r : Line) → (k ≡ 0 → ⊥) → (k ≡ 1 → �
 unfolding operateBy
 operate-none k r a b c d h = rw (ne-eqb k 0 a, ne-eqb k 1 b, ne-eqb k 2 c, ne-eqb k 3 d) h
 
--- sizes whose reel was worked out
-pub sizes-made : (m b j n : ℕ) (r : Line) → n ≡ reelBytes b → r ≡ arrangesLine (arrange.Sizes (record { memory = m; reel = n; journal = j })) → r ≡ arrangesLine (arrange.Sizes (record { memory = m; reel = reelBytes b; journal = j }))
-sizes-made m b j n r e f = f ∙ ap (λ (x : ℕ). arrangesLine (arrange.Sizes (record { memory = m; reel = x; journal = j }))) e
+-- sizes whose reel and table were worked out
+pub sizes-made : (m b j n k : ℕ) (r : Line) → n ≡ reelBytes b → k ≡ tableBytes b → r ≡ arrangesLine (arrange.Sizes (record { memory = m; reel = n; table = k; journal = j })) → r ≡ arrangesLine (arrange.Sizes (record { memory = m; reel = reelBytes b; table = tableBytes b; journal = j }))
+sizes-made m b j n k r e g f =
+    f ∙ ap (λ (x : ℕ). arrangesLine (arrange.Sizes (record { memory = m; reel = x; table = k; journal = j }))) e
+    ∙ ap (λ (x : ℕ). arrangesLine (arrange.Sizes (record { memory = m; reel = reelBytes b; table = x; journal = j }))) g
+
+-- whether there is a word k, by a test that there is none
+pub word-not : (t : List ℕ) (k : ℕ) (b c : Bool) → b ≡ hasWord t k → not b ≡ c → hasWord t k ≡ not c
+word-not t k true c e h = sym e ∙ ap not h
+word-not t k false c e h = sym e ∙ ap not h
 
 -- whether there is a word too many
 pub word-more : (t : List ℕ) (k m : ℕ) (b c : Bool) → m ≡ mostWords k → b ≡ hasWord t m → b ≡ c → hasWord t (mostWords k) ≡ c

@@ -13,13 +13,15 @@ use Rattle.lines.specs.declared.Build.the-variants as build
 use Rattle.lines.specs.declared.Call.the-variants as call
 use Rattle.lines.specs.declared.Does.the-variants as does
 use Rattle.lines.specs.declared.Given.the-variants as given
-use Rattle.lines.specs.Makes.{arrangesLine, asksLine, buildsLine, callsLine, onNumber, onNumbers, plainLine, wrongLine}
+use Rattle.lines.specs.declared.Table.the-variants as table
+use Rattle.lines.specs.Makes.{arrangesLine, asksLine, buildsLine, callsLine, onNumber, onNumbers, plainLine, tablesLine, wrongLine}
 use Rattle.lines.specs.Starts.{hasWord, mostWords, startOf, startWords}
-use Rattle.lines.specs.Arranging.{arranging, fieldOf, fieldWords, setLine, setTo}
+use Rattle.lines.specs.Arranging.{arranging, cutLine, fieldOf, fieldWords, lensLine, setLine, setTo}
 use Rattle.lines.specs.Building.{laying, madeLine, pokeLine, poking, recordLine}
 use Rattle.lines.specs.Calling.{calling, endOf, mountLine, opLine, operateBy, tsdbLine, tsdbTo}
 use Rattle.lines.specs.Rules.{heldBy, named, rulesLine, within}
 use Rattle.lines.specs.Lines.{lineBy, lineFrom, lineOf}
+use Rattle.lines.specs.Tabling.{tabling}
 
 -- a blank line
 empty : lineOf (32 ∷ []) 0 ≡ plainLine does.Nothing
@@ -51,6 +53,24 @@ pokes : lineOf (112 ∷ 111 ∷ 107 ∷ 101 ∷ 114 ∷ 101 ∷ 101 ∷ 108 ∷ 
 unfolding lineOf lineFrom lineBy hasWord startOf startWords mostWords poking pokeLine numberIn hexed said joined digitOf wantedOf threeOf onNumber onNumbers placeFrom eqs wordFrom wordStart wordEnd over spanned
 pokes = refl
 
+-- "lens 2 3 4" leaves the table as it is, "lens 2 3 4 5" cuts it too
+lens-three : lineOf (108 ∷ 101 ∷ 110 ∷ 115 ∷ 32 ∷ 50 ∷ 32 ∷ 51 ∷ 32 ∷ 52 ∷ []) 0 ≡ arrangesLine (arrange.Cut (record { memory = 2; reel = 3; table = 0; journal = 4 }) false)
+unfolding lineOf lineFrom lineBy hasWord startOf startWords mostWords arranging lensLine cutLine numberIn hexed said joined digitOf wantedOf threeOf onNumber onNumbers placeFrom eqs wordFrom wordStart wordEnd over spanned
+lens-three = refl
+
+lens-four : lineOf (108 ∷ 101 ∷ 110 ∷ 115 ∷ 32 ∷ 50 ∷ 32 ∷ 51 ∷ 32 ∷ 52 ∷ 32 ∷ 53 ∷ []) 0 ≡ arrangesLine (arrange.Cut (record { memory = 2; reel = 3; table = 5; journal = 4 }) true)
+unfolding lineOf lineFrom lineBy hasWord startOf startWords mostWords arranging lensLine cutLine numberIn hexed said joined digitOf wantedOf threeOf onNumber onNumbers placeFrom eqs wordFrom wordStart wordEnd over spanned
+lens-four = refl
+
+-- "index 47", "poketable 8 00"
+indexes : lineOf (105 ∷ 110 ∷ 100 ∷ 101 ∷ 120 ∷ 32 ∷ 52 ∷ 55 ∷ []) 0 ≡ tablesLine (table.Index 47) given.Nothing
+unfolding lineOf lineFrom lineBy hasWord startOf startWords mostWords tabling numberIn hexed said joined digitOf wantedOf threeOf onNumber onNumbers placeFrom eqs wordFrom wordStart wordEnd over spanned
+indexes = refl
+
+pokes-table : lineOf (112 ∷ 111 ∷ 107 ∷ 101 ∷ 116 ∷ 97 ∷ 98 ∷ 108 ∷ 101 ∷ 32 ∷ 56 ∷ 32 ∷ 48 ∷ 48 ∷ []) 0 ≡ tablesLine (table.Poke 8) (given.Word 2)
+unfolding lineOf lineFrom lineBy hasWord startOf startWords mostWords tabling numberIn hexed said joined digitOf wantedOf threeOf onNumber onNumbers placeFrom eqs wordFrom wordStart wordEnd over spanned
+pokes-table = refl
+
 -- "back 2" has a word too many, "backk" is none of the words
 extra : lineOf (98 ∷ 97 ∷ 99 ∷ 107 ∷ 32 ∷ 50 ∷ []) 0 ≡ wrongLine fault.ExtraWord
 unfolding lineOf lineFrom lineBy hasWord startOf startWords mostWords placeFrom eqs wordFrom wordStart wordEnd over spanned
@@ -65,7 +85,7 @@ last-word : lineOf (98 ∷ 97 ∷ 99 ∷ 107 ∷ []) 0 ≡ callsLine call.StepBa
 unfolding lineOf lineFrom lineBy hasWord startOf startWords mostWords calling placeFrom eqs wordFrom wordStart wordEnd over spanned
 last-word = refl
 
-last-field : lineOf (115 ∷ 101 ∷ 116 ∷ 32 ∷ 106 ∷ 114 ∷ 110 ∷ 108 ∷ 108 ∷ 101 ∷ 110 ∷ 32 ∷ 51 ∷ []) 0 ≡ arrangesLine (arrange.Set 22 3)
+last-field : lineOf (115 ∷ 101 ∷ 116 ∷ 32 ∷ 106 ∷ 114 ∷ 110 ∷ 108 ∷ 108 ∷ 101 ∷ 110 ∷ 32 ∷ 51 ∷ []) 0 ≡ arrangesLine (arrange.Set 23 3)
 unfolding lineOf lineFrom lineBy hasWord startOf startWords mostWords arranging setLine setTo fieldOf fieldWords numberIn hexed said joined digitOf wantedOf threeOf onNumber onNumbers placeFrom eqs wordFrom wordStart wordEnd over spanned
 last-field = refl
 
@@ -78,12 +98,12 @@ no-bytes : lineOf (82 ∷ []) 0 ≡ wrongLine fault.WordMissing
 unfolding lineOf lineFrom lineBy hasWord startOf startWords mostWords laying recordLine placeFrom eqs wordFrom wordStart wordEnd over spanned
 no-bytes = refl
 
--- "rules 2 4 7", and with it a request that no script shows; "rules" names none, "rules 2 4" not all that the program has
-own-rules : lineOf (114 ∷ 117 ∷ 108 ∷ 101 ∷ 115 ∷ 32 ∷ 50 ∷ 32 ∷ 52 ∷ 32 ∷ 55 ∷ []) 0 ≡ plainLine does.Nothing
+-- "rules 2 4 7 8", and with it a request that no script shows; "rules" names none, "rules 2 4 7" not all that the program has
+own-rules : lineOf (114 ∷ 117 ∷ 108 ∷ 101 ∷ 115 ∷ 32 ∷ 50 ∷ 32 ∷ 52 ∷ 32 ∷ 55 ∷ 32 ∷ 56 ∷ []) 0 ≡ plainLine does.Nothing
 unfolding lineOf lineFrom lineBy hasWord startOf startWords mostWords rulesLine ownRules within heldBy named numberIn hexed said joined digitOf placeFrom eqs wordFrom wordStart wordEnd over spanned
 own-rules = refl
 
-own-rules-and : lineOf (114 ∷ 117 ∷ 108 ∷ 101 ∷ 115 ∷ 32 ∷ 55 ∷ 32 ∷ 52 ∷ 32 ∷ 49 ∷ 51 ∷ 32 ∷ 50 ∷ []) 0 ≡ plainLine does.Nothing
+own-rules-and : lineOf (114 ∷ 117 ∷ 108 ∷ 101 ∷ 115 ∷ 32 ∷ 55 ∷ 32 ∷ 56 ∷ 32 ∷ 52 ∷ 32 ∷ 49 ∷ 51 ∷ 32 ∷ 50 ∷ []) 0 ≡ plainLine does.Nothing
 unfolding lineOf lineFrom lineBy hasWord startOf startWords mostWords rulesLine ownRules within heldBy named numberIn hexed said joined digitOf placeFrom eqs wordFrom wordStart wordEnd over spanned
 own-rules-and = refl
 
@@ -91,6 +111,6 @@ no-rules : lineOf (114 ∷ 117 ∷ 108 ∷ 101 ∷ 115 ∷ []) 0 ≡ wrongLine f
 unfolding lineOf lineFrom lineBy hasWord startOf startWords mostWords rulesLine ownRules within heldBy named numberIn hexed said joined digitOf placeFrom eqs wordFrom wordStart wordEnd over spanned
 no-rules = refl
 
-other-rules : lineOf (114 ∷ 117 ∷ 108 ∷ 101 ∷ 115 ∷ 32 ∷ 50 ∷ 32 ∷ 52 ∷ []) 0 ≡ wrongLine fault.OtherRules
+other-rules : lineOf (114 ∷ 117 ∷ 108 ∷ 101 ∷ 115 ∷ 32 ∷ 50 ∷ 32 ∷ 52 ∷ 32 ∷ 55 ∷ []) 0 ≡ wrongLine fault.OtherRules
 unfolding lineOf lineFrom lineBy hasWord startOf startWords mostWords rulesLine ownRules within heldBy named numberIn hexed said joined digitOf placeFrom eqs wordFrom wordStart wordEnd over spanned
 other-rules = refl

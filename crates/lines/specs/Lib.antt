@@ -4,6 +4,7 @@ pub mod Makes
 pub mod Starts
 pub mod Arranging
 pub mod Building
+pub mod Tabling
 pub mod Calling
 pub mod Rules
 pub mod Lines

@@ -1,7 +1,7 @@
 -- What a line of a script comes to, with no comment, while the build cursor is at a block.
 use mathlib.Core.List.{List}
 use Prim.Native.Nat.{ℕ}
-use lib.Dec.{ltb}
+use lib.Dec.{eqb, ltb}
 use Rattle.lists.specs.Pick.{pick}
 use Rattle.script.specs.declared.Fault.the-variants as fault
 use Rattle.lines.specs.declared.Does.the-variants as does
@@ -12,6 +12,7 @@ use Rattle.lines.specs.Arranging.{arranging}
 use Rattle.lines.specs.Building.{laying, poking}
 use Rattle.lines.specs.Calling.{calling}
 use Rattle.lines.specs.Rules.{rulesLine}
+use Rattle.lines.specs.Tabling.{tabling}
 
 -- by its first word's number
 unfoldable pub lineBy : List ℕ → ℕ → ℕ → Line
@@ -20,12 +21,13 @@ lineBy t k cursor =
     (pick (ltb k 8) (poking t k)
     (pick (ltb k 12) (laying t k)
     (pick (ltb k 21) (calling t k cursor)
-    (rulesLine t))))
+    (pick (eqb k 21) (rulesLine t)
+    (tabling t k)))))
 
 -- a line that starts with word k of the words, or with none of them
 unfoldable pub lineFrom : List ℕ → ℕ → ℕ → Line
 lineFrom t k cursor =
-    pick (ltb 21 k) (wrongLine fault.UnknownWord)
+    pick (ltb 23 k) (wrongLine fault.UnknownWord)
     (pick (hasWord t (mostWords k)) (wrongLine fault.ExtraWord)
     (lineBy t k cursor))
 

@@ -10,6 +10,7 @@ use Rattle.script.specs.Words.{wordFrom}
 use Rattle.script.specs.Numbers.{numberIn, threeOf, wantedOf}
 use Rattle.lines.specs.declared.Arrange.{Arrange}
 use Rattle.lines.specs.declared.Build.{Build}
+use Rattle.lines.specs.declared.Table.{Table}
 use Rattle.lines.specs.declared.Ask.{Ask}
 use Rattle.lines.specs.declared.Call.{Call}
 use Rattle.lines.specs.declared.Call.the-variants as call
@@ -31,6 +32,9 @@ arrangesLine a = plainLine (does.Arranges a)
 
 abbrev pub buildsLine : Build → Given → Line
 buildsLine b g = record { does = does.Builds b; given = g }
+
+abbrev pub tablesLine : Table → Given → Line
+tablesLine t g = record { does = does.Tables t; given = g }
 
 abbrev pub callsLine : Call → Given → Line
 callsLine c g = record { does = does.Calls c; given = g }

@@ -4,6 +4,7 @@ use crate::Line;
 use crate::Sizes;
 use crate::makes::arranges;
 use crate::makes::wrong;
+use crate::texts::has_word;
 use lists::least;
 use script::Fault;
 use script::Three;
@@ -13,13 +14,20 @@ use script::find_word;
 use script::numbers;
 use tape::Geometry;
 ghost use mathlib.Core.Path.{_≡_};
-ghost use Rattle.lines.specs.Arranging.{arranging, fieldOf, lensLine, reelBytes, setLine, setTo, sizesLine, tooWide};
+ghost use Rattle.lines.specs.Arranging.{arranging, cutLine, fieldOf, lensLine, reelBytes, setLine, setTo, sizesLine, tableBytes, tooWide};
 
 // In bytes; no reel of the program has so many blocks that a cut matters.
 fn reel_bytes(blocks: usize) -> usize
     ensures { λ r. ⌜ r ≡ reelBytes blocks ⌝ }
 {
     Geometry::BLOCK * least(blocks, 1000000)
+}
+
+// Eight bytes for each block, unless a line says another length.
+fn table_bytes(blocks: usize) -> usize
+    ensures { λ r. ⌜ r ≡ tableBytes blocks ⌝ }
+{
+    8 * least(blocks, 1000000)
 }
 
 fn sizes_line(text: &[u8]) -> Line
@@ -30,8 +38,36 @@ fn sizes_line(text: &[u8]) -> Line
         Three::Are(m, b, j) => arranges(Arrange::Sizes(Sizes {
             memory: m,
             reel: reel_bytes(b),
+            table: table_bytes(b),
             journal: j,
         })),
+    }
+}
+
+// Without a fourth number the table stays as it is.
+fn cut_line(text: &[u8], memory: usize, reel: usize, journal: usize) -> Line
+    ensures { λ r. ⌜ r ≡ cutLine (now (text .entry)) memory reel journal ⌝ }
+{
+    if !has_word(text, 4) {
+        let s = Sizes {
+            memory,
+            reel,
+            table: 0,
+            journal,
+        };
+        return arranges(Arrange::Cut(s, false));
+    }
+    match argument(text, 4) {
+        Value::Wrong(f) => wrong(f),
+        Value::Is(table) => {
+            let s = Sizes {
+                memory,
+                reel,
+                table,
+                journal,
+            };
+            arranges(Arrange::Cut(s, true))
+        }
     }
 }
 
@@ -43,11 +79,7 @@ fn lens_line(text: &[u8]) -> Line
     }
     match numbers(text, 1, 3) {
         Three::Wrong(f) => wrong(f),
-        Three::Are(m, r, j) => arranges(Arrange::Cut(Sizes {
-            memory: m,
-            reel: r,
-            journal: j,
-        })),
+        Three::Are(m, r, j) => cut_line(text, m, r, j),
     }
 }
 
@@ -55,23 +87,23 @@ fn field_in(text: &[u8]) -> usize
     ensures { λ r. ⌜ r ≡ fieldOf (now (text .entry)) ⌝ }
 {
     find_word(
-        b"pos end ptr class rmr nxm nba ssr online lock vck unit_owns attn eai ess enb msgaddr msglen release_ie used memlen reelblocks jrnllen",
+        b"pos end ptr class rmr nxm nba ssr online lock vck unit_owns attn eai ess enb msgaddr msglen release_ie used objects memlen reelblocks jrnllen",
         text,
         1,
     )
 }
 
-// Is v more than field k of the state can hold? The message buffer's address and length have 32 bits.
+// Is v more than field k of the state can hold? The message buffer's address and length have 32 bits, and so has the count of objects.
 fn too_wide(k: usize, v: usize) -> bool
     ensures { λ r. ⌜ r ≡ tooWide k v ⌝ }
 {
-    ((k == 16) | (k == 17)) & (4294967295 < v)
+    ((k == 16) | (k == 17) | (k == 20)) & (4294967295 < v)
 }
 
 fn set_to(k: usize, v: usize) -> Line
     ensures { λ r. ⌜ r ≡ setTo k v ⌝ }
 {
-    if 22 < k {
+    if 23 < k {
         return wrong(Fault::UnknownWord);
     }
     if too_wide(k, v) {

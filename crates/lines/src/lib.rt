@@ -5,6 +5,7 @@ mod calls;
 mod gives;
 mod makes;
 mod rules;
+mod tables;
 mod texts;
 
 pub use gives::fill;
@@ -16,6 +17,7 @@ pub use texts::line_of;
 pub struct Sizes {
     pub memory: usize,
     pub reel: usize,
+    pub table: usize,
     pub journal: usize,
 }
 
@@ -23,7 +25,8 @@ pub struct Sizes {
 pub enum Arrange {
     Case,
     Sizes(Sizes),
-    Cut(Sizes),
+    // Whether the table is cut with the rest.
+    Cut(Sizes, bool),
     Uncut,
     // A field of the session by its number, and what it is made.
     Set(usize, usize),
@@ -38,6 +41,12 @@ pub enum Build {
     Record,
     Mark,
     Gap,
+}
+
+// Lines about the table with no call: its length, or bytes at a place.
+pub enum Table {
+    Index(usize),
+    Poke(usize),
 }
 
 // A step that is asked for.
@@ -63,6 +72,7 @@ pub enum Does {
     Nothing,
     Arranges(Arrange),
     Builds(Build),
+    Tables(Table),
     Calls(Call),
     Wrong(Fault),
 }

@@ -6,9 +6,10 @@ use crate::Call;
 use crate::Does;
 use crate::Given;
 use crate::Line;
+use crate::Table;
 use script::Fault;
 ghost use mathlib.Core.Path.{_≡_};
-ghost use Rattle.lines.specs.Makes.{arrangesLine, asksLine, buildsLine, callsLine, plainLine, wrongLine};
+ghost use Rattle.lines.specs.Makes.{arrangesLine, asksLine, buildsLine, callsLine, plainLine, tablesLine, wrongLine};
 
 // A line that gives no bytes.
 pub fn plain(does: Does) -> Line
@@ -34,6 +35,13 @@ pub fn builds(b: Build, given: Given) -> Line
     ensures { λ r. ⌜ r ≡ buildsLine b given ⌝ }
 {
     let does = Does::Builds(b);
+    Line { does, given }
+}
+
+pub fn tables(t: Table, given: Given) -> Line
+    ensures { λ r. ⌜ r ≡ tablesLine t given ⌝ }
+{
+    let does = Does::Tables(t);
     Line { does, given }
 }
 

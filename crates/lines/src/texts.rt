@@ -8,6 +8,7 @@ use crate::calls::call_line;
 use crate::makes::plain;
 use crate::makes::wrong;
 use crate::rules::rules_line;
+use crate::tables::table_line;
 use script::Fault;
 use script::find_word;
 use script::nth;
@@ -21,7 +22,7 @@ fn first_word(text: &[u8]) -> usize
     ensures { λ r. ⌜ r ≡ startOf (now (text .entry)) ⌝ }
 {
     find_word(
-        b"case sizes lens set poke word pokereel fixsum R RN M G mount tsdb tssr reg op host hostn adv back rules",
+        b"case sizes lens set poke word pokereel fixsum R RN M G mount tsdb tssr reg op host hostn adv back rules index poketable",
         text,
         0,
     )
@@ -29,13 +30,13 @@ fn first_word(text: &[u8]) -> usize
 
 // How many words a line may have that starts with word k of them.
 fn most_words(k: usize) -> usize
-    requires { ⌜ k < 22 ⌝ }
+    requires { ⌜ k < 24 ⌝ }
     ensures { λ r. ⌜ r ≡ mostWords k ⌝ }
 {
-    let most: [usize; 22] = [
+    let most: [usize; 24] = [
         4096, // case
         4, // sizes
-        4, // lens
+        5, // lens
         3, // set
         3, // poke
         3, // word
@@ -55,6 +56,8 @@ fn most_words(k: usize) -> usize
         1, // adv
         1, // back
         15, // rules
+        2, // index
+        3, // poketable
     ];
     most[k]
 }
@@ -82,14 +85,17 @@ fn line_by(text: &[u8], k: usize, cursor: usize) -> Line
     if k < 21 {
         return call_line(text, k, cursor);
     }
-    rules_line(text)
+    if k == 21 {
+        return rules_line(text);
+    }
+    table_line(text, k)
 }
 
 // A line that starts with word k of the list, or with none of them.
 fn line_from(text: &[u8], k: usize, cursor: usize) -> Line
     ensures { λ r. ⌜ r ≡ lineFrom (now (text .entry)) k cursor ⌝ }
 {
-    if 21 < k {
+    if 23 < k {
         return wrong(Fault::UnknownWord);
     }
     if has_word(text, most_words(k)) {

@@ -42,5 +42,5 @@ toldBy s call.ReadTssr o = readTold s register.Tssr
 toldBy s (call.Step a) o = stepTold s a o
 toldBy s call.StepBack o = toldAs o also.Nothing
 
-unfoldable pub toldOn : Call → List ℕ → Session → List ℕ → List ℕ → List ℕ → Told
-toldOn c b s m r j = toldBy s c (outcome (callOn c b s m r j .answer) (sessionOf (callOn c b s m r j .world)))
+unfoldable pub toldOn : Call → List ℕ → Session → List ℕ → List ℕ → List ℕ → List ℕ → Told
+toldOn c b s m r tb j = toldBy s c (outcome (callOn c b s m r tb j .answer) (sessionOf (callOn c b s m r tb j .world)))

@@ -23,16 +23,17 @@ fn ask(
     bytes: &[u8],
     mem: &mut [u8],
     reel: &mut [u8],
+    table: &mut [u8],
     jrnl: &mut [u8],
 ) -> Outcome
-    ensures { λ r. ⌜ Leaves (stepOn (worldOf s (now (mem .entry)) (now (reel .entry)) (now (jrnl .entry))) (length (now (jrnl .entry))) (askOf a (now (bytes .entry)))) (now (jrnl .entry)) r (now (mem .exit)) (now (reel .exit)) (now (jrnl .exit)) ⌝ }
+    ensures { λ r. ⌜ Leaves (stepOn (worldOf s (now (mem .entry)) (now (reel .entry)) (now (table .entry)) (now (jrnl .entry))) (length (now (jrnl .entry))) (askOf a (now (bytes .entry)))) (now (jrnl .entry)) r (now (mem .exit)) (now (reel .exit)) (now (table .exit)) (now (jrnl .exit)) ⌝ }
 {
     match a {
-        Ask::WriteTsdb(w) => journal::write_tsdb(s, mem, reel, jrnl, w),
-        Ask::WriteTssr => journal::write_tssr(s, mem, reel, jrnl),
-        Ask::Operate(act) => journal::operate(s, mem, reel, jrnl, act),
-        Ask::HostStore(at) => journal::host_store(s, mem, reel, jrnl, at, bytes),
-        Ask::Advance => journal::advance(s, mem, reel, jrnl),
+        Ask::WriteTsdb(w) => journal::write_tsdb(s, mem, reel, table, jrnl, w),
+        Ask::WriteTssr => journal::write_tssr(s, mem, reel, table, jrnl),
+        Ask::Operate(act) => journal::operate(s, mem, reel, table, jrnl, act),
+        Ask::HostStore(at) => journal::host_store(s, mem, reel, table, jrnl, at, bytes),
+        Ask::Advance => journal::advance(s, mem, reel, table, jrnl),
     }
 }
 
@@ -80,21 +81,23 @@ pub fn call(
     bytes: &[u8],
     mem: &mut [u8],
     reel: &mut [u8],
+    table: &mut [u8],
     jrnl: &mut [u8],
 ) -> Told
-    ensures told { λ r. ⌜ r ≡ toldOn c (now (bytes .entry)) s (now (mem .entry)) (now (reel .entry)) (now (jrnl .entry)) ⌝ }
-    ensures memory { λ _. ⌜ now (mem .exit) ≡ callOn c (now (bytes .entry)) s (now (mem .entry)) (now (reel .entry)) (now (jrnl .entry)) .world .core .memory ⌝ }
-    ensures reel { λ _. ⌜ now (reel .exit) ≡ callOn c (now (bytes .entry)) s (now (mem .entry)) (now (reel .entry)) (now (jrnl .entry)) .world .core .reel ⌝ }
-    ensures journal { λ _. ⌜ JournalLeft c (callOn c (now (bytes .entry)) s (now (mem .entry)) (now (reel .entry)) (now (jrnl .entry))) (now (jrnl .entry)) (now (jrnl .exit)) ⌝ }
+    ensures told { λ r. ⌜ r ≡ toldOn c (now (bytes .entry)) s (now (mem .entry)) (now (reel .entry)) (now (table .entry)) (now (jrnl .entry)) ⌝ }
+    ensures memory { λ _. ⌜ now (mem .exit) ≡ callOn c (now (bytes .entry)) s (now (mem .entry)) (now (reel .entry)) (now (table .entry)) (now (jrnl .entry)) .world .core .memory ⌝ }
+    ensures reel { λ _. ⌜ now (reel .exit) ≡ callOn c (now (bytes .entry)) s (now (mem .entry)) (now (reel .entry)) (now (table .entry)) (now (jrnl .entry)) .world .core .reel ⌝ }
+    ensures table { λ _. ⌜ now (table .exit) ≡ callOn c (now (bytes .entry)) s (now (mem .entry)) (now (reel .entry)) (now (table .entry)) (now (jrnl .entry)) .world .core .table ⌝ }
+    ensures journal { λ _. ⌜ JournalLeft c (callOn c (now (bytes .entry)) s (now (mem .entry)) (now (reel .entry)) (now (table .entry)) (now (jrnl .entry))) (now (jrnl .entry)) (now (jrnl .exit)) ⌝ }
 {
     match c {
         Call::Mount(e, online, locked) => told(
-            journal::mount(s, mem.len(), reel, jrnl.len(), e, online, locked),
+            journal::mount(s, mem.len(), reel, table, jrnl.len(), e, online, locked),
             Also::Nothing,
         ),
         Call::ReadTsba => read(s, Register::Tsba),
         Call::ReadTssr => read(s, Register::Tssr),
-        Call::Step(a) => step(s, a, ask(s, a, bytes, mem, reel, jrnl)),
-        Call::StepBack => told(journal::step_back(s, mem, reel, jrnl), Also::Nothing),
+        Call::Step(a) => step(s, a, ask(s, a, bytes, mem, reel, table, jrnl)),
+        Call::StepBack => told(journal::step_back(s, mem, reel, table, jrnl), Also::Nothing),
     }
 }

@@ -18,6 +18,10 @@ fn reel_space() -> [u8; 131072] {
     [0u8; 131072]
 }
 
+fn table_space() -> [u8; 4096] {
+    [0u8; 4096]
+}
+
 fn journal_space() -> [u8; 1048576] {
     [0u8; 1048576]
 }
@@ -38,12 +42,13 @@ fn replay_over(
     fd: i32,
     mem: &mut [u8; 262146],
     reel: &mut [u8; 131072],
+    table: &mut [u8; 4096],
     jrnl: &mut [u8; 1048576],
     data: &mut [u8; 131072],
 ) {
     let mut chunk = io::large_buffer();
     let mut line = line_space();
-    let table = crc_table();
+    let sums = crc_table();
     read_all(
         fresh(),
         fd,
@@ -51,9 +56,10 @@ fn replay_over(
         &mut line,
         mem,
         reel,
+        table,
         jrnl,
         data,
-        &table,
+        &sums,
     );
 }
 
@@ -61,7 +67,8 @@ fn replay_over(
 pub fn replay(fd: i32) {
     let mut mem = memory();
     let mut reel = reel_space();
+    let mut table = table_space();
     let mut jrnl = journal_space();
     let mut data = data_space();
-    replay_over(fd, &mut mem, &mut reel, &mut jrnl, &mut data);
+    replay_over(fd, &mut mem, &mut reel, &mut table, &mut jrnl, &mut data);
 }

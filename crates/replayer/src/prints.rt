@@ -37,19 +37,35 @@ fn print_complaint(line: usize, f: Fault) {
     write_out(&out, n);
 }
 
-fn crc_of(b: &[u8], n: usize, table: &[usize; 256]) -> usize {
+fn crc_of(b: &[u8], n: usize, sums: &[usize; 256]) -> usize {
     let m = least(n, b.len());
-    crc(&b[0..m], table)
+    crc(&b[0..m], sums)
 }
 
-// The result line over m bytes of memory and r of reel.
-fn print_result(t: Told, mem: &[u8], m: usize, reel: &[u8], r: usize, table: &[usize; 256]) {
+// The result line over m bytes of memory, r of reel, and of the n bytes of the table those in use.
+fn print_result(
+    t: Told,
+    mem: &[u8],
+    m: usize,
+    reel: &[u8],
+    r: usize,
+    table: &[u8],
+    n: usize,
+    sums: &[usize; 256],
+) {
+    let used = least(8 * t.session.objects as usize, n);
     let mut out = line_space();
-    let n = put_result(&mut out, t, crc_of(mem, m, table), crc_of(reel, r, table));
-    write_out(&out, n);
+    let k = put_result(
+        &mut out,
+        t,
+        crc_of(mem, m, sums),
+        crc_of(reel, r, sums),
+        crc_of(table, used, sums),
+    );
+    write_out(&out, k);
 }
 
-// What line number `line` has printed, over m bytes of memory and r of reel.
+// What line number `line` has printed, over m bytes of memory, r of reel and n of the table.
 pub fn print(
     said: Said,
     line: usize,
@@ -58,12 +74,14 @@ pub fn print(
     m: usize,
     reel: &[u8],
     r: usize,
-    table: &[usize; 256],
+    table: &[u8],
+    n: usize,
+    sums: &[usize; 256],
 ) {
     match said {
         Said::Nothing => {}
         Said::Itself => print_line(text),
-        Said::Result(t) => print_result(t, mem, m, reel, r, table),
+        Said::Result(t) => print_result(t, mem, m, reel, r, table, n, sums),
         Said::Wrong(f) => print_complaint(line, f),
     }
 }

@@ -166,9 +166,10 @@ fn run_line(
     line: &[u8],
     mem: &mut [u8; 262146],
     reel: &mut [u8; 131072],
+    table: &mut [u8; 4096],
     jrnl: &mut [u8; 1048576],
     data: &mut [u8; 131072],
-    table: &[usize; 256],
+    sums: &[usize; 256],
 ) -> Desk {
     let e = next_line(d);
     let n = text_length(line, r.filled);
@@ -177,7 +178,7 @@ fn run_line(
     let does = l.does;
     let v = fill(given, &line[0..n], data);
     let k = held(v, data.len());
-    let t = carry_out(e, agreed(does, v), data, k, mem, reel, jrnl);
+    let t = carry_out(e, agreed(does, v), data, k, mem, reel, table, jrnl);
     let said = t.said;
     print(
         said,
@@ -188,6 +189,8 @@ fn run_line(
         reel,
         t.desk.sizes.reel,
         table,
+        t.desk.sizes.table,
+        sums,
     );
     ended(t, r.ended)
 }
@@ -199,12 +202,13 @@ fn turn(
     line: &[u8],
     mem: &mut [u8; 262146],
     reel: &mut [u8; 131072],
+    table: &mut [u8; 4096],
     jrnl: &mut [u8; 1048576],
     data: &mut [u8; 131072],
-    table: &[usize; 256],
+    sums: &[usize; 256],
 ) -> Desk {
     if r.whole {
-        return run_line(d, r, line, mem, reel, jrnl, data, table);
+        return run_line(d, r, line, mem, reel, table, jrnl, data, sums);
     }
     d
 }
@@ -217,9 +221,10 @@ pub fn read_all(
     line: &mut [u8; 4096],
     mem: &mut [u8; 262146],
     reel: &mut [u8; 131072],
+    table: &mut [u8; 4096],
     jrnl: &mut [u8; 1048576],
     data: &mut [u8; 131072],
-    table: &[usize; 256],
+    sums: &[usize; 256],
 ) {
     let mut e = d;
     let mut r = start();
@@ -227,7 +232,7 @@ pub fn read_all(
     while 0 < turns {
         turns -= 1;
         r = take_more(r, fd, chunk, line);
-        e = turn(e, r, line, mem, reel, jrnl, data, table);
+        e = turn(e, r, line, mem, reel, table, jrnl, data, sums);
         if e.stopped {
             return;
         }

@@ -29,6 +29,8 @@ reasonText fault.BeyondBuffers = 58 ∷ 32 ∷ 109 ∷ 111 ∷ 114 ∷ 101 ∷ 3
 reasonText fault.OutsideMemory = 58 ∷ 32 ∷ 111 ∷ 117 ∷ 116 ∷ 115 ∷ 105 ∷ 100 ∷ 101 ∷ 32 ∷ 109 ∷ 101 ∷ 109 ∷ 111 ∷ 114 ∷ 121 ∷ 10 ∷ []
 -- ": outside the reel"
 reasonText fault.OutsideReel = 58 ∷ 32 ∷ 111 ∷ 117 ∷ 116 ∷ 115 ∷ 105 ∷ 100 ∷ 101 ∷ 32 ∷ 116 ∷ 104 ∷ 101 ∷ 32 ∷ 114 ∷ 101 ∷ 101 ∷ 108 ∷ 10 ∷ []
+-- ": outside the table"
+reasonText fault.OutsideTable = 58 ∷ 32 ∷ 111 ∷ 117 ∷ 116 ∷ 115 ∷ 105 ∷ 100 ∷ 101 ∷ 32 ∷ 116 ∷ 104 ∷ 101 ∷ 32 ∷ 116 ∷ 97 ∷ 98 ∷ 108 ∷ 101 ∷ 10 ∷ []
 -- ": longer than a record can be"
 reasonText fault.RecordTooLong = 58 ∷ 32 ∷ 108 ∷ 111 ∷ 110 ∷ 103 ∷ 101 ∷ 114 ∷ 32 ∷ 116 ∷ 104 ∷ 97 ∷ 110 ∷ 32 ∷ 97 ∷ 32 ∷ 114 ∷ 101 ∷ 99 ∷ 111 ∷ 114 ∷ 100 ∷ 32 ∷ 99 ∷ 97 ∷ 110 ∷ 32 ∷ 98 ∷ 101 ∷ 10 ∷ []
 -- ": other rules: this program has ", and the line that names them

@@ -31,6 +31,7 @@ fieldsOf s =
     ∷ s .unit .characteristics .length
     ∷ bitOf (s .unit .attention .«release_ie»)
     ∷ s .used
+    ∷ s .objects
     ∷ s .unit .lengths .memory
     ∷ s .unit .lengths .blocks
     ∷ s .journal
@@ -38,7 +39,7 @@ fieldsOf s =
 
 -- the first so many are printed
 abbrev pub printedFields : ℕ
-printedFields = 20
+printedFields = 21
 
 -- number i; whether it is not 0; its low 32 bits
 abbrev pub nth : List ℕ → ℕ → ℕ
@@ -73,8 +74,8 @@ unitWith n =
             ess = isSet n 14;
             enb = isSet n 15;
           };
-      lengths = record { memory = nth n 20; blocks = nth n 21 };
+      lengths = record { memory = nth n 21; blocks = nth n 22 };
     }
 
 unfoldable pub sessionWith : List ℕ → Session
-sessionWith n = record { unit = unitWith n; used = nth n 19; journal = nth n 22 }
+sessionWith n = record { unit = unitWith n; objects = lowOf (nth n 20); used = nth n 19; journal = nth n 23 }

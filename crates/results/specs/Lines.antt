@@ -64,11 +64,11 @@ unfoldable pub numbersText : List ℕ → List ℕ
 numbersText [] = []
 numbersText (n ∷ l) = ((32 ∷ []) ++ decimal n) ++ numbersText l
 
--- " | ", two check sums with a blank between them, and the line's end
-unfoldable pub sumsText : ℕ → ℕ → List ℕ
-sumsText m r = (32 ∷ 124 ∷ 32 ∷ []) ++ (hexadecimal 8 m ++ ((32 ∷ []) ++ (hexadecimal 8 r ++ (10 ∷ []))))
+-- " | ", three check sums with a blank between them, and the line's end
+unfoldable pub sumsText : ℕ → ℕ → ℕ → List ℕ
+sumsText m r tb = (32 ∷ 124 ∷ 32 ∷ []) ++ (hexadecimal 8 m ++ ((32 ∷ []) ++ (hexadecimal 8 r ++ ((32 ∷ []) ++ (hexadecimal 8 tb ++ (10 ∷ []))))))
 
--- the answer and what it tells, the word read, the session after the call, the check sums of memory and reel
-unfoldable pub resultLine : Answer → Also → Session → ℕ → ℕ → List ℕ
-resultLine a x s m r =
-    answerText a x ++ (wordText x ++ ((32 ∷ 124 ∷ []) ++ (numbersText (take printedFields (fieldsOf s)) ++ sumsText m r)))
+-- the answer and what it tells, the word read, the session after the call, the check sums of memory, reel and table
+unfoldable pub resultLine : Answer → Also → Session → ℕ → ℕ → ℕ → List ℕ
+resultLine a x s m r tb =
+    answerText a x ++ (wordText x ++ ((32 ∷ 124 ∷ []) ++ (numbersText (take printedFields (fieldsOf s)) ++ sumsText m r tb)))

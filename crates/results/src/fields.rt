@@ -16,7 +16,7 @@ ghost use Rattle.script.specs.Prints.{Put};
 ghost use Rattle.results.specs.Fields.{fieldsOf, lowOf, printedFields, sessionWith, unitWith};
 ghost use Rattle.results.specs.Lines.{numbersText};
 
-fn fields(s: Session) -> [usize; 23]
+fn fields(s: Session) -> [usize; 24]
     ensures { λ r. ⌜ r ≡ fieldsOf s ⌝ }
 {
     [
@@ -40,6 +40,7 @@ fn fields(s: Session) -> [usize; 23]
         s.unit.characteristics.length as usize,
         flag(s.unit.attention.release_ie),
         s.used,
+        s.objects as usize,
         s.unit.lengths.memory,
         s.unit.lengths.blocks,
         s.journal,
@@ -53,7 +54,7 @@ fn low(x: usize) -> u32
     (x % 4294967296) as u32
 }
 
-fn unit_of(f: [usize; 23]) -> Unit
+fn unit_of(f: [usize; 24]) -> Unit
     ensures { λ r. ⌜ r ≡ unitWith f ⌝ }
 {
     Unit {
@@ -87,25 +88,26 @@ fn unit_of(f: [usize; 23]) -> Unit
             enb: f[15] != 0,
         },
         lengths: Lengths {
-            memory: f[20],
-            blocks: f[21],
+            memory: f[21],
+            blocks: f[22],
         },
     }
 }
 
-fn session_of(f: [usize; 23]) -> Session
+fn session_of(f: [usize; 24]) -> Session
     ensures { λ r. ⌜ r ≡ sessionWith f ⌝ }
 {
     Session {
         unit: unit_of(f),
+        objects: low(f[20]),
         used: f[19],
-        journal: f[22],
+        journal: f[23],
     }
 }
 
 // The session with field k made up.
 pub fn with_field(s: Session, k: usize, v: usize) -> Session
-    requires { ⌜ k < 23 ⌝ }
+    requires { ⌜ k < 24 ⌝ }
     ensures { λ r. ⌜ r ≡ sessionWith (set (fieldsOf s) k v) ⌝ }
 {
     let mut f = fields(s);
@@ -113,12 +115,12 @@ pub fn with_field(s: Session, k: usize, v: usize) -> Session
     session_of(f)
 }
 
-fn put_all(out: &mut [u8], at: usize, f: [usize; 23]) -> usize
+fn put_all(out: &mut [u8], at: usize, f: [usize; 24]) -> usize
     ensures { λ r. ⌜ Put (now (out .entry)) at (numbersText (take printedFields f)) (now (out .exit)) r ⌝ }
 {
     let mut next = at;
     let mut i: usize = 0;
-    while i < 20 {
+    while i < 21 {
         next = put_labelled(out, next, b" ", f[i]);
         i += 1;
     }

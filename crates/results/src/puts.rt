@@ -79,19 +79,21 @@ fn put_word_read(out: &mut [u8], at: usize, also: Also) -> usize
     }
 }
 
-fn put_sums(out: &mut [u8], at: usize, memory: usize, reel: usize) -> usize
-    ensures { λ r. ⌜ Put (now (out .entry)) at (sumsText memory reel) (now (out .exit)) r ⌝ }
+fn put_sums(out: &mut [u8], at: usize, memory: usize, reel: usize, table: usize) -> usize
+    ensures { λ r. ⌜ Put (now (out .entry)) at (sumsText memory reel table) (now (out .exit)) r ⌝ }
 {
     let at1 = put_bytes(out, at, b" | ");
     let at2 = put_hex(out, at1, memory, 8);
     let at3 = put_bytes(out, at2, b" ");
     let at4 = put_hex(out, at3, reel, 8);
-    put_bytes(out, at4, b"\n")
+    let at5 = put_bytes(out, at4, b" ");
+    let at6 = put_hex(out, at5, table, 8);
+    put_bytes(out, at6, b"\n")
 }
 
-// The result line of a call, with the check sums of memory and reel.
-pub fn put_result(out: &mut [u8], t: Told, memory: usize, reel: usize) -> usize
-    ensures { λ r. ⌜ Put (now (out .entry)) 0 (resultLine (t .answer) (t .also) (t .session) memory reel) (now (out .exit)) r ⌝ }
+// The result line of a call, with the check sums of memory, reel and the table's used part.
+pub fn put_result(out: &mut [u8], t: Told, memory: usize, reel: usize, table: usize) -> usize
+    ensures { λ r. ⌜ Put (now (out .entry)) 0 (resultLine (t .answer) (t .also) (t .session) memory reel table) (now (out .exit)) r ⌝ }
 {
     let answer = t.answer;
     let also = t.also;
@@ -100,7 +102,7 @@ pub fn put_result(out: &mut [u8], t: Told, memory: usize, reel: usize) -> usize
     let at3 = put_bytes(out, at2, b" |");
     let session = t.session;
     let at4 = put_fields(out, at3, session);
-    put_sums(out, at4, memory, reel)
+    put_sums(out, at4, memory, reel, table)
 }
 
 fn put_reason(out: &mut [u8], at: usize, f: Fault) -> usize
@@ -118,8 +120,9 @@ fn put_reason(out: &mut [u8], at: usize, f: Fault) -> usize
         Fault::BeyondBuffers => put_bytes(out, at, b": more than this program has room for\n"),
         Fault::OutsideMemory => put_bytes(out, at, b": outside memory\n"),
         Fault::OutsideReel => put_bytes(out, at, b": outside the reel\n"),
+        Fault::OutsideTable => put_bytes(out, at, b": outside the table\n"),
         Fault::RecordTooLong => put_bytes(out, at, b": longer than a record can be\n"),
-        Fault::OtherRules => put_bytes(out, at, b": other rules: this program has rules 2 4 7\n"),
+        Fault::OtherRules => put_bytes(out, at, b": other rules: this program has rules 2 4 7 8\n"),
     }
 }
 

@@ -41,6 +41,7 @@ pub enum Fault {
     BeyondBuffers,
     OutsideMemory,
     OutsideReel,
+    OutsideTable,
     RecordTooLong,
     OtherRules,
 }

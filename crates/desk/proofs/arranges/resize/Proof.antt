@@ -1,5 +1,4 @@
--- `resize` meets its contract: there is room, or nothing changes.
-use mathlib.Core.Path.{refl}
+-- `resize` is its definition.
 use Rattle.desk.specs.Arranges.{resized}
 use borrow.Author.Needs.{needs}
 use Rattle.desk.proofs.arranges.resize.Statement.{statement}
@@ -13,28 +12,14 @@ refused-requires c κs = search needs
 
 returns : tie.Need-returns
 unfolding resized
-returns c = rw (← c .before .before .beyond .ensures, c .before .if1 .taken) (c .refused .ensures, (refl, (refl, refl)))
-
-clear-requires : tie.Need-clear-requires
-clear-requires c κs = search needs
+returns c = rw (← c .before .before .beyond .ensures, c .before .if1 .taken) (c .refused .ensures)
 
 unsaid-requires : tie.Need-unsaid-requires
 unsaid-requires c κs = search needs
 
-same-length : tie.Need-same-length
-same-length c = search needs
-
-same-length-2 : tie.Need-same-length-2
-same-length-2 c = search needs
-
-same-length-3 : tie.Need-same-length-3
-same-length-3 c = search needs
-
 returns-2 : tie.Need-returns-2
 unfolding resized
-returns-2 c =
-    let w = c .before .before .before .before .before .before .before .clear .ensures in
-    rw (← c .before .before .before .before .before .before .before .before .before .before .before .before .before .beyond .ensures, c .before .before .before .before .before .before .before .before .before .before .before .before .if1 .left) (c .unsaid .ensures, w)
+returns-2 c = rw (← c .before .before .beyond .ensures, c .before .if1 .left) (c .unsaid .ensures)
 
 pub resize-spec : {M : Type 1} → statement M
 resize-spec =
@@ -43,9 +28,5 @@ resize-spec =
     beyond-requires
     refused-requires
     returns
-    clear-requires
     unsaid-requires
-    same-length
-    same-length-2
-    same-length-3
     returns-2)

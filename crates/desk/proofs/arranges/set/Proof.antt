@@ -11,7 +11,7 @@ refused-requires c κs = search needs
 
 returns : tie.Need-returns
 unfolding setTo
-returns c = rw (lt-ltb 22 (c .before .before .args .k) (omega arith)) (c .refused .ensures)
+returns c = rw (lt-ltb 23 (c .before .before .args .k) (omega arith)) (c .refused .ensures)
 
 with-field-requires : tie.Need-with-field-requires
 with-field-requires c κs = search needs
@@ -21,7 +21,7 @@ unsaid-requires c κs = search needs
 
 returns-2 : tie.Need-returns-2
 unfolding setTo
-returns-2 c = rw (le-ltb 22 (c .before .before .before .before .args .k) (omega arith), ← c .before .with-field .ensures) (c .unsaid .ensures)
+returns-2 c = rw (le-ltb 23 (c .before .before .before .before .args .k) (omega arith), ← c .before .with-field .ensures) (c .unsaid .ensures)
 
 pub set-spec : {M : Type 1} → statement M
 set-spec =

@@ -30,8 +30,8 @@ wrong-requires c κs = search needs
 enum-known-m : tie.Need-enum-known-m
 enum-known-m c = search needs
 
-arranges-requires-2 : tie.Need-arranges-requires-2
-arranges-requires-2 c κs = search needs
+cut-line-requires : tie.Need-cut-line-requires
+cut-line-requires c κs = search needs
 
 returns-2 : tie.Need-returns-2
 unfolding lensLine
@@ -39,7 +39,7 @@ returns-2 c = rw (no-place _ _ (c .before .before .before .before .before .befor
 
 returns-3 : tie.Need-returns-3
 unfolding lensLine
-returns-3 c = rw (no-place _ _ (c .before .before .before .before .before .before .find-word .ensures) (c .before .before .before .before .before .if1 .left)) (numbers-read _ _ _ _ (c .before .before .before .before .numbers .ensures) _ _ _ (c .before .before .m .given .1) (c .arranges2 .ensures))
+returns-3 c = rw (no-place _ _ (c .before .before .before .before .before .before .find-word .ensures) (c .before .before .before .before .before .if1 .left)) (numbers-read _ _ _ _ (c .before .before .before .before .numbers .ensures) _ _ _ (c .before .before .m .given .1) (c .cut-line .ensures))
 
 pub lens-line-spec : {M : Type 1} → statement M
 lens-line-spec =
@@ -53,6 +53,6 @@ lens-line-spec =
     enum-known-f
     wrong-requires
     enum-known-m
-    arranges-requires-2
+    cut-line-requires
     returns-2
     returns-3)

@@ -12,7 +12,7 @@ wrong-requires c κs = search needs
 
 returns : tie.Need-returns
 unfolding setTo
-returns c = rw (lt-ltb 22 (c .before .before .args .k) (c .before .if1 .taken)) (c .wrong .ensures)
+returns c = rw (lt-ltb 23 (c .before .before .args .k) (c .before .if1 .taken)) (c .wrong .ensures)
 
 too-wide-requires : tie.Need-too-wide-requires
 too-wide-requires c κs = search needs
@@ -22,14 +22,14 @@ wrong-requires-2 c κs = search needs
 
 returns-2 : tie.Need-returns-2
 unfolding setTo
-returns-2 c = rw (le-ltb 22 (c .before .before .before .before .args .k) (omega arith), sym (c .before .before .too-wide .ensures) ∙ (c .before .if2 .taken)) (c .wrong2 .ensures)
+returns-2 c = rw (le-ltb 23 (c .before .before .before .before .args .k) (omega arith), sym (c .before .before .too-wide .ensures) ∙ (c .before .if2 .taken)) (c .wrong2 .ensures)
 
 arranges-requires : tie.Need-arranges-requires
 arranges-requires c κs = search needs
 
 returns-3 : tie.Need-returns-3
 unfolding setTo
-returns-3 c = rw (le-ltb 22 (c .before .before .before .before .args .k) (omega arith), sym (c .before .before .too-wide .ensures) ∙ (c .before .if2 .left)) (c .arranges .ensures)
+returns-3 c = rw (le-ltb 23 (c .before .before .before .before .args .k) (omega arith), sym (c .before .before .too-wide .ensures) ∙ (c .before .if2 .left)) (c .arranges .ensures)
 
 pub set-to-spec : {M : Type 1} → statement M
 set-to-spec =

@@ -20,6 +20,9 @@ enum-known-m c = search needs
 reel-bytes-requires : tie.Need-reel-bytes-requires
 reel-bytes-requires c κs = search needs
 
+table-bytes-requires : tie.Need-table-bytes-requires
+table-bytes-requires c κs = search needs
+
 arranges-requires : tie.Need-arranges-requires
 arranges-requires c κs = search needs
 
@@ -29,7 +32,7 @@ returns c = numbers-not _ _ _ _ (c .before .before .before .before .numbers .ens
 
 returns-2 : tie.Need-returns-2
 unfolding sizesLine
-returns-2 c = numbers-read _ _ _ _ (c .before .before .before .before .before .numbers .ensures) _ _ _ (c .before .before .before .m .given .1) (sizes-made _ _ _ _ _ (c .before .reel-bytes .ensures) (c .arranges .ensures))
+returns-2 c = numbers-read _ _ _ _ (c .before .before .before .before .before .before .numbers .ensures) _ _ _ (c .before .before .before .before .m .given .1) (sizes-made _ _ _ _ _ _ (c .before .before .reel-bytes .ensures) (c .before .table-bytes .ensures) (c .arranges .ensures))
 
 pub sizes-line-spec : {M : Type 1} → statement M
 sizes-line-spec =
@@ -40,6 +43,7 @@ sizes-line-spec =
     wrong-requires
     enum-known-m
     reel-bytes-requires
+    table-bytes-requires
     arranges-requires
     returns
     returns-2)

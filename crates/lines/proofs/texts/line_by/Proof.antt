@@ -1,6 +1,6 @@
 -- `line_by` meets its contract, for each kind of line.
 use native.Mathlib.Omega.{arith}
-use borrow.Author.Tests.{lt-ltb, le-ltb}
+use borrow.Author.Tests.{eq-eqb, lt-ltb, le-ltb, ne-eqb}
 use Rattle.lines.specs.Lines.{lineBy}
 use borrow.Author.Needs.{needs}
 use Rattle.lines.proofs.texts.line_by.Statement.{statement}
@@ -42,8 +42,17 @@ rules-line-requires c κs = search needs
 returns-5 : tie.Need-returns-5
 unfolding lineBy
 returns-5 c =
-    let k = c .before .before .before .before .before .before .args .k in
-    rw (le-ltb k 4 (omega arith), le-ltb k 8 (omega arith), le-ltb k 12 (omega arith), le-ltb k 21 (omega arith)) (c .rules-line .ensures)
+    let k = c .before .before .before .before .before .before .before .args .k in
+    rw (le-ltb k 4 (omega arith), le-ltb k 8 (omega arith), le-ltb k 12 (omega arith), le-ltb k 21 (omega arith), eq-eqb k 21 (c .before .if5 .taken)) (c .rules-line .ensures)
+
+table-line-requires : tie.Need-table-line-requires
+table-line-requires c κs = search needs
+
+returns-6 : tie.Need-returns-6
+unfolding lineBy
+returns-6 c =
+    let k = c .before .before .before .before .before .before .before .args .k in
+    rw (le-ltb k 4 (omega arith), le-ltb k 8 (omega arith), le-ltb k 12 (omega arith), le-ltb k 21 (omega arith), ne-eqb k 21 (c .before .if5 .left)) (c .table-line .ensures)
 
 pub line-by-spec : {M : Type 1} → statement M
 line-by-spec =
@@ -58,4 +67,6 @@ line-by-spec =
     call-line-requires
     returns-4
     rules-line-requires
-    returns-5)
+    returns-5
+    table-line-requires
+    returns-6)

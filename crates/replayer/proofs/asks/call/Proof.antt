@@ -46,17 +46,17 @@ told-requires-2 c κs = search needs
 same-length : tie.Need-same-length
 same-length c = search needs
 
-returns : tie.Need-returns
-returns c = rw (c .before .before .before .before .c .given .1) (made-mount _ _ _ _ _ _ _ _ _ _ (c .before .mount .ensures) (c .told .ensures))
-
-returns-2 : tie.Need-returns-2
-returns-2 c = rw (c .before .enum-told .given .1) (made-tsba _ _ _ _ _ _ (c .read .ensures))
-
-returns-3 : tie.Need-returns-3
-returns-3 c = rw (c .before .enum-told2 .given .1) (made-tssr _ _ _ _ _ _ (c .read2 .ensures))
-
 same-length-2 : tie.Need-same-length-2
 same-length-2 c = search needs
+
+returns : tie.Need-returns
+returns c = rw (c .before .before .before .before .before .before .before .c .given .1) (made-mount _ _ _ _ _ _ _ _ _ _ _ _ (c .before .before .before .mount .ensures) (c .told .ensures))
+
+returns-2 : tie.Need-returns-2
+returns-2 c = rw (c .before .enum-told .given .1) (made-tsba _ _ _ _ _ _ _ (c .read .ensures))
+
+returns-3 : tie.Need-returns-3
+returns-3 c = rw (c .before .enum-told2 .given .1) (made-tssr _ _ _ _ _ _ _ (c .read2 .ensures))
 
 same-length-3 : tie.Need-same-length-3
 same-length-3 c = search needs
@@ -64,20 +64,29 @@ same-length-3 c = search needs
 same-length-4 : tie.Need-same-length-4
 same-length-4 c = search needs
 
-returns-4 : tie.Need-returns-4
-returns-4 c = rw (c .before .before .before .before .before .before .before .before .before .before .before .before .c2 .given .1) (made-step _ _ _ _ _ _ _ _ _ _ _ (c .before .before .before .before .before .before .before .ask .ensures) (c .step .ensures))
-
 same-length-5 : tie.Need-same-length-5
 same-length-5 c = search needs
 
 same-length-6 : tie.Need-same-length-6
 same-length-6 c = search needs
 
+returns-4 : tie.Need-returns-4
+returns-4 c = rw (c .before .before .before .before .before .before .before .before .before .before .before .before .before .before .before .c2 .given .1) (made-step _ _ _ _ _ _ _ _ _ _ _ _ _ (c .before .before .before .before .before .before .before .before .before .ask .ensures) (c .step .ensures))
+
 same-length-7 : tie.Need-same-length-7
 same-length-7 c = search needs
 
+same-length-8 : tie.Need-same-length-8
+same-length-8 c = search needs
+
+same-length-9 : tie.Need-same-length-9
+same-length-9 c = search needs
+
+same-length-10 : tie.Need-same-length-10
+same-length-10 c = search needs
+
 returns-5 : tie.Need-returns-5
-returns-5 c = rw (c .before .before .before .before .before .before .before .before .before .enum-told3 .given .1) (made-back _ _ _ _ _ _ _ _ _ (c .before .before .before .before .before .step-back .ensures) (c .told2 .ensures))
+returns-5 c = rw (c .before .before .before .before .before .before .before .before .before .before .before .before .enum-told3 .given .1) (made-back _ _ _ _ _ _ _ _ _ _ _ (c .before .before .before .before .before .before .before .step-back .ensures) (c .told2 .ensures))
 
 pub call-spec : {M : Type 1} → statement M
 call-spec =
@@ -97,14 +106,17 @@ call-spec =
     step-back-requires
     told-requires-2
     same-length
+    same-length-2
     returns
     returns-2
     returns-3
-    same-length-2
     same-length-3
     same-length-4
-    returns-4
     same-length-5
     same-length-6
+    returns-4
     same-length-7
+    same-length-8
+    same-length-9
+    same-length-10
     returns-5)

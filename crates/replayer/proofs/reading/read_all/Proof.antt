@@ -1,14 +1,15 @@
 -- `read_all` is safe and ends: its turns run down.
 use Prim.Native.Nat.{_≤_}
+use native.Mathlib.Omega.{arith}
 use borrow.Author.Needs.{needs}
 use Rattle.replayer.proofs.reading.read_all.Statement.{statement}
 use Rattle.replayer.proofs.reading.read_all.Tie as tie
 
 abbrev Inv-loop : tie.InvT-loop
-Inv-loop fd chunk₀ line₀ mem₀ reel₀ jrnl₀ data₀ table e₀ r₀ turns₀ chunk line mem reel jrnl «data» e r turns = 0 ≤ turns
+Inv-loop fd chunk₀ line₀ mem₀ reel₀ table₀ jrnl₀ data₀ sums e₀ r₀ turns₀ chunk line mem reel table jrnl «data» e r turns = 0 ≤ turns
 
 abbrev μ-loop : tie.MeasureT-loop
-μ-loop fd chunk₀ line₀ mem₀ reel₀ jrnl₀ data₀ table e₀ r₀ turns₀ chunk line mem reel jrnl «data» e r turns = turns
+μ-loop fd chunk₀ line₀ mem₀ reel₀ table₀ jrnl₀ data₀ sums e₀ r₀ turns₀ chunk line mem reel table jrnl «data» e r turns = turns
 
 start-requires : tie.Need-start-requires Inv-loop μ-loop
 start-requires c κs = search needs
@@ -29,7 +30,7 @@ returns : tie.Need-returns Inv-loop μ-loop
 returns c = search needs
 
 loop-less : tie.Need-loop-less Inv-loop μ-loop
-loop-less c = search needs
+loop-less c = omega (arith, c .before .before .before .before .before .before .before .before .before .before .before .before .loop-test .taken)
 
 loop-again : tie.Need-loop-again Inv-loop μ-loop
 loop-again c = search needs

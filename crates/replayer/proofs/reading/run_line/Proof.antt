@@ -41,7 +41,7 @@ part-print-start : tie.Need-part-print-start
 part-print-start c = search needs
 
 part-print-end : tie.Need-part-print-end
-part-print-end c = omega (arith, c .before .before .before .before .before .before .before .before .before .before .before .before .text-length .ensures)
+part-print-end c = omega (arith, c .before .before .before .before .before .before .before .before .before .before .before .before .before .text-length .ensures)
 
 print-requires : tie.Need-print-requires
 print-requires c κs = search needs

@@ -17,8 +17,14 @@ kept-requires : tie.Need-kept-requires
 kept-requires c κs = search needs
 
 returns : tie.Need-returns
-returns c = kept-call _ _ _ _ _ _ _ _ _ _ _ _ _ _ _ (c .before .before .before .before .before .before .before .hand .ensures) (c .before .before .before .before .before .handed .ensures) (c .before .trim .ensures) (c .kept .ensures)
+returns c = kept-call _ _ _ _ _ _ _ _ _ _ _ _ _ _ _ _ _ _ (c .before .before .before .before .before .before .before .before .hand .ensures) (c .before .before .before .before .before .before .handed .ensures) (c .before .trim .ensures) (c .kept .ensures)
 
 pub make-call-spec : {M : Type 1} → statement M
 make-call-spec =
-    tie.close (tie.spec hand-requires handed-requires trim-requires kept-requires returns)
+    tie.close
+    (tie.spec
+    hand-requires
+    handed-requires
+    trim-requires
+    kept-requires
+    returns)

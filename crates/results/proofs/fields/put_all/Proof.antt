@@ -11,10 +11,10 @@ use Rattle.results.proofs.fields.put_all.Statement.{statement}
 use Rattle.results.proofs.fields.put_all.Tie as tie
 
 abbrev Inv-loop : tie.InvT-loop
-Inv-loop out₀ at f next₀ i₀ t7 out next i = (i ≤ 20) × (length out ≡ length out₀) × Put out₀ at (numbersText (take i f)) out next
+Inv-loop out₀ at f next₀ i₀ t7 out next i = (i ≤ 21) × (length out ≡ length out₀) × Put out₀ at (numbersText (take i f)) out next
 
 abbrev μ-loop : tie.MeasureT-loop
-μ-loop out₀ at f next₀ i₀ t7 out next i = 20 - i
+μ-loop out₀ at f next₀ i₀ t7 out next i = 21 - i
 
 loop-holds : tie.Need-loop-holds Inv-loop μ-loop
 unfolding numbersText
@@ -49,7 +49,7 @@ same-length c = search needs
 returns : tie.Need-returns Inv-loop μ-loop
 returns c =
     let l = c .before .loop in
-    let e : l .i ≡ 20 = omega arith in
+    let e : l .i ≡ 21 = omega arith in
     put-same _ _ _ _ _ _ (ap (λ (n : ℕ). numbersText (take n (c .before .before .before .args .t3))) e) (l .inv .2)
 
 pub put-all-spec : {M : Type 1} → statement M

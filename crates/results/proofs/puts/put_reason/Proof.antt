@@ -122,6 +122,15 @@ slice-aggregate-put-bytes-13 c = search needs
 put-bytes-requires-13 : tie.Need-put-bytes-requires-13
 put-bytes-requires-13 c κs = search needs
 
+enum-told-14 : tie.Need-enum-told-14
+enum-told-14 c = search needs
+
+slice-aggregate-put-bytes-14 : tie.Need-slice-aggregate-put-bytes-14
+slice-aggregate-put-bytes-14 c = search needs
+
+put-bytes-requires-14 : tie.Need-put-bytes-requires-14
+put-bytes-requires-14 c κs = search needs
+
 same-length : tie.Need-same-length
 same-length c = search needs
 
@@ -210,8 +219,15 @@ same-length-13 : tie.Need-same-length-13
 same-length-13 c = search needs
 
 returns-13 : tie.Need-returns-13
-unfolding reasonText ownRules
+unfolding reasonText
 returns-13 c = rw (c .before .before .before .before .before .enum-told13 .given .1) (c .before .before .put-bytes13 .ensures)
+
+same-length-14 : tie.Need-same-length-14
+same-length-14 c = search needs
+
+returns-14 : tie.Need-returns-14
+unfolding reasonText ownRules
+returns-14 c = rw (c .before .before .before .before .before .enum-told14 .given .1) (c .before .before .put-bytes14 .ensures)
 
 pub put-reason-spec : {M : Type 1} → statement M
 put-reason-spec =
@@ -256,6 +272,9 @@ put-reason-spec =
     enum-told-13
     slice-aggregate-put-bytes-13
     put-bytes-requires-13
+    enum-told-14
+    slice-aggregate-put-bytes-14
+    put-bytes-requires-14
     same-length
     returns
     same-length-2
@@ -281,4 +300,6 @@ put-reason-spec =
     same-length-12
     returns-12
     same-length-13
-    returns-13)
+    returns-13
+    same-length-14
+    returns-14)

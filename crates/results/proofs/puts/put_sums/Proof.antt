@@ -29,17 +29,27 @@ slice-aggregate-put-bytes-3 c = search needs
 put-bytes-requires-3 : tie.Need-put-bytes-requires-3
 put-bytes-requires-3 c κs = search needs
 
+put-hex-requires-3 : tie.Need-put-hex-requires-3
+put-hex-requires-3 c κs = search needs
+
+slice-aggregate-put-bytes-4 : tie.Need-slice-aggregate-put-bytes-4
+slice-aggregate-put-bytes-4 c = search needs
+
+put-bytes-requires-4 : tie.Need-put-bytes-requires-4
+put-bytes-requires-4 c κs = search needs
+
 same-length : tie.Need-same-length
 same-length c = search needs
 
 returns : tie.Need-returns
 unfolding sumsText
 returns c =
-    let e = c .before .before .put-bytes3 .ensures in
-    let d = put-more _ _ _ _ _ _ _ _ (c .before .before .before .before .before .before .before .put-hex2 .ensures) e in
-    let b = put-more _ _ _ _ _ _ _ _ (c .before .before .before .before .before .before .before .before .before .before .before .put-bytes2 .ensures) d in
-    let a = put-more _ _ _ _ _ _ _ _ (c .before .before .before .before .before .before .before .before .before .before .before .before .before .before .before .before .put-hex .ensures) b in
-    put-more _ _ _ _ _ _ _ _ (c .before .before .before .before .before .before .before .before .before .before .before .before .before .before .before .before .before .before .before .before .put-bytes .ensures) a
+    let g = put-more _ _ _ _ _ _ _ _ (c .before .before .before .before .before .before .before .put-hex3 .ensures) (c .before .before .put-bytes4 .ensures) in
+    let f = put-more _ _ _ _ _ _ _ _ (c .before .before .before .before .before .before .before .before .before .before .before .put-bytes3 .ensures) g in
+    let e = put-more _ _ _ _ _ _ _ _ (c .before .before .before .before .before .before .before .before .before .before .before .before .before .before .before .before .put-hex2 .ensures) f in
+    let b = put-more _ _ _ _ _ _ _ _ (c .before .before .before .before .before .before .before .before .before .before .before .before .before .before .before .before .before .before .before .before .put-bytes2 .ensures) e in
+    let a = put-more _ _ _ _ _ _ _ _ (c .before .before .before .before .before .before .before .before .before .before .before .before .before .before .before .before .before .before .before .before .before .before .before .before .before .put-hex .ensures) b in
+    put-more _ _ _ _ _ _ _ _ (c .before .before .before .before .before .before .before .before .before .before .before .before .before .before .before .before .before .before .before .before .before .before .before .before .before .before .before .before .before .put-bytes .ensures) a
 
 pub put-sums-spec : {M : Type 1} → statement M
 put-sums-spec =
@@ -53,5 +63,8 @@ put-sums-spec =
     put-hex-requires-2
     slice-aggregate-put-bytes-3
     put-bytes-requires-3
+    put-hex-requires-3
+    slice-aggregate-put-bytes-4
+    put-bytes-requires-4
     same-length
     returns)
