@@ -23,49 +23,52 @@ static bool counting = false;
 #define DATA 0x1000   /* the data buffer */
 
 /* One implementation of the calls that are measured. */
+#define MEMORY_AND_REEL ts11_state *, uint8_t *, size_t, uint8_t *, size_t
+#define STEP MEMORY_AND_REEL, const uint8_t *, size_t, uint8_t *, size_t
 typedef struct side {
 	const char *name;
-	ts11_answer (*mount)(ts11_state *, size_t, const uint8_t *, size_t, size_t, size_t, bool, bool, size_t *,
-	                     uint8_t *);
-	ts11_answer (*write_tsdb)(ts11_state *, uint8_t *, size_t, uint8_t *, size_t, uint8_t *, size_t, uint16_t);
-	ts11_answer (*write_tssr)(ts11_state *, uint8_t *, size_t, uint8_t *, size_t, uint8_t *, size_t, uint16_t);
-	ts11_answer (*operate)(ts11_state *, uint8_t *, size_t, uint8_t *, size_t, uint8_t *, size_t, bool, bool);
-	ts11_answer (*host_store)(ts11_state *, uint8_t *, size_t, const uint8_t *, size_t, uint8_t *, size_t, size_t,
-	                          const uint8_t *, size_t);
-	ts11_answer (*advance)(ts11_state *, uint8_t *, size_t, uint8_t *, size_t, uint8_t *, size_t, bool *, bool *,
-	                       size_t *, uint8_t *);
-	ts11_answer (*step_back)(ts11_state *, uint8_t *, size_t, uint8_t *, size_t, const uint8_t *, size_t);
+	ts11_answer (*mount)(ts11_state *, size_t, const uint8_t *, size_t, uint8_t *, size_t, size_t, size_t, bool, bool,
+	                     size_t *, uint8_t *);
+	ts11_answer (*write_tsdb)(STEP, uint16_t);
+	ts11_answer (*write_tssr)(STEP, uint16_t);
+	ts11_answer (*operate)(STEP, bool, bool);
+	ts11_answer (*host_store)(ts11_state *, uint8_t *, size_t, const uint8_t *, size_t, const uint8_t *, size_t,
+	                          uint8_t *, size_t, size_t, const uint8_t *, size_t);
+	ts11_answer (*advance)(MEMORY_AND_REEL, uint8_t *, size_t, uint8_t *, size_t, bool *, bool *, size_t *, uint8_t *);
+	ts11_answer (*step_back)(MEMORY_AND_REEL, uint8_t *, size_t, const uint8_t *, size_t);
+	ts11_answer (*find_file)(const ts11_state *, const uint8_t *, size_t, size_t, bool *, size_t *);
+	ts11_answer (*find_block)(const ts11_state *, const uint8_t *, size_t, size_t, bool *, size_t *);
 } side;
 
-static const side LIBRARY = { "library",    ts11_mount,      ts11_write_tsdb, ts11_write_tssr,
-	                      ts11_operate, ts11_host_store, ts11_advance,    ts11_step_back };
-static const side PLAIN = { "plain C",     plain_mount,      plain_write_tsdb, plain_write_tssr,
-	                    plain_operate, plain_host_store, plain_advance,    plain_step_back };
+static const side LIBRARY = { "library",      ts11_mount,      ts11_write_tsdb, ts11_write_tssr, ts11_operate,
+	                      ts11_host_store, ts11_advance,    ts11_step_back,  ts11_find_file,  ts11_find_block };
+static const side PLAIN = { "plain C",        plain_mount,      plain_write_tsdb, plain_write_tssr, plain_operate,
+	                    plain_host_store, plain_advance,    plain_step_back,  plain_find_file,  plain_find_block };
 
 /* A side that does nothing: what a line counts for it is the harness's own. */
 #define UNUSED __attribute__((unused))
-#define BUFFERS \
-	UNUSED ts11_state *s, UNUSED uint8_t *m, UNUSED size_t ml, UNUSED uint8_t *r, UNUSED size_t rl, UNUSED uint8_t *j, \
-	        UNUSED size_t jl
-static ts11_answer no_mount(UNUSED ts11_state *s, UNUSED size_t m, UNUSED const uint8_t *r, UNUSED size_t rl,
+#define STATE_AND_MEMORY UNUSED ts11_state *s, UNUSED uint8_t *m, UNUSED size_t ml
+#define REEL UNUSED uint8_t *r, UNUSED size_t rl
+#define TABLE UNUSED uint8_t *t, UNUSED size_t tl
+#define JOURNAL UNUSED uint8_t *j, UNUSED size_t jl
+static ts11_answer no_mount(UNUSED ts11_state *s, UNUSED size_t m, UNUSED const uint8_t *r, UNUSED size_t rl, TABLE,
                             UNUSED size_t j, UNUSED size_t e, UNUSED bool on, UNUSED bool lock, UNUSED size_t *k,
                             UNUSED uint8_t *f)
 {
 	return TS11_DONE;
 }
 
-static ts11_answer no_write(BUFFERS, UNUSED uint16_t w)
+static ts11_answer no_write(STATE_AND_MEMORY, REEL, const TABLE, JOURNAL, UNUSED uint16_t w)
 {
 	return TS11_DONE;
 }
 
-static ts11_answer no_act(BUFFERS, UNUSED bool which, UNUSED bool on)
+static ts11_answer no_act(STATE_AND_MEMORY, REEL, const TABLE, JOURNAL, UNUSED bool which, UNUSED bool on)
 {
 	return TS11_DONE;
 }
 
-static ts11_answer no_store(UNUSED ts11_state *s, UNUSED uint8_t *m, UNUSED size_t ml, UNUSED const uint8_t *r,
-                            UNUSED size_t rl, UNUSED uint8_t *j, UNUSED size_t jl, UNUSED size_t at,
+static ts11_answer no_store(STATE_AND_MEMORY, const REEL, const TABLE, JOURNAL, UNUSED size_t at,
                             UNUSED const uint8_t *b, UNUSED size_t n)
 {
 	return TS11_DONE;
@@ -73,27 +76,41 @@ static ts11_answer no_store(UNUSED ts11_state *s, UNUSED uint8_t *m, UNUSED size
 
 static bool no_step = true; /* what an advance that does nothing tells */
 
-static ts11_answer no_advance(BUFFERS, bool *stepped, UNUSED bool *interrupt, UNUSED size_t *k, UNUSED uint8_t *f)
+static ts11_answer no_advance(STATE_AND_MEMORY, REEL, TABLE, JOURNAL, bool *stepped, UNUSED bool *interrupt,
+                              UNUSED size_t *k, UNUSED uint8_t *f)
 {
 	*stepped = no_step;
 	return TS11_DONE;
 }
 
-static ts11_answer no_back(UNUSED ts11_state *s, UNUSED uint8_t *m, UNUSED size_t ml, UNUSED uint8_t *r,
-                           UNUSED size_t rl, UNUSED const uint8_t *j, UNUSED size_t jl)
+static ts11_answer no_back(STATE_AND_MEMORY, REEL, TABLE, const JOURNAL)
 {
 	return TS11_DONE;
 }
 
-static const side NOTHING = { "nothing", no_mount, no_write, no_write, no_act, no_store, no_advance, no_back };
+static ts11_answer no_find(UNUSED const ts11_state *s, const TABLE, UNUSED size_t n, bool *found, size_t *place)
+{
+	*found = true;
+	*place = 0;
+	return TS11_DONE;
+}
 
-/* A host: a state and its three buffers. */
+static const side NOTHING = { "nothing", no_mount,   no_write, no_write, no_act,
+	                      no_store,  no_advance, no_back,  no_find,  no_find };
+
+/* A host: a state and its four buffers, and the place that it last looked up. */
 typedef struct host {
 	const side *with;
 	ts11_state state;
-	uint8_t *memory, *reel, *journal;
-	size_t memory_length, reel_length, journal_length;
+	uint8_t *memory, *reel, *table, *journal;
+	size_t memory_length, reel_length, table_length, journal_length;
+	size_t place;
 } host;
+
+/* The buffers as steps take them. */
+#define BUFFERS(h) \
+	(h)->memory, (h)->memory_length, (h)->reel, (h)->reel_length, (h)->table, (h)->table_length, (h)->journal, \
+	        (h)->journal_length
 
 static void wrong(const char *what, const host *h, size_t answer)
 {
@@ -116,9 +133,11 @@ static host made(const side *with, size_t memory, size_t blocks, size_t journal)
 	host h = { .with = with };
 	h.memory_length = memory;
 	h.reel_length = blocks * TS11_BLOCK;
+	h.table_length = blocks * TS11_PLACE_BYTES;
 	h.journal_length = journal;
 	h.memory = room(h.memory_length);
 	h.reel = room(h.reel_length);
+	h.table = room(h.table_length);
 	h.journal = room(h.journal_length + 1);
 	return h;
 }
@@ -127,6 +146,7 @@ static void freed(host *h)
 {
 	free(h->memory);
 	free(h->reel);
+	free(h->table);
 	free(h->journal);
 }
 
@@ -134,8 +154,8 @@ static void mount(host *h, size_t end)
 {
 	size_t block;
 	uint8_t fault;
-	size_t a = h->with->mount(&h->state, h->memory_length, h->reel, h->reel_length, h->journal_length, end, true, false,
-	                          &block, &fault);
+	size_t a = h->with->mount(&h->state, h->memory_length, h->reel, h->reel_length, h->table, h->table_length,
+	                          h->journal_length, end, true, false, &block, &fault);
 	if (a != TS11_DONE)
 		wrong("mount", h, a);
 }
@@ -156,24 +176,21 @@ static void packet(host *h, unsigned header, size_t w1, size_t w2, size_t w3)
 
 static void tsdb(host *h)
 {
-	size_t a = h->with->write_tsdb(&h->state, h->memory, h->memory_length, h->reel, h->reel_length, h->journal,
-	                               h->journal_length, TS11_TSDB(PACKET));
+	size_t a = h->with->write_tsdb(&h->state, BUFFERS(h), TS11_TSDB(PACKET));
 	if (a != TS11_DONE)
 		wrong("TSDB write", h, a);
 }
 
 static void tssr(host *h)
 {
-	size_t a = h->with->write_tssr(&h->state, h->memory, h->memory_length, h->reel, h->reel_length, h->journal,
-	                               h->journal_length, 0);
+	size_t a = h->with->write_tssr(&h->state, BUFFERS(h), 0);
 	if (a != TS11_DONE)
 		wrong("TSSR write", h, a);
 }
 
 static void operate(host *h, bool which, bool on)
 {
-	size_t a = h->with->operate(&h->state, h->memory, h->memory_length, h->reel, h->reel_length, h->journal,
-	                            h->journal_length, which, on);
+	size_t a = h->with->operate(&h->state, BUFFERS(h), which, on);
 	if (a != TS11_DONE)
 		wrong("operator act", h, a);
 }
@@ -183,8 +200,7 @@ static void advance_to(host *h, bool step)
 	bool stepped, interrupt;
 	size_t block;
 	uint8_t fault;
-	size_t a = h->with->advance(&h->state, h->memory, h->memory_length, h->reel, h->reel_length, h->journal,
-	                            h->journal_length, &stepped, &interrupt, &block, &fault);
+	size_t a = h->with->advance(&h->state, BUFFERS(h), &stepped, &interrupt, &block, &fault);
 	if (a != TS11_DONE || stepped != step)
 		wrong("advance", h, a);
 }
@@ -196,8 +212,7 @@ static void advance(host *h)
 
 static void back(host *h)
 {
-	size_t a = h->with->step_back(&h->state, h->memory, h->memory_length, h->reel, h->reel_length, h->journal,
-	                              h->journal_length);
+	size_t a = h->with->step_back(&h->state, BUFFERS(h));
 	if (a != TS11_DONE)
 		wrong("step back", h, a);
 }
@@ -205,10 +220,25 @@ static void back(host *h)
 static void store(host *h, size_t n)
 {
 	static const uint8_t bytes[TS11_HOST_STORE_MAX];
-	size_t a = h->with->host_store(&h->state, h->memory, h->memory_length, h->reel, h->reel_length, h->journal,
-	                               h->journal_length, DATA, bytes, n);
+	size_t a = h->with->host_store(&h->state, BUFFERS(h), DATA, bytes, n);
 	if (a != TS11_DONE)
 		wrong("host store", h, a);
+}
+
+static void find_file(host *h, size_t file)
+{
+	bool found;
+	size_t a = h->with->find_file(&h->state, h->table, h->table_length, file, &found, &h->place);
+	if (a != TS11_DONE || !found)
+		wrong("a file's look-up", h, a);
+}
+
+static void find_block(host *h, size_t block)
+{
+	bool found;
+	size_t a = h->with->find_block(&h->state, h->table, h->table_length, block, &found, &h->place);
+	if (a != TS11_DONE || !found)
+		wrong("a block's look-up", h, a);
 }
 
 /* A command to its end; the class must be the one that is expected. */
@@ -362,6 +392,23 @@ static void many_backs(host *h, const ts11_state *from, size_t times)
 	}
 }
 
+/* The reel of the look-ups: so many files, each a few records and a mark; the file that is sought, and a block of it. */
+enum { FILES = 600, FILE_RECORDS = 4, SOUGHT_FILE = 500, SOUGHT_BLOCK = SOUGHT_FILE * (FILE_RECORDS + 1) + 2 };
+
+static void many_files(host *h, const ts11_state *from, size_t times)
+{
+	(void)from;
+	for (size_t i = 0; i < times; i++)
+		find_file(h, SOUGHT_FILE);
+}
+
+static void many_blocks(host *h, const ts11_state *from, size_t times)
+{
+	(void)from;
+	for (size_t i = 0; i < times; i++)
+		find_block(h, SOUGHT_BLOCK);
+}
+
 static double now(void)
 {
 	struct timespec t;
@@ -393,7 +440,8 @@ static void same(const char *line, const host h[2])
 {
 	if (memcmp(&h[0].state, &h[1].state, sizeof h[0].state) != 0 ||
 	    memcmp(h[0].memory, h[1].memory, h[0].memory_length) != 0 ||
-	    memcmp(h[0].reel, h[1].reel, h[0].reel_length) != 0) {
+	    memcmp(h[0].reel, h[1].reel, h[0].reel_length) != 0 ||
+	    memcmp(h[0].table, h[1].table, h[0].table_length) != 0 || h[0].place != h[1].place) {
 		printf("bench: %s: the two sides differ\n", line);
 		exit(1);
 	}
@@ -481,6 +529,21 @@ static void bench_mount(void)
 	}
 }
 
+/* A reel that is full of marks: no reel has more objects. */
+static void bench_mount_marks(void)
+{
+	host h[2];
+	both(h, TS11_MEMORY_MAX, TS11_REEL_BLOCKS_MAX, 1 << 20);
+	for (int i = 0; i < 2; i++) {
+		run(&h[i], TS11_WRITE_MARK, 0, 0, 0, TS11_CLASS_NORMAL);
+		for (size_t k = 1; k < TS11_REEL_BLOCKS_MAX; k++)
+			memcpy(h[i].reel + k * TS11_BLOCK, h[i].reel, TS11_BLOCK);
+		mount(&h[i], TS11_REEL_BLOCKS_MAX);
+	}
+	report("mount, reel of 65,536 marks", many_mounts, h, 1, h[0].reel_length);
+	both_freed(h);
+}
+
 static void bench_space(void)
 {
 	host h[2];
@@ -492,6 +555,44 @@ static void bench_space(void)
 		tsdb(&h[i]);
 	}
 	report("space over 10,000 records of 80 bytes", many_advances, h, 4, (size_t)10000 * TS11_BLOCK);
+	both_freed(h);
+}
+
+/* One file of many: found as a driver finds it, from block 0, and by the table. */
+static void bench_find(void)
+{
+	host h[2];
+	both(h, TS11_MEMORY_MAX, 16384, 65536);
+	for (int i = 0; i < 2; i++) {
+		for (size_t k = 0; k < FILES; k++) {
+			write_records(&h[i], FILE_RECORDS, 80);
+			run(&h[i], TS11_WRITE_MARK, 0, 0, 0, TS11_CLASS_NORMAL);
+			forget(&h[i]);
+		}
+		rewind_tape(&h[i]);
+		packet(&h[i], TS11_SKIP_MARKS | TS11_ACK, SOUGHT_FILE, 0, 0);
+		tsdb(&h[i]);
+	}
+	report("file 500 of 600, by skipping marks", many_advances, h, 20, SOUGHT_FILE * (FILE_RECORDS + 1) * TS11_BLOCK);
+	report("file 500 of 600, by the table", many_files, h, 50000, 0);
+	report("block 2,502 of 3,000, by the table", many_blocks, h, 50000, 0);
+	both_freed(h);
+}
+
+/* A write behind many objects: where the table is cut is looked for among them all. */
+static void bench_write_behind(void)
+{
+	host h[2];
+	both(h, TS11_MEMORY_MAX, 16384, 65536);
+	for (int i = 0; i < 2; i++) {
+		write_records(&h[i], 10000, 80);
+		run(&h[i], TS11_SPACE_RECORDS_REVERSE, 10, 0, 0, TS11_CLASS_NORMAL);
+		forget(&h[i]);
+		packet(&h[i], TS11_WRITE | TS11_ACK, DATA, 0, 80);
+		tsdb(&h[i]);
+	}
+	report("write, 80 bytes behind 9,990 records", many_advances, h, 20000, 80);
+	report("write and its step back, behind 9,990", many_advances_and_backs, h, 20000, 80);
 	both_freed(h);
 }
 
@@ -576,13 +677,16 @@ int main(int argc, char **argv)
 		printf("|---|---|---|---|\n");
 	}
 	bench_mount();
+	bench_mount_marks();
 	bench_space();
+	bench_find();
 	bench_transfer("read", TS11_READ_NEXT, many_advances);
 	bench_transfer("write", TS11_WRITE, many_advances);
 	bench_transfer("swapped read", TS11_READ_NEXT | TS11_SWB, many_advances);
 	bench_transfer("swapped write", TS11_WRITE | TS11_SWB, many_advances);
 	bench_transfer("write and its step back", TS11_WRITE, many_advances_and_backs);
 	bench_transfer("read and its step back", TS11_READ_NEXT, many_advances_and_backs);
+	bench_write_behind();
 	bench_steps();
 	bench_back();
 	return 0;

@@ -1,9 +1,9 @@
 /*
  * plain.c: the tape unit of ts11.h in ordinary C, see plain.h.
  *
- * From the bottom up: words and runs of bytes, blocks of the reel, motion over the reel, the state, the journal, how
- * commands end, the commands, the steps of an advance, the calls. An advance is planned first, and nothing is stored
- * before the last refusal is past.
+ * From the bottom up: words and runs of bytes, blocks of the reel, motion over the reel, the table of its objects, the
+ * state, the journal, how commands end, the commands, the steps of an advance, the calls. An advance is planned first,
+ * and nothing is stored before the last refusal is past.
  */
 #include "plain.h"
 
@@ -264,14 +264,92 @@ static struct met seek(const uint8_t *reel, bool reverse, uint32_t position, uin
 	return m;
 }
 
-/* Reads every block below the end. */
-static struct met sweep(const uint8_t *reel, uint32_t end)
+/* Reads every block below the end, and counts the objects. */
+static struct met sweep(const uint8_t *reel, uint32_t end, uint32_t *objects)
 {
-	struct met m = {.beyond = 0};
-	do
+	struct met m = pass(reel, false, 0, end);
+	uint32_t count = 0;
+	while (m.what != MET_NOTHING && m.what != MET_FAULT) {
+		count++;
 		m = pass(reel, false, m.beyond, end);
-	while (m.what != MET_NOTHING && m.what != MET_FAULT);
+	}
+	*objects = count;
 	return m;
+}
+
+/* ---- the table --------------------------------------------------------------------------------------------------- */
+
+/* The offsets of a place's two numbers. */
+enum { OF_BLOCK = 0, OF_MARKS = 4 };
+
+static inline uint32_t number_at(const uint8_t *at)
+{
+	uint32_t n;
+	memcpy(&n, at, sizeof n);
+	return n;
+}
+
+static inline size_t table_bytes(uint32_t places)
+{
+	return (size_t)places * TS11_PLACE_BYTES;
+}
+
+/* How many places a table of that length has. */
+static inline size_t places_in(size_t length)
+{
+	size_t places = length / TS11_PLACE_BYTES;
+	return places < UINT32_MAX ? places : UINT32_MAX;
+}
+
+static void put_place(uint8_t *table, uint32_t place, uint32_t block, uint32_t marks)
+{
+	memcpy(table + table_bytes(place) + OF_BLOCK, &block, sizeof block);
+	memcpy(table + table_bytes(place) + OF_MARKS, &marks, sizeof marks);
+}
+
+/*
+ * Of the first `count` places the first whose number is no less than a bound: by a look at the last place, which is enough
+ * for a write at the recorded end, and then by halving. The table may be made up.
+ */
+static uint32_t first_from(const uint8_t *table, size_t number, uint32_t count, size_t bound)
+{
+	if (count != 0 && number_at(table + table_bytes(count - 1) + number) < bound)
+		return count;
+	uint32_t low = 0;
+	while (count != 0) {
+		uint32_t half = count / 2;
+		if (number_at(table + table_bytes(low + half) + number) < bound) {
+			low += half + 1;
+			count -= half + 1;
+		} else {
+			count = half;
+		}
+	}
+	return low;
+}
+
+/* The marks before the object that a place is for, by the place before it. */
+static uint32_t marks_before(const uint8_t *table, uint32_t place, const uint8_t *reel, uint32_t blocks)
+{
+	if (place == 0)
+		return 0;
+	const uint8_t *last = table + table_bytes(place - 1);
+	uint32_t block = number_at(last + OF_BLOCK);
+	bool mark = block < blocks && word_at(reel + reel_bytes(block) + TS11_BLOCK_KIND) == TS11_KIND_MARK;
+	return number_at(last + OF_MARKS) + mark;
+}
+
+/* The table of a reel that a sweep has found whole: the first block of each object tells how many it has. */
+static void fill_table(uint8_t *table, const uint8_t *reel, uint32_t objects)
+{
+	uint32_t at = 0, marks = 0;
+	for (uint32_t place = 0; place < objects; place++) {
+		const uint8_t *block = reel + reel_bytes(at);
+		uint32_t kind = word_at(block + TS11_BLOCK_KIND);
+		put_place(table, place, at, marks);
+		at += kind == TS11_KIND_RECORD ? pieces_of(word_at(block + TS11_BLOCK_LENGTH)) : 1;
+		marks += kind == TS11_KIND_MARK;
+	}
 }
 
 /* ---- the state --------------------------------------------------------------------------------------------------- */
@@ -290,7 +368,9 @@ struct unit {
 struct session {
 	struct unit unit;
 	uint32_t used, journal;
-	uint32_t unused[(TS11_STATE_BYTES - TS11_STATE_UNUSED) / 4];
+	uint32_t unused[(TS11_AT_OBJECTS - TS11_STATE_UNUSED) / 4];
+	uint32_t objects;
+	uint32_t unused_behind[(TS11_STATE_BYTES - TS11_AT_OBJECTS) / 4 - 1];
 };
 
 _Static_assert(offsetof(struct unit, pointer) == TS11_AT_POINTER, "state block");
@@ -300,6 +380,7 @@ _Static_assert(offsetof(struct unit, message) == TS11_AT_MESSAGE, "state block")
 _Static_assert(offsetof(struct unit, memory) == TS11_AT_MEMORY, "state block");
 _Static_assert(offsetof(struct session, used) == TS11_AT_USED, "state block");
 _Static_assert(offsetof(struct session, unused) == TS11_STATE_UNUSED, "state block");
+_Static_assert(offsetof(struct session, objects) == TS11_AT_OBJECTS, "state block");
 _Static_assert(sizeof(struct session) == TS11_STATE_BYTES, "state block");
 
 static bool memory_wrong(size_t length)
@@ -356,6 +437,8 @@ static bool session_wrong(const struct session *s)
 	uint32_t rest = 0;
 	for (size_t i = 0; i < sizeof s->unused / sizeof s->unused[0]; i++)
 		rest |= s->unused[i];
+	for (size_t i = 0; i < sizeof s->unused_behind / sizeof s->unused_behind[0]; i++)
+		rest |= s->unused_behind[i];
 	return rest != 0 || flags_wrong(&s->unit) || unit_wrong(&s->unit) ||
 	       s->used > s->journal || s->journal > TS11_JOURNAL_MAX;
 }
@@ -384,23 +467,26 @@ static void close_session(const struct session *s, ts11_state *state)
 /* ---- the journal ------------------------------------------------------------------------------------------------- */
 
 /*
- * An entry is its length in four bytes, the old data bytes, the old message bytes and the old blocks of a step, and then
- * this head: the state before the step, and where those bytes came from. Of what a step does not store, place and length are 0, and SWB is;
- * but a Read that passes its record names its place and SWB even where its count is 0.
+ * An entry is its length in four bytes, the old data bytes, the old message bytes, the old blocks and the old places of a
+ * step, and then this head: the state before the step, and where those bytes came from. Of what a step does not store,
+ * place and length are 0, and SWB is; but a Read that passes its record names its place and SWB even where its count is 0.
+ * The places are the last ones of the table that the step leaves.
  */
 struct entry {
 	struct unit unit;
 	uint32_t data_at, data_length, swb;
 	uint32_t message_at, message_length;
 	uint32_t reel_at, reel_blocks;
-	uint32_t unused[3];
+	uint32_t objects, places;
+	uint32_t unused;
 };
 
 _Static_assert(sizeof(uint32_t) + sizeof(struct entry) == TS11_ENTRY_HEAD, "an entry's length and its head");
 
 static size_t entry_length(const struct entry *e)
 {
-	return TS11_ENTRY_HEAD + (size_t)e->data_length + e->message_length + reel_bytes(e->reel_blocks);
+	return TS11_ENTRY_HEAD + (size_t)e->data_length + e->message_length + reel_bytes(e->reel_blocks) +
+	       table_bytes(e->places);
 }
 
 /* The front of an entry; gives where its old bytes begin. */
@@ -411,9 +497,9 @@ static uint8_t *put_length(uint8_t *at, size_t length)
 	return at + sizeof front;
 }
 
-/* Adds an entry with the bytes that stand at its places, or answers 9. */
+/* Adds an entry with the bytes that stand at its places, those of the table from `places` on, or answers 9. */
 static ts11_answer add_entry(struct session *s, uint8_t *journal, const struct entry *e, const uint8_t *memory,
-                             const uint8_t *reel)
+                             const uint8_t *reel, const uint8_t *places)
 {
 	size_t length = entry_length(e);
 	if (s->journal - s->used < length)
@@ -425,6 +511,8 @@ static ts11_answer add_entry(struct session *s, uint8_t *journal, const struct e
 	at += e->message_length;
 	memcpy(at, reel + reel_bytes(e->reel_at), reel_bytes(e->reel_blocks));
 	at += reel_bytes(e->reel_blocks);
+	memcpy(at, places, table_bytes(e->places));
+	at += table_bytes(e->places);
 	memcpy(at, e, sizeof *e);
 	s->used += (uint32_t)length;
 	return TS11_DONE;
@@ -433,7 +521,7 @@ static ts11_answer add_entry(struct session *s, uint8_t *journal, const struct e
 /* An entry that stores nothing over: its length and the head. */
 static ts11_answer add_head(struct session *s, uint8_t *journal)
 {
-	struct entry e = {.unit = s->unit};
+	struct entry e = {.unit = s->unit, .objects = s->objects};
 	if (s->journal - s->used < TS11_ENTRY_HEAD)
 		return TS11_JOURNAL_FULL;
 	memcpy(put_length(journal + s->used, TS11_ENTRY_HEAD), &e, sizeof e);
@@ -452,16 +540,17 @@ static bool entry_wrong(const struct entry *e, const struct session *s)
 {
 	return !run_fits(e->data_at, e->data_length, s->unit.memory) ||
 	       !run_fits(e->message_at, e->message_length, s->unit.memory) ||
-	       !run_fits(e->reel_at, e->reel_blocks, s->unit.blocks) ||
+	       !run_fits(e->reel_at, e->reel_blocks, s->unit.blocks) || e->places > s->objects ||
 	       e->unit.memory != s->unit.memory || e->unit.blocks != s->unit.blocks ||
 	       entry_length(e) > s->used || unit_wrong(&e->unit);
 }
 
 /* The old bytes go back; data last, for where it overlaps the message. */
-static void bring_back(const uint8_t *at, const struct entry *e, uint8_t *memory, uint8_t *reel)
+static void bring_back(const uint8_t *at, const struct entry *e, uint8_t *memory, uint8_t *reel, uint8_t *places)
 {
 	const uint8_t *message = at + e->data_length;
 	const uint8_t *blocks = message + e->message_length;
+	memcpy(places, blocks + reel_bytes(e->reel_blocks), table_bytes(e->places));
 	memcpy(reel + reel_bytes(e->reel_at), blocks, reel_bytes(e->reel_blocks));
 	memcpy(memory + e->message_at, message, e->message_length);
 	store_data(memory, e->data_at, at, e->data_length, e->swb);
@@ -495,6 +584,8 @@ struct plan {
 	uint32_t record_from; /* .. and the first of its bytes that is moved */
 	uint32_t kind;        /* of the object that is written */
 	bool gap_first;       /* .. and whether a retry's gap goes before it */
+	uint32_t cut;         /* the place of the first object that is written */
+	uint32_t marks;       /* .. and the marks before it */
 	struct bad bad;       /* where a block at fault is told */
 	uint16_t message[TS11_MESSAGE_BYTES / 2];
 };
@@ -944,11 +1035,29 @@ static ts11_answer plan_command(struct plan *p, const uint8_t *memory, const uin
 	return run_command(p, memory, reel);
 }
 
-/* Blocks first, then data, and the message over it. */
-static void store_plan(const struct plan *p, uint8_t *memory, uint8_t *reel)
+/* What is written gets its place, and a retry's gap one before it; or refusal 11. */
+static ts11_answer plan_places(struct plan *p, const struct session *s, const uint8_t *table, size_t length,
+                               const uint8_t *reel)
+{
+	struct entry *e = &p->entry;
+	size_t places = places_in(length);
+	if (s->objects > places)
+		return TS11_SMALL_TABLE;
+	if (e->reel_blocks == 0)
+		return TS11_DONE;
+	p->cut = first_from(table, OF_BLOCK, s->objects, e->reel_at);
+	p->marks = marks_before(table, p->cut, reel, s->unit.blocks);
+	e->places = p->gap_first ? 2 : 1;
+	return e->places > places - p->cut ? TS11_SMALL_TABLE : TS11_DONE;
+}
+
+/* Places and blocks first, then data, and the message over it. */
+static void store_plan(const struct plan *p, uint8_t *memory, uint8_t *reel, uint8_t *table)
 {
 	const struct entry *e = &p->entry;
 	const struct command *c = &p->command;
+	for (uint32_t i = 0; i < e->places; i++)
+		put_place(table, p->cut + i, e->reel_at + i, p->marks);
 	if (e->reel_blocks != 0) {
 		uint8_t *at = reel + reel_bytes(e->reel_at);
 		if (p->gap_first) {
@@ -978,8 +1087,8 @@ static void initialize(struct unit *u)
 }
 
 ts11_answer plain_mount(ts11_state *state, size_t memory_length, const uint8_t *reel, size_t reel_length,
-                        size_t journal_length, size_t recorded_end, bool online, bool write_lock, size_t *block,
-                        uint8_t *fault)
+                        uint8_t *table, size_t table_length, size_t journal_length, size_t recorded_end, bool online,
+                        bool write_lock, size_t *block, uint8_t *fault)
 {
 	size_t blocks = reel_length / TS11_BLOCK;
 	*block = 0;
@@ -990,10 +1099,14 @@ ts11_answer plain_mount(ts11_state *state, size_t memory_length, const uint8_t *
 		return TS11_BAD_REEL;
 	if (journal_length > TS11_JOURNAL_MAX)
 		return TS11_BAD_JOURNAL;
-	struct met m = sweep(reel, (uint32_t)recorded_end);
+	uint32_t objects;
+	struct met m = sweep(reel, (uint32_t)recorded_end, &objects);
 	if (m.what == MET_FAULT)
 		return bad_block(reel, &m, &(struct bad){block, fault});
-	struct session s = {.journal = (uint32_t)journal_length};
+	if (objects > places_in(table_length))
+		return TS11_SMALL_TABLE;
+	fill_table(table, reel, objects);
+	struct session s = {.journal = (uint32_t)journal_length, .objects = objects};
 	initialize(&s.unit);
 	s.unit.end = (uint32_t)recorded_end;
 	s.unit.online = online;
@@ -1004,21 +1117,25 @@ ts11_answer plain_mount(ts11_state *state, size_t memory_length, const uint8_t *
 	return TS11_DONE;
 }
 
-/* What the steps that change the state alone begin with: refusals 1 to 4 and 9, and the entry. */
-static ts11_answer open_change(struct session *s, const ts11_state *state, size_t memory, size_t reel, uint8_t *journal,
-                               size_t journal_length)
+/* What the steps that change the state alone begin with: refusals 1 to 4, 11 and 9, and the entry. */
+static ts11_answer open_change(struct session *s, const ts11_state *state, size_t memory, size_t reel, size_t table,
+                               uint8_t *journal, size_t journal_length)
 {
 	ts11_answer answer = open_session(s, state, memory, reel, journal_length);
-	return answer == TS11_DONE ? add_head(s, journal) : answer;
+	if (answer != TS11_DONE)
+		return answer;
+	return s->objects > places_in(table) ? TS11_SMALL_TABLE : add_head(s, journal);
 }
 
 ts11_answer plain_write_tsdb(ts11_state *state, uint8_t *memory, size_t memory_length, uint8_t *reel,
-                             size_t reel_length, uint8_t *journal, size_t journal_length, uint16_t word)
+                             size_t reel_length, const uint8_t *table, size_t table_length, uint8_t *journal,
+                             size_t journal_length, uint16_t word)
 {
 	struct session s;
-	ts11_answer answer = open_change(&s, state, memory_length, reel_length, journal, journal_length);
+	ts11_answer answer = open_change(&s, state, memory_length, reel_length, table_length, journal, journal_length);
 	(void)memory;
 	(void)reel;
+	(void)table;
 	if (answer != TS11_DONE)
 		return answer;
 	if (s.unit.ssr) {
@@ -1032,12 +1149,14 @@ ts11_answer plain_write_tsdb(ts11_state *state, uint8_t *memory, size_t memory_l
 }
 
 ts11_answer plain_write_tssr(ts11_state *state, uint8_t *memory, size_t memory_length, uint8_t *reel,
-                             size_t reel_length, uint8_t *journal, size_t journal_length, uint16_t word)
+                             size_t reel_length, const uint8_t *table, size_t table_length, uint8_t *journal,
+                             size_t journal_length, uint16_t word)
 {
 	struct session s;
-	ts11_answer answer = open_change(&s, state, memory_length, reel_length, journal, journal_length);
+	ts11_answer answer = open_change(&s, state, memory_length, reel_length, table_length, journal, journal_length);
 	(void)memory;
 	(void)reel;
+	(void)table;
 	(void)word;
 	if (answer != TS11_DONE)
 		return answer;
@@ -1059,12 +1178,14 @@ static void switch_line(struct unit *u, bool on)
 }
 
 ts11_answer plain_operate(ts11_state *state, uint8_t *memory, size_t memory_length, uint8_t *reel, size_t reel_length,
-                          uint8_t *journal, size_t journal_length, bool which_switch, bool on)
+                          const uint8_t *table, size_t table_length, uint8_t *journal, size_t journal_length,
+                          bool which_switch, bool on)
 {
 	struct session s;
-	ts11_answer answer = open_change(&s, state, memory_length, reel_length, journal, journal_length);
+	ts11_answer answer = open_change(&s, state, memory_length, reel_length, table_length, journal, journal_length);
 	(void)memory;
 	(void)reel;
+	(void)table;
 	if (answer != TS11_DONE)
 		return answer;
 	if (which_switch == TS11_SWITCH_WRITE_LOCK)
@@ -1097,8 +1218,8 @@ ts11_answer plain_read_register(const ts11_state *state, bool which_register, ui
 }
 
 ts11_answer plain_host_store(ts11_state *state, uint8_t *memory, size_t memory_length, const uint8_t *reel,
-                             size_t reel_length, uint8_t *journal, size_t journal_length, size_t address,
-                             const uint8_t *bytes, size_t length)
+                             size_t reel_length, const uint8_t *table, size_t table_length, uint8_t *journal,
+                             size_t journal_length, size_t address, const uint8_t *bytes, size_t length)
 {
 	struct session s;
 	ts11_answer answer = open_session(&s, state, memory_length, reel_length, journal_length);
@@ -1106,8 +1227,11 @@ ts11_answer plain_host_store(ts11_state *state, uint8_t *memory, size_t memory_l
 		return answer;
 	if (length > TS11_HOST_STORE_MAX || length > memory_length || address > memory_length - length)
 		return TS11_BAD_STORE;
-	struct entry e = {.unit = s.unit, .data_at = (uint32_t)address, .data_length = (uint32_t)length};
-	answer = add_entry(&s, journal, &e, memory, reel);
+	if (s.objects > places_in(table_length))
+		return TS11_SMALL_TABLE;
+	struct entry e = {
+		.unit = s.unit, .data_at = (uint32_t)address, .data_length = (uint32_t)length, .objects = s.objects};
+	answer = add_entry(&s, journal, &e, memory, reel, table);
 	if (answer != TS11_DONE)
 		return answer;
 	memcpy(memory + address, bytes, length);
@@ -1116,8 +1240,8 @@ ts11_answer plain_host_store(ts11_state *state, uint8_t *memory, size_t memory_l
 }
 
 ts11_answer plain_advance(ts11_state *state, uint8_t *memory, size_t memory_length, uint8_t *reel, size_t reel_length,
-                          uint8_t *journal, size_t journal_length, bool *stepped, bool *interrupt, size_t *block,
-                          uint8_t *fault)
+                          uint8_t *table, size_t table_length, uint8_t *journal, size_t journal_length, bool *stepped,
+                          bool *interrupt, size_t *block, uint8_t *fault)
 {
 	struct session s;
 	ts11_answer answer = open_session(&s, state, memory_length, reel_length, journal_length);
@@ -1130,14 +1254,18 @@ ts11_answer plain_advance(ts11_state *state, uint8_t *memory, size_t memory_leng
 	bool attends = s.unit.pending && s.unit.unit_owns;
 	if (!waits && !attends)
 		return TS11_DONE;
-	struct plan p = {.next = s.unit, .entry.unit = s.unit, .bad = {block, fault}};
+	struct plan p = {.next = s.unit, .entry = {.unit = s.unit, .objects = s.objects}, .bad = {block, fault}};
 	answer = waits ? plan_command(&p, memory, reel) : attend(&p, s.unit.release_ie);
 	if (answer == TS11_DONE)
-		answer = add_entry(&s, journal, &p.entry, memory, reel);
+		answer = plan_places(&p, &s, table, table_length, reel);
+	if (answer == TS11_DONE)
+		answer = add_entry(&s, journal, &p.entry, memory, reel, table + table_bytes(p.cut));
 	if (answer != TS11_DONE)
 		return answer;
-	store_plan(&p, memory, reel);
+	store_plan(&p, memory, reel, table);
 	s.unit = p.next;
+	if (p.entry.places != 0)
+		s.objects = p.cut + p.entry.places;
 	close_session(&s, state);
 	*stepped = true;
 	*interrupt = p.interrupt;
@@ -1145,7 +1273,7 @@ ts11_answer plain_advance(ts11_state *state, uint8_t *memory, size_t memory_leng
 }
 
 ts11_answer plain_step_back(ts11_state *state, uint8_t *memory, size_t memory_length, uint8_t *reel, size_t reel_length,
-                            const uint8_t *journal, size_t journal_length)
+                            uint8_t *table, size_t table_length, const uint8_t *journal, size_t journal_length)
 {
 	struct session s;
 	ts11_answer answer = open_session(&s, state, memory_length, reel_length, journal_length);
@@ -1159,10 +1287,52 @@ ts11_answer plain_step_back(ts11_state *state, uint8_t *memory, size_t memory_le
 	memcpy(&e, journal + s.used - sizeof e, sizeof e);
 	if (entry_wrong(&e, &s))
 		return TS11_BAD_ENTRY;
+	if (s.objects > places_in(table_length) || e.objects > places_in(table_length))
+		return TS11_SMALL_TABLE;
 	settle_flags(&e.unit);
 	s.used -= (uint32_t)entry_length(&e);
-	bring_back(journal + s.used + sizeof(uint32_t), &e, memory, reel);
+	uint8_t *places = table + table_bytes(s.objects - e.places);
+	bring_back(journal + s.used + sizeof(uint32_t), &e, memory, reel, places);
 	s.unit = e.unit;
+	s.objects = e.objects;
 	close_session(&s, state);
+	return TS11_DONE;
+}
+
+/* What the look-ups begin with: refusals 1 and 11, and nothing found. */
+static ts11_answer open_table(struct session *s, const ts11_state *state, size_t table_length, bool *found,
+                              size_t *place)
+{
+	memcpy(s, state->bytes, sizeof *s);
+	*found = false;
+	*place = 0;
+	if (session_wrong(s))
+		return TS11_BAD_STATE;
+	return s->objects > places_in(table_length) ? TS11_SMALL_TABLE : TS11_DONE;
+}
+
+ts11_answer plain_find_file(const ts11_state *state, const uint8_t *table, size_t table_length, size_t file,
+                            bool *found, size_t *place)
+{
+	struct session s;
+	ts11_answer answer = open_table(&s, state, table_length, found, place);
+	if (answer != TS11_DONE)
+		return answer;
+	uint32_t at = first_from(table, OF_MARKS, s.objects, file);
+	*found = at < s.objects;
+	*place = *found ? at : 0;
+	return TS11_DONE;
+}
+
+ts11_answer plain_find_block(const ts11_state *state, const uint8_t *table, size_t table_length, size_t block,
+                             bool *found, size_t *place)
+{
+	struct session s;
+	ts11_answer answer = open_table(&s, state, table_length, found, place);
+	if (answer != TS11_DONE || block >= s.unit.end)
+		return answer;
+	uint32_t behind = first_from(table, OF_BLOCK, s.objects, block + 1);
+	*found = behind != 0;
+	*place = *found ? behind - 1 : 0;
 	return TS11_DONE;
 }

@@ -3,7 +3,8 @@
  *
  * It mounts an empty reel, gives the unit a message buffer, writes a record, meets a packet that ends past memory, reads the record back in
  * reverse, meets a damaged block and mends it, and then steps back over all of it. At each stop it shows the registers, the message and the
- * reel. At the end it mounts what is whole of a damaged reel.
+ * reel. Then it shows a reel of three files as its table has them, finds a file and a block, and sees a step back mend the table. At the end
+ * it mounts what is whole of a damaged reel.
  */
 #include <stdio.h>
 #include <stdlib.h>
@@ -17,10 +18,11 @@
 static ts11_state state;
 static uint8_t memory[8192];
 static uint8_t reel[BLOCKS * TS11_BLOCK];
+static uint8_t table[BLOCKS * TS11_PLACE_BYTES]; /* no reel has more objects than blocks */
 static uint8_t journal[65536];
 
 /* The buffers as every step takes them. */
-#define BUFFERS memory, sizeof memory, reel, sizeof reel, journal, sizeof journal
+#define BUFFERS memory, sizeof memory, reel, sizeof reel, table, sizeof table, journal, sizeof journal
 
 enum { PACKET = 0x100, CHARACTERISTICS = 0x120, MESSAGE = 0x200, TEXT = 0x400, BUFFER = 0x600 };
 
@@ -118,15 +120,24 @@ static void show_message(void)
 	       xst0 & TS11_XST0_BOT ? " BOT" : "", word_at(MESSAGE + TS11_MESSAGE_XST3));
 }
 
+/* The object at a place of the table: where it begins the table says, what it is its first block. */
+static void show_object(size_t place)
+{
+	uint32_t block = ts11_place_block(table, place);
+	const uint8_t *b = reel + block * TS11_BLOCK;
+	if (b[TS11_BLOCK_KIND] == TS11_KIND_RECORD)
+		printf(" [block %u, %u bytes]", block, b[TS11_BLOCK_LENGTH] | (unsigned)b[TS11_BLOCK_LENGTH + 1] << 8);
+	else
+		printf(" [block %u, %s]", block, b[TS11_BLOCK_KIND] == TS11_KIND_MARK ? "mark" : "gap");
+}
+
 static void show_reel(void)
 {
-	uint32_t end = ts11_state_number(&state, TS11_AT_END);
-	printf("  tape at block %u of %u recorded:", ts11_state_number(&state, TS11_AT_POSITION), end);
-	for (uint32_t k = 0; k < end; k++) {
-		const uint8_t *b = reel + k * TS11_BLOCK;
-		printf(" [kind %u, %u bytes, piece %u]", b[TS11_BLOCK_KIND],
-		       b[TS11_BLOCK_LENGTH] | (unsigned)b[TS11_BLOCK_LENGTH + 1] << 8, b[TS11_BLOCK_INDEX]);
-	}
+	uint32_t objects = ts11_state_number(&state, TS11_AT_OBJECTS);
+	printf("  tape at block %u of %u recorded:", ts11_state_number(&state, TS11_AT_POSITION),
+	       ts11_state_number(&state, TS11_AT_END));
+	for (uint32_t place = 0; place < objects; place++)
+		show_object(place);
 	printf("\n");
 }
 
@@ -152,7 +163,7 @@ static void show(const char *where)
 typedef struct stop {
 	const char *name;
 	ts11_state state;
-	uint8_t memory[sizeof memory], reel[sizeof reel];
+	uint8_t memory[sizeof memory], reel[sizeof reel], table[sizeof table];
 } stop;
 
 static stop stops[6];
@@ -165,6 +176,7 @@ static void make_stop(const char *name)
 	s->state = state;
 	memcpy(s->memory, memory, sizeof memory);
 	memcpy(s->reel, reel, sizeof reel);
+	memcpy(s->table, table, sizeof table);
 	show(name);
 }
 
@@ -179,8 +191,8 @@ static int back_to(const stop *s)
 	printf("%d steps back to: ", steps);
 	show(s->name);
 	if (memcmp(&state, &s->state, sizeof state) != 0 || memcmp(memory, s->memory, sizeof memory) != 0 ||
-	    memcmp(reel, s->reel, sizeof reel) != 0) {
-		printf("state, memory or reel is not what it was\n");
+	    memcmp(reel, s->reel, sizeof reel) != 0 || memcmp(table, s->table, sizeof table) != 0) {
+		printf("state, memory, reel or table is not what it was\n");
 		exit(1);
 	}
 	return steps;
@@ -192,8 +204,8 @@ static void mount(size_t end)
 	ts11_answer answer;
 	size_t block;
 	uint8_t fault;
-	while ((answer = ts11_mount(&state, sizeof memory, reel, sizeof reel, sizeof journal, end, true, false, &block,
-	                            &fault)) == TS11_BAD_BLOCK) {
+	while ((answer = ts11_mount(&state, sizeof memory, reel, sizeof reel, table, sizeof table, sizeof journal, end, true,
+	                            false, &block, &fault)) == TS11_BAD_BLOCK) {
 		printf("  recorded end %zu: refusal 7, block %zu: %s\n", end, block, in_words(fault));
 		end = block; /* all before it is right, but this end may cut a record off; then its first block comes next */
 	}
@@ -223,13 +235,90 @@ static void read_damaged(void)
 	must("advance", advance());
 }
 
+/* The reel view: a line for each file. The marks before an object are the number of its file. */
+static void show_files(void)
+{
+	uint32_t objects = ts11_state_number(&state, TS11_AT_OBJECTS);
+	for (uint32_t place = 0; place < objects; place++) {
+		uint32_t file = ts11_place_marks(table, place);
+		if (place == 0 || file != ts11_place_marks(table, place - 1))
+			printf("%s  file %u:", place == 0 ? "" : "\n", file);
+		show_object(place);
+	}
+	printf("\n");
+}
+
+/* What the user clicks on: a file's number, or a block. No block of the reel is read for it. */
+static void find_file(size_t file)
+{
+	bool found;
+	size_t place;
+	must("a file's look-up", ts11_find_file(&state, table, sizeof table, file, &found, &place));
+	printf("  file %zu", file);
+	if (found)
+		printf(" begins at place %zu of the table, block %u\n", place, ts11_place_block(table, place));
+	else
+		printf(" is not there\n");
+}
+
+static void find_block(size_t block)
+{
+	bool found;
+	size_t place;
+	must("a block's look-up", ts11_find_block(&state, table, sizeof table, block, &found, &place));
+	printf("  block %zu", block);
+	if (found)
+		printf(" is in the object at place %zu, which begins at block %u\n", place, ts11_place_block(table, place));
+	else
+		printf(" is past the recorded end\n");
+}
+
+static void write_mark(void)
+{
+	command(TS11_WRITE_MARK | TS11_ACK, 0, 0);
+}
+
+/* Three files, found by the table; a write at block 0 cuts all of it off, and a step back mends it. */
+static void view_reel(void)
+{
+	uint8_t before[sizeof table];
+
+	give_message_buffer();
+	command(TS11_WRITE | TS11_ACK | TS11_CVC, TEXT, 9);
+	command(TS11_WRITE | TS11_ACK, TEXT, 600);
+	write_mark();
+	command(TS11_WRITE | TS11_ACK, TEXT, 80);
+	write_mark();
+	command(TS11_ERASE | TS11_ACK, 0, 0);
+	command(TS11_WRITE | TS11_ACK, TEXT, 1200);
+	printf("a reel of three files\n");
+	show_files();
+	find_file(2);
+	find_file(3);
+	find_block(2);
+	find_block(8);
+	find_block(10);
+
+	command(TS11_REWIND | TS11_ACK, 0, 0);
+	memcpy(before, table, sizeof table);
+	write_mark();
+	printf("a mark is written at block 0\n");
+	show_files();
+	find_file(2);
+	must("step back", ts11_step_back(&state, BUFFERS));
+	printf("it is undone, and the table is %swhat it was\n", memcmp(table, before, sizeof table) == 0 ? "" : "NOT ");
+	show_files();
+	find_file(2);
+	must("step back", ts11_step_back(&state, BUFFERS)); /* the TSDB write too, so that no command waits */
+}
+
 /* A reel from an archive: of its four blocks the third has come to harm. */
 static void mount_damaged(void)
 {
 	give_message_buffer();
 	command(TS11_WRITE | TS11_ACK | TS11_CVC, TEXT, 9);
 	command(TS11_WRITE | TS11_ACK, TEXT, 600);
-	command(TS11_WRITE_MARK | TS11_ACK, 0, 0);
+	write_mark();
 	printf("a reel of two records and a mark\n");
 	show_reel();
 	reel[2 * TS11_BLOCK + TS11_BLOCK_BYTES] ^= 1;
@@ -266,8 +355,9 @@ int main(void)
 		steps += back_to(&stops[i]);
 	if (ts11_step_back(&state, BUFFERS) != TS11_NO_ENTRY)
 		return 1;
-	printf("%d steps undone, and state, memory and reel were at each stop what they had been\n", steps);
+	printf("%d steps undone, and state, memory, reel and table were at each stop what they had been\n", steps);
 
+	view_reel();
 	mount_damaged();
 	return 0;
 }

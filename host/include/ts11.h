@@ -1,5 +1,6 @@
 /*
- * ts11.h: the command side of one TS11-compatible tape unit, its reel image, and a journal that steps back.
+ * ts11.h: the command side of one TS11-compatible tape unit, its reel image with a table of the objects on it, and a
+ * journal that steps back.
  *
  * Link with libts11.a (x86-64 Linux; of the C library it needs memset and nothing else). Every function of the
  * archive is proved to meet its contract on all inputs, to return, and to touch nothing but the buffers named in
@@ -9,7 +10,8 @@
  *   state    one ts11_state, 128 bytes
  *   memory   the machine's memory: an even number of bytes, 2 to 262,144; words are little-endian
  *   reel     the reel image: 1 to 65,536 blocks of 512 bytes
- *   journal  room for the undo entries: 0 to 16,777,216 bytes; one entry takes at most 67,726
+ *   table    a place of 8 bytes for each object on the reel; any length will do, but see TS11_SMALL_TABLE
+ *   journal  room for the undo entries: 0 to 16,777,216 bytes; one entry takes at most 67,742
  * and hands them to every call, each buffer as a pointer and a length in bytes. The buffers of one call, the state
  * and the out-parameters must not overlap, no pointer may be null (with length 0 any other address will do), and
  * each must have the bytes that its length says. Two calls may run at once if they share no buffer that either
@@ -19,13 +21,18 @@
  * and the bytes in them. There is no working area: data goes from memory straight into the reel's blocks, and from
  * them straight into memory. What the host's memset takes of the stack is not counted.
  *
- * A CALL ANSWERS 0 OR A REFUSAL'S NUMBER. Refused, it has changed no byte of state, memory, reel or journal.
- * Where several refusals hold, the least number is given.
+ * A CALL ANSWERS 0 OR A REFUSAL'S NUMBER. Refused, it has changed no byte of state, memory, reel, table or journal.
+ * Where several refusals hold, the least number is given; but 11 comes before 9.
  *
  * A STEP IS UNDONE EXACTLY. ts11_write_tsdb, ts11_write_tssr, ts11_operate, ts11_host_store and ts11_advance are
  * steps: answered 0, each adds one entry to the journal (an idle advance adds none). ts11_step_back removes the
- * newest and brings back state, memory and reel as they were before it, byte for byte, if memory, reel and state
- * were changed by nothing but calls in between.
+ * newest and brings back state, memory, reel and table as they were before it, byte for byte, if memory, reel, table
+ * and state were changed by nothing but calls in between.
+ *
+ * THE TABLE IS THE REEL'S. Lend the same table to the mount and to every call after it, and let nothing else write to
+ * it. After every call that is answered 0 its used part then has a place for each object below the recorded end, in
+ * their order, as if worked out afresh; how many, the state says. So file 500 is found at once: see ts11_find_file.
+ * What stands past the used part is promised to nobody.
  *
  * HOW A DRIVER STARTS. After a mount or a TSSR write the unit has no message buffer (NBA) and wants its volume
  * check (VCK) cleared. The first command is TS11_WRITE_CHARACTERISTICS | TS11_ACK | TS11_CVC with count 8; until
@@ -54,7 +61,8 @@ extern "C" {
 #define TS11_RECORD_MAX 65535      /* bytes of a record, which takes at most 131 blocks; at least 1 */
 #define TS11_HOST_STORE_MAX 65535  /* bytes of one host store; 0 is allowed */
 #define TS11_EOT_MARGIN 160        /* the EOT marker is this many blocks before the reel's end, or at block 0 */
-#define TS11_ENTRY_HEAD 128        /* bytes of a journal entry beside the memory and reel bytes that it keeps */
+#define TS11_PLACE_BYTES 8         /* bytes of a place of the table; an object that is written keeps one in its entry */
+#define TS11_ENTRY_HEAD 128        /* bytes of a journal entry beside the memory, reel and table bytes that it keeps */
 #define TS11_PACKET_BYTES 8        /* bytes of a command packet: one of them outside memory is NXM */
 #define TS11_MESSAGE_BYTES 14      /* bytes of a message, and the least message buffer */
 #define TS11_STACK_BYTES 2048      /* bytes of stack that any call needs at most, from its return address down */
@@ -69,6 +77,9 @@ typedef size_t ts11_answer;
  *    journal, message buffer not allowed), or the bytes are no state's at all.
  * 7: the number of the first block at fault goes to *block, and what is wrong with it, one of the faults below, to
  *    *fault. A command goes on waiting: mend the reel, and advance again.
+ * 11: the table has fewer places (its length / 8, rounded down) than there are objects, in the state handed in or in
+ *     the one that the call would leave. Every step and step back asks it, after 8 and before 9; an idle advance does
+ *     not. As many places as the reel has blocks are always enough.
  */
 #define TS11_DONE 0
 #define TS11_BAD_STATE 1    /* the state: see above */
@@ -80,6 +91,7 @@ typedef size_t ts11_answer;
 #define TS11_BAD_BLOCK 7    /* a block that must be read is damaged or out of place: see above */
 #define TS11_BAD_ENTRY 8    /* the newest entry's numbers don't fit, or it keeps a state that 1 refuses */
 #define TS11_JOURNAL_FULL 9 /* free journal less than the step's entry */
+#define TS11_SMALL_TABLE 11 /* fewer places in the table than objects: see above */
 
 /*
  * The faults, as letters of ASCII. The block is looked at by itself, in the order below, and the first thing wrong with
@@ -130,7 +142,8 @@ typedef struct ts11_state {
 #define TS11_AT_BLOCKS 80          /* the mount's reel length, in blocks */
 #define TS11_AT_USED 84            /* the used journal, in bytes */
 #define TS11_AT_JOURNAL 88         /* the mount's journal length, in bytes */
-#define TS11_STATE_UNUSED 92       /* from here on all bytes are 0 */
+#define TS11_AT_OBJECTS 112        /* the objects on the reel: so many places of the table are used */
+#define TS11_STATE_UNUSED 92       /* from here on all bytes are 0, but for the four at TS11_AT_OBJECTS */
 
 /* The number at one of these offsets. */
 static inline uint32_t ts11_state_number(const ts11_state *state, size_t at)
@@ -139,71 +152,111 @@ static inline uint32_t ts11_state_number(const ts11_state *state, size_t at)
 	return (uint32_t)b[0] | (uint32_t)b[1] << 8 | (uint32_t)b[2] << 16 | (uint32_t)b[3] << 24;
 }
 
+/* ---- the table ----------------------------------------------------------------------------------------------- */
+
+/*
+ * An object is a record, a mark, or one gap block; its place has two numbers, which the functions below read. A host may
+ * copy, compare and store the table. Bytes that no call wrote are legal here too: calls and look-ups take them as they
+ * are, and touch no byte outside the table.
+ */
+
+/* Of a table's nth place, from 0 on, the first block of its object. The place must lie in the table. */
+static inline uint32_t ts11_place_block(const uint8_t *places, size_t nth)
+{
+	const uint8_t *b = places + nth * TS11_PLACE_BYTES;
+	return (uint32_t)b[0] | (uint32_t)b[1] << 8 | (uint32_t)b[2] << 16 | (uint32_t)b[3] << 24;
+}
+
+/* .. and how many marks stand before that object on the reel, itself not counted. */
+static inline uint32_t ts11_place_marks(const uint8_t *places, size_t nth)
+{
+	const uint8_t *b = places + nth * TS11_PLACE_BYTES;
+	return (uint32_t)b[4] | (uint32_t)b[5] << 8 | (uint32_t)b[6] << 16 | (uint32_t)b[7] << 24;
+}
+
 /* ---- the calls ----------------------------------------------------------------------------------------------- */
 
 /*
- * Mounts a reel: reads every block below the recorded end, sets position 0, the two switches, the lengths, and all
- * else as ts11_write_tssr does, and empties the journal. The state that it replaces is not looked at. memory_length
- * and journal_length are those of the buffers that later calls will be handed. Refusals 2, 3, 4, and 7 with *block and
- * *fault; else both are 0. Not a step.
+ * Mounts a reel: reads every block below the recorded end, fills the table, sets position 0, the two switches, the
+ * lengths, and all else as ts11_write_tssr does, and empties the journal. The state that it replaces is not looked at.
+ * memory_length and journal_length are those of the buffers that later calls will be handed. Refusals 2, 3, 4, 7 with
+ * *block and *fault, else both are 0, and then 11. Not a step.
  *
  * What stands before a block at fault is not lost: with *block as the recorded end the same reel's mount is answered 0,
  * or 7 with the first block of the record that this end cuts off; with that block as the recorded end, 0.
  */
-ts11_answer ts11_mount(ts11_state *state, size_t memory_length, const uint8_t *reel, size_t reel_length,
-                       size_t journal_length, size_t recorded_end, bool online, bool write_lock, size_t *block,
-                       uint8_t *fault);
+ts11_answer ts11_mount(ts11_state *state, size_t memory_length, const uint8_t *reel, size_t reel_length, uint8_t *table,
+                       size_t table_length, size_t journal_length, size_t recorded_end, bool online, bool write_lock,
+                       size_t *block, uint8_t *fault);
 
 /*
  * The CPU writes a word to TSDB: the address of a command packet, see TS11_TSDB. It clears RMR, NXM, class and SSR,
  * and the command waits for ts11_advance. With SSR clear it sets RMR and nothing else: the command that waits is
- * not touched. Refusals 1 to 4, 9. A step.
+ * not touched. Refusals 1 to 4, 11, 9. A step.
  */
 ts11_answer ts11_write_tsdb(ts11_state *state, uint8_t *memory, size_t memory_length, uint8_t *reel, size_t reel_length,
-                            uint8_t *journal, size_t journal_length, uint16_t word);
+                            const uint8_t *table, size_t table_length, uint8_t *journal, size_t journal_length,
+                            uint16_t word);
 
 /*
  * The CPU writes a word to TSSR: any value initializes the unit. The command that waits, a pending attention, the
  * message buffer and the characteristics are dropped; NBA, SSR and VCK are set, RMR, NXM, class and the pointer
  * cleared; both buffers are the CPU's; on line the tape goes to position 0. Switches and recorded end stay.
- * Refusals 1 to 4, 9. A step.
+ * Refusals 1 to 4, 11, 9. A step.
  */
 ts11_answer ts11_write_tssr(ts11_state *state, uint8_t *memory, size_t memory_length, uint8_t *reel, size_t reel_length,
-                            uint8_t *journal, size_t journal_length, uint16_t word);
+                            const uint8_t *table, size_t table_length, uint8_t *journal, size_t journal_length,
+                            uint16_t word);
 
 /*
  * The operator sets a switch. Going on line sets VCK; going on or off line makes an attention pending if EAI is
- * set. An act that finds its switch already so changes nothing, and is a step all the same. Refusals 1 to 4, 9.
+ * set. An act that finds its switch already so changes nothing, and is a step all the same. Refusals 1 to 4, 11, 9.
  */
 #define TS11_SWITCH_ONLINE false
 #define TS11_SWITCH_WRITE_LOCK true
 ts11_answer ts11_operate(ts11_state *state, uint8_t *memory, size_t memory_length, uint8_t *reel, size_t reel_length,
-                         uint8_t *journal, size_t journal_length, bool which_switch, bool on);
+                         const uint8_t *table, size_t table_length, uint8_t *journal, size_t journal_length,
+                         bool which_switch, bool on);
 
 /* The CPU reads a register into *word. Refusal 1, with *word 0. Not a step, and the state is not changed. */
 #define TS11_REGISTER_TSBA false
 #define TS11_REGISTER_TSSR true
 ts11_answer ts11_read_register(const ts11_state *state, bool which_register, uint16_t *word);
 
-/* The host stores bytes in memory at an address; the store is undone with the rest. Refusals 1 to 5, 9. A step. */
+/* The host stores bytes in memory at an address; the store is undone with the rest. Refusals 1 to 5, 11, 9. A step. */
 ts11_answer ts11_host_store(ts11_state *state, uint8_t *memory, size_t memory_length, const uint8_t *reel,
-                            size_t reel_length, uint8_t *journal, size_t journal_length, size_t address,
-                            const uint8_t *bytes, size_t length);
+                            size_t reel_length, const uint8_t *table, size_t table_length, uint8_t *journal,
+                            size_t journal_length, size_t address, const uint8_t *bytes, size_t length);
 
 /*
  * The unit goes on by one move: it carries out the command that waits, whole. Or, where an attention is pending and
  * the unit owns the message buffer (since a release, or by the ACK of the command that waits), it sends that
  * instead, and a command that waits is lost. *stepped is false if there was nothing to do (idle; answer 0, nothing
- * changed), *interrupt true if the unit interrupts the CPU. Refusals 1 to 4, 7 with *block and *fault, 9; refused,
+ * changed), *interrupt true if the unit interrupts the CPU. Refusals 1 to 4, 7 with *block and *fault, 11, 9; refused,
  * *stepped and *interrupt are false. *block and *fault are 0 unless the answer is 7. A step, if *stepped.
+ *
+ * A write cuts the table off where the first block is no longer below its own, and fills a place there for what it has
+ * written, a retry two: one for its gap. The entry has eight bytes for each.
  */
 ts11_answer ts11_advance(ts11_state *state, uint8_t *memory, size_t memory_length, uint8_t *reel, size_t reel_length,
-                         uint8_t *journal, size_t journal_length, bool *stepped, bool *interrupt, size_t *block,
-                         uint8_t *fault);
+                         uint8_t *table, size_t table_length, uint8_t *journal, size_t journal_length, bool *stepped,
+                         bool *interrupt, size_t *block, uint8_t *fault);
 
-/* Undoes the newest step that still stands. Its cost is that of the bytes it brings back. Refusals 1 to 4, 6, 8. */
+/* Undoes the newest step that still stands. Its cost is that of the bytes it brings back. Refusals 1 to 4, 6, 8, 11. */
 ts11_answer ts11_step_back(ts11_state *state, uint8_t *memory, size_t memory_length, uint8_t *reel, size_t reel_length,
-                           const uint8_t *journal, size_t journal_length);
+                           uint8_t *table, size_t table_length, const uint8_t *journal, size_t journal_length);
+
+/*
+ * Looks up where a file begins: file 0 with the first object, file n with the object behind the n-th mark. *found is
+ * whether an object stands there, *place its place in the table, or else 0. The cost is that of the logarithm of the
+ * objects. Refusals 1 and 11, with nothing found. Not a step, and nothing is changed.
+ */
+ts11_answer ts11_find_file(const ts11_state *state, const uint8_t *table, size_t table_length, size_t file, bool *found,
+                           size_t *place);
+
+/* The same for the object that holds a block; one at or past the recorded end is in none. */
+ts11_answer ts11_find_block(const ts11_state *state, const uint8_t *table, size_t table_length, size_t block,
+                            bool *found, size_t *place);
 
 /* ---- registers ----------------------------------------------------------------------------------------------- */
 

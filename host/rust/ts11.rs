@@ -2,7 +2,7 @@
 //!
 //! The rules that a C host must keep about its buffers, that they are as long as it says and do not overlap, hold here by the types.
 
-/// A refusal's number, 1 to 9.
+/// A refusal's number, 1 to 9 or 11.
 pub type Refusal = usize;
 
 /// The unit's state: bytes that may be copied, compared and stored. Two states are the same exactly when their bytes are.
@@ -10,11 +10,19 @@ pub type Refusal = usize;
 #[derive(Clone, Copy, PartialEq, Eq, Debug)]
 pub struct State(pub [u8; 128]);
 
-/// The buffers of a unit, which every step is handed.
+/// The buffers of a unit, which every step is handed. The table has eight bytes for each object on the reel, or more.
 pub struct Buffers<'a> {
     pub memory: &'a mut [u8],
     pub reel: &'a mut [u8],
+    pub table: &'a mut [u8],
     pub journal: &'a mut [u8],
+}
+
+/// A place of the table: an object's first block, and the marks before it.
+#[derive(Clone, Copy, PartialEq, Eq, Debug)]
+pub struct Place {
+    pub block: u32,
+    pub marks: u32,
 }
 
 /// How an advance went: whether a step was taken at all, and whether the unit interrupts.
@@ -84,6 +92,8 @@ pub mod exported {
             memory_length: usize,
             reel: *const u8,
             reel_length: usize,
+            table: *mut u8,
+            table_length: usize,
             journal_length: usize,
             recorded_end: usize,
             online: bool,
@@ -97,6 +107,8 @@ pub mod exported {
             memory_length: usize,
             reel: *mut u8,
             reel_length: usize,
+            table: *const u8,
+            table_length: usize,
             journal: *mut u8,
             journal_length: usize,
             word: u16,
@@ -107,6 +119,8 @@ pub mod exported {
             memory_length: usize,
             reel: *mut u8,
             reel_length: usize,
+            table: *const u8,
+            table_length: usize,
             journal: *mut u8,
             journal_length: usize,
             word: u16,
@@ -117,6 +131,8 @@ pub mod exported {
             memory_length: usize,
             reel: *mut u8,
             reel_length: usize,
+            table: *const u8,
+            table_length: usize,
             journal: *mut u8,
             journal_length: usize,
             which_switch: bool,
@@ -129,6 +145,8 @@ pub mod exported {
             memory_length: usize,
             reel: *const u8,
             reel_length: usize,
+            table: *const u8,
+            table_length: usize,
             journal: *mut u8,
             journal_length: usize,
             address: usize,
@@ -141,6 +159,8 @@ pub mod exported {
             memory_length: usize,
             reel: *mut u8,
             reel_length: usize,
+            table: *mut u8,
+            table_length: usize,
             journal: *mut u8,
             journal_length: usize,
             stepped: *mut bool,
@@ -154,8 +174,26 @@ pub mod exported {
             memory_length: usize,
             reel: *mut u8,
             reel_length: usize,
+            table: *mut u8,
+            table_length: usize,
             journal: *const u8,
             journal_length: usize,
+        ) -> usize;
+        pub fn ts11_find_file(
+            state: *const State,
+            table: *const u8,
+            table_length: usize,
+            file: usize,
+            found: *mut bool,
+            place: *mut usize,
+        ) -> usize;
+        pub fn ts11_find_block(
+            state: *const State,
+            table: *const u8,
+            table_length: usize,
+            block: usize,
+            found: *mut bool,
+            place: *mut usize,
         ) -> usize;
     }
 }
@@ -174,7 +212,7 @@ fn answered_with(number: usize, block: usize, letter: u8) -> Result<(), Refused>
     answered(number).map_err(|number| Refused { number, block })
 }
 
-/// A step on the state and all three buffers, with its further arguments.
+/// A step on the state and all four buffers, with its further arguments.
 macro_rules! step {
     ($call:ident, $state:expr, $b:expr $(, $more:expr)*) => {
         unsafe {
@@ -184,12 +222,33 @@ macro_rules! step {
                 $b.memory.len(),
                 $b.reel.as_mut_ptr(),
                 $b.reel.len(),
+                $b.table.as_mut_ptr(),
+                $b.table.len(),
                 $b.journal.as_mut_ptr(),
                 $b.journal.len()
                 $(, $more)*
             )
         }
     };
+}
+
+/// A look-up by the state in a table: the place that it finds, if any.
+macro_rules! found {
+    ($call:ident, $state:expr, $table:expr, $sought:expr) => {{
+        let (mut found, mut place) = (false, 0);
+        let number =
+            unsafe { exported::$call($state, $table.as_ptr(), $table.len(), $sought, &mut found, &mut place) };
+        answered(number).map(|()| found.then_some(place))
+    }};
+}
+
+impl Place {
+    /// The nth place of a table, if the table has so many.
+    pub fn nth(table: &[u8], nth: usize) -> Option<Place> {
+        let b = table.chunks_exact(8).nth(nth)?;
+        let number = |at: usize| u32::from_le_bytes([b[at], b[at + 1], b[at + 2], b[at + 3]]);
+        Some(Place { block: number(0), marks: number(4) })
+    }
 }
 
 impl State {
@@ -201,7 +260,13 @@ impl State {
         u32::from_le_bytes([self.0[at], self.0[at + 1], self.0[at + 2], self.0[at + 3]])
     }
 
-    pub fn mount(&mut self, b: &Buffers, recorded_end: usize, online: bool, write_lock: bool) -> Result<(), Refused> {
+    pub fn mount(
+        &mut self,
+        b: &mut Buffers,
+        recorded_end: usize,
+        online: bool,
+        write_lock: bool,
+    ) -> Result<(), Refused> {
         let (mut block, mut fault) = (0, 0);
         let number = unsafe {
             exported::ts11_mount(
@@ -209,6 +274,8 @@ impl State {
                 b.memory.len(),
                 b.reel.as_ptr(),
                 b.reel.len(),
+                b.table.as_mut_ptr(),
+                b.table.len(),
                 b.journal.len(),
                 recorded_end,
                 online,
@@ -251,5 +318,15 @@ impl State {
 
     pub fn step_back(&mut self, b: &mut Buffers) -> Result<(), Refusal> {
         answered(step!(ts11_step_back, self, b))
+    }
+
+    /// The place in the table where a file begins, if an object stands there.
+    pub fn find_file(&self, table: &[u8], file: usize) -> Result<Option<usize>, Refusal> {
+        found!(ts11_find_file, self, table, file)
+    }
+
+    /// The place in the table of the object that holds a block, if one does.
+    pub fn find_block(&self, table: &[u8], block: usize) -> Result<Option<usize>, Refusal> {
+        found!(ts11_find_block, self, table, block)
     }
 }

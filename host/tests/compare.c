@@ -3,12 +3,14 @@
  *
  *   compare [rounds [seed]]
  *
- * Each round makes up buffers, a reel and a state, and then makes some 70 calls on both. After each call answer,
- * out-parameters, state, memory, reel and used journal must be the same, byte for byte. The first difference is told,
- * with exit status 1; so is a run in which some refusal, class, command or status bit never occurred, or some fault in a
- * mount, forward or in reverse, or one of the ways in which a packet ends past memory or a long record is moved (some
- * 4,000 rounds have them all). The same seed makes the same calls.
+ * Each round makes up buffers, a reel and a state, and then makes some 80 calls on both. After each call answer,
+ * out-parameters, state, memory, reel, table and used journal must be the same, byte for byte; and where nothing was made
+ * up since a mount, the table that is worked out afresh. The first difference is told, with exit status 1; so is a run in
+ * which some refusal, class, command or status bit never occurred, or some fault in a mount, forward or in reverse, or
+ * one of the ways in which a packet ends past memory, a long record is moved or the table matters (some 4,000 rounds have
+ * them all). The same seed makes the same calls.
  */
+#include "objects.h"
 #include "plain.h"
 #include "ts11.h"
 
@@ -20,6 +22,7 @@
 #define ROUNDS 8000
 #define SEED 11
 #define SLACK 4096     /* bytes behind each buffer, which are compared too; wrong lengths reach into them */
+#define TABLE_ROOM ((size_t)TS11_REEL_BLOCKS_MAX * TS11_PLACE_BYTES + SLACK)
 #define SMALL 24576    /* up to so many bytes are compared whole after each call, else what the call touched */
 #define RARELY 64      /* .. and the whole after one call in so many */
 #define BUILT_MOST 300 /* blocks of a reel that a round builds on */
@@ -61,11 +64,11 @@ static void fill_random(uint8_t *at, size_t n)
 /* What one unit has; the library's is the first, the plain unit's the second. */
 struct world {
 	ts11_state state;
-	uint8_t *memory, *reel, *journal;
+	uint8_t *memory, *reel, *table, *journal;
 };
 
 struct lengths {
-	size_t memory, reel, journal;
+	size_t memory, reel, table, journal;
 };
 
 static struct world worlds[2];
@@ -78,33 +81,45 @@ struct out {
 	uint8_t fault;
 	bool stepped, interrupt;
 	uint16_t word;
+	bool found;
+	size_t place;
 };
 
 /* Out-parameters as they are before a call, so that one left alone is seen. */
 static const struct out unset = {
 	.answer = 99, .block = 12345, .fault = 0x5A, .stepped = true, .interrupt = true, .word = 0x5A5A,
+	.found = true, .place = 54321,
 };
 
+/* The buffers as steps take them; the table is const in some. */
+#define MEMORY_AND_REEL ts11_state *, uint8_t *, size_t, uint8_t *, size_t
+#define JOURNAL uint8_t *, size_t
+
 struct calls {
-	ts11_answer (*mount)(ts11_state *, size_t, const uint8_t *, size_t, size_t, size_t, bool, bool, size_t *,
-	                     uint8_t *);
-	ts11_answer (*write_tsdb)(ts11_state *, uint8_t *, size_t, uint8_t *, size_t, uint8_t *, size_t, uint16_t);
-	ts11_answer (*write_tssr)(ts11_state *, uint8_t *, size_t, uint8_t *, size_t, uint8_t *, size_t, uint16_t);
-	ts11_answer (*operate)(ts11_state *, uint8_t *, size_t, uint8_t *, size_t, uint8_t *, size_t, bool, bool);
+	ts11_answer (*mount)(ts11_state *, size_t, const uint8_t *, size_t, uint8_t *, size_t, size_t, size_t, bool, bool,
+	                     size_t *, uint8_t *);
+	ts11_answer (*write_tsdb)(MEMORY_AND_REEL, const uint8_t *, size_t, JOURNAL, uint16_t);
+	ts11_answer (*write_tssr)(MEMORY_AND_REEL, const uint8_t *, size_t, JOURNAL, uint16_t);
+	ts11_answer (*operate)(MEMORY_AND_REEL, const uint8_t *, size_t, JOURNAL, bool, bool);
 	ts11_answer (*read_register)(const ts11_state *, bool, uint16_t *);
-	ts11_answer (*host_store)(ts11_state *, uint8_t *, size_t, const uint8_t *, size_t, uint8_t *, size_t, size_t,
-	                          const uint8_t *, size_t);
-	ts11_answer (*advance)(ts11_state *, uint8_t *, size_t, uint8_t *, size_t, uint8_t *, size_t, bool *, bool *,
-	                       size_t *, uint8_t *);
-	ts11_answer (*step_back)(ts11_state *, uint8_t *, size_t, uint8_t *, size_t, const uint8_t *, size_t);
+	ts11_answer (*host_store)(ts11_state *, uint8_t *, size_t, const uint8_t *, size_t, const uint8_t *, size_t,
+	                          JOURNAL, size_t, const uint8_t *, size_t);
+	ts11_answer (*advance)(MEMORY_AND_REEL, uint8_t *, size_t, JOURNAL, bool *, bool *, size_t *, uint8_t *);
+	ts11_answer (*step_back)(MEMORY_AND_REEL, uint8_t *, size_t, const uint8_t *, size_t);
+	ts11_answer (*find_file)(const ts11_state *, const uint8_t *, size_t, size_t, bool *, size_t *);
+	ts11_answer (*find_block)(const ts11_state *, const uint8_t *, size_t, size_t, bool *, size_t *);
 };
 
 static const struct calls units[2] = {
 	{ts11_mount, ts11_write_tsdb, ts11_write_tssr, ts11_operate, ts11_read_register, ts11_host_store, ts11_advance,
-	 ts11_step_back},
+	 ts11_step_back, ts11_find_file, ts11_find_block},
 	{plain_mount, plain_write_tsdb, plain_write_tssr, plain_operate, plain_read_register, plain_host_store,
-	 plain_advance, plain_step_back},
+	 plain_advance, plain_step_back, plain_find_file, plain_find_block},
 };
+
+/* Memory, reel, table and journal of a world, as steps are handed them. */
+#define BUFFERS(w)                                                                                                     \
+	(w)->memory, handed.memory, (w)->reel, handed.reel, (w)->table, handed.table, (w)->journal, handed.journal
 
 /* ---- what was seen ----------------------------------------------------------------------------------------------- */
 
@@ -129,14 +144,38 @@ enum place { ANYWHERE, AT_THE_END, A_BLOCK_SHORT, PLACES };
 enum { LONG_WAYS = LONG_LENGTHS * DEEDS * PLACES * 4 };
 
 /* The longest record's blocks, and the longest entry: that of a retry, with the gap. */
-enum { LONGEST = 131, LONGEST_ENTRY = TS11_ENTRY_HEAD + TS11_MESSAGE_BYTES + (LONGEST + 1) * TS11_BLOCK };
+enum {
+	LONGEST = 131,
+	LONGEST_ENTRY = TS11_ENTRY_HEAD + TS11_MESSAGE_BYTES + (LONGEST + 1) * TS11_BLOCK + 2 * TS11_PLACE_BYTES
+};
+
+/* The ways in which the table matters. */
+enum table_way {
+	SMALL_TO_MOUNT,  /* 11: a mount */
+	SMALL_TO_CHANGE, /* .. a step, by the objects that there are: a register write or an act */
+	SMALL_TO_STORE,
+	SMALL_TO_ADVANCE,
+	SMALL_FOR_WRITE, /* .. the last of the steps, by those that a write would leave */
+	SMALL_TO_BACK,   /* .. a step back, by the objects that there are */
+	SMALL_FOR_BACK,  /* .. and by those that it would bring back */
+	SMALL_TO_FIND,
+	SMALL_BEFORE_9,  /* .. where the journal has no room either */
+	CUT,             /* a write that leaves fewer objects */
+	MENDED,          /* a step back that brings some back */
+	WRITTEN_OVER,    /* a write over a table that is made up */
+	FILE_FOUND,
+	NO_FILE,
+	BLOCK_FOUND,
+	NO_BLOCK,
+	TABLE_WAYS
+};
 
 static uint64_t seed;
 static size_t round_number, round_calls;
 static size_t calls_made, idles, undone;
-static size_t answers[TS11_JOURNAL_FULL + 1], classes[TS11_CLASS_LOST + 1], carried_out[COMMANDS];
+static size_t answers[TS11_SMALL_TABLE + 1], classes[TS11_CLASS_LOST + 1], carried_out[COMMANDS];
 static unsigned xst0_seen, xst3_seen;
-static size_t overhung[OVERHANG_WAYS], long_given[LONG_WAYS];
+static size_t overhung[OVERHANG_WAYS], long_given[LONG_WAYS], table_ways[TABLE_WAYS], worked_out;
 
 /* Who met a block at fault, and the fault: of the block itself, or last, of its place. */
 enum meeting { BY_MOUNT, FORWARD, REVERSE, MEETINGS };
@@ -149,11 +188,6 @@ static size_t met_at_fault[MEETINGS][FAULTS];
 static uint32_t number_at(const uint8_t *at)
 {
 	return (uint32_t)at[0] | (uint32_t)at[1] << 8 | (uint32_t)at[2] << 16 | (uint32_t)at[3] << 24;
-}
-
-static uint32_t word_at(const uint8_t *at)
-{
-	return (uint32_t)at[0] | (uint32_t)at[1] << 8;
 }
 
 static uint32_t state_at(size_t at)
@@ -192,6 +226,13 @@ static void alike_memory(const char *call, size_t from, size_t n)
 static void alike_reel(const char *call, size_t from, size_t n)
 {
 	alike_bytes(call, "reel", worlds[0].reel, worlds[1].reel, from, n);
+}
+
+/* Whole, with the bytes behind it. */
+static void alike_table(const char *call)
+{
+	size_t n = (held.table > handed.table ? held.table : handed.table) + SLACK;
+	alike_bytes(call, "table", worlds[0].table, worlds[1].table, 0, n < TABLE_ROOM ? n : TABLE_ROOM);
 }
 
 static void alike_journal(const char *call, size_t from, size_t n)
@@ -251,6 +292,53 @@ static void alike_out(const char *call, const struct out *a, const struct out *b
 		differ(call, "interrupt: library %d, plain %d", a->interrupt, b->interrupt);
 	if (a->word != b->word)
 		differ(call, "word: library %04x, plain %04x", (unsigned)a->word, (unsigned)b->word);
+	if (a->found != b->found || a->place != b->place)
+		differ(call, "found: library %d at %zu, plain %d at %zu", a->found, a->place, b->found, b->place);
+}
+
+/* ---- the table --------------------------------------------------------------------------------------------------- */
+
+static size_t places_handed(void)
+{
+	return handed.table / TS11_PLACE_BYTES;
+}
+
+static uint32_t objects_of(const ts11_state *state)
+{
+	return ts11_state_number(state, TS11_AT_OBJECTS);
+}
+
+/* Since a mount nothing but calls has changed state, reel, table and journal. */
+static bool in_session;
+
+/* The table as it was before the call. */
+static uint8_t *table_before;
+
+/* The state, with the table before a call. */
+static ts11_state before_call(void)
+{
+	memcpy(table_before, worlds[0].table, held.table);
+	return worlds[0].state;
+}
+
+static void expect_table_kept(const char *call)
+{
+	if (memcmp(table_before, worlds[0].table, held.table) != 0)
+		differ(call, "the table changed");
+}
+
+/* The used part of the table is that of the objects on the reel. */
+static void expect_afresh(const char *call)
+{
+	static struct object objects[TS11_REEL_BLOCKS_MAX];
+	size_t count = work_out(objects, worlds[0].reel, state_at(TS11_AT_END));
+	if (state_at(TS11_AT_OBJECTS) != count)
+		differ(call, "objects %u, and afresh %zu", (unsigned)state_at(TS11_AT_OBJECTS), count);
+	for (size_t i = 0; i < count; i++)
+		if (ts11_place_block(worlds[0].table, i) != objects[i].block ||
+		    ts11_place_marks(worlds[0].table, i) != objects[i].marks)
+			differ(call, "place %zu is not that of the table worked out afresh", i);
+	worked_out++;
 }
 
 /* After a call of both: all alike, and what was not done has left the state as it was. */
@@ -260,14 +348,19 @@ static struct out alike(const char *call, const struct out o[2], const ts11_stat
 	calls_made++;
 	alike_out(call, &o[0], &o[1]);
 	alike_bytes(call, "state", worlds[0].state.bytes, worlds[1].state.bytes, 0, TS11_STATE_BYTES);
+	alike_table(call);
 	if (held.memory + held.reel + state_at(TS11_AT_USED) <= SMALL || one_in(RARELY))
 		alike_whole(call);
 	else
 		alike_touched(call, ts11_state_number(before, TS11_AT_USED));
 	if ((o[0].answer != TS11_DONE || !o[0].stepped) && memcmp(before, &worlds[0].state, sizeof *before) != 0)
 		differ(call, "answer %zu, no step, and yet the state changed", o[0].answer);
-	if (o[0].answer > TS11_JOURNAL_FULL)
+	if (o[0].answer > TS11_SMALL_TABLE)
 		differ(call, "answer %zu", o[0].answer);
+	if (o[0].answer != TS11_DONE || !o[0].stepped)
+		expect_table_kept(call);
+	if (o[0].answer == TS11_DONE && in_session)
+		expect_afresh(call);
 	answers[o[0].answer]++;
 	return o[0];
 }
@@ -296,77 +389,131 @@ static void count_fault(const char *call, const struct out *o, enum meeting meet
 	met_at_fault[meeting][k]++;
 }
 
-/* ---- the eight calls, on both ------------------------------------------------------------------------------------ */
+/* Counts a refusal 11: which way, and of a step whether the journal had no room for any entry either. */
+static void count_small(const struct out *o, enum table_way way)
+{
+	bool step = way >= SMALL_TO_CHANGE && way <= SMALL_FOR_WRITE;
+	if (o->answer != TS11_SMALL_TABLE)
+		return;
+	table_ways[way]++;
+	table_ways[SMALL_BEFORE_9] += step && state_at(TS11_AT_JOURNAL) - state_at(TS11_AT_USED) < TS11_ENTRY_HEAD;
+}
+
+/* ---- the calls, on both ------------------------------------------------------------------------------------------ */
 
 static struct out try_mount(size_t end, bool online, bool locked)
 {
 	struct out o[2] = {unset, unset};
-	ts11_state before = worlds[0].state;
+	ts11_state before = before_call();
 	for (int i = 0; i < 2; i++) {
 		struct world *w = &worlds[i];
-		o[i].answer = units[i].mount(&w->state, handed.memory, w->reel, handed.reel, handed.journal, end, online,
-		                             locked, &o[i].block, &o[i].fault);
+		o[i].answer = units[i].mount(&w->state, handed.memory, w->reel, handed.reel, w->table, handed.table,
+		                             handed.journal, end, online, locked, &o[i].block, &o[i].fault);
 	}
+	in_session |= o[0].answer == TS11_DONE;
 	struct out done = alike("mount", o, &before);
 	count_fault("mount", &done, BY_MOUNT);
+	count_small(&done, SMALL_TO_MOUNT);
+	return done;
+}
+
+/* A call that leaves the table alone. */
+static struct out alike_change(const char *call, const struct out o[2], const ts11_state *before, enum table_way way)
+{
+	struct out done = alike(call, o, before);
+	expect_table_kept(call);
+	count_small(&done, way);
 	return done;
 }
 
 static struct out try_tsdb(uint16_t word)
 {
 	struct out o[2] = {unset, unset};
-	ts11_state before = worlds[0].state;
+	ts11_state before = before_call();
 	for (int i = 0; i < 2; i++) {
 		struct world *w = &worlds[i];
-		o[i].answer = units[i].write_tsdb(&w->state, w->memory, handed.memory, w->reel, handed.reel, w->journal,
-		                                  handed.journal, word);
+		o[i].answer = units[i].write_tsdb(&w->state, BUFFERS(w), word);
 	}
-	return alike("write_tsdb", o, &before);
+	return alike_change("write_tsdb", o, &before, SMALL_TO_CHANGE);
 }
 
 static struct out try_tssr(uint16_t word)
 {
 	struct out o[2] = {unset, unset};
-	ts11_state before = worlds[0].state;
+	ts11_state before = before_call();
 	for (int i = 0; i < 2; i++) {
 		struct world *w = &worlds[i];
-		o[i].answer = units[i].write_tssr(&w->state, w->memory, handed.memory, w->reel, handed.reel, w->journal,
-		                                  handed.journal, word);
+		o[i].answer = units[i].write_tssr(&w->state, BUFFERS(w), word);
 	}
-	return alike("write_tssr", o, &before);
+	return alike_change("write_tssr", o, &before, SMALL_TO_CHANGE);
 }
 
 static struct out try_operate(bool which_switch, bool on)
 {
 	struct out o[2] = {unset, unset};
-	ts11_state before = worlds[0].state;
+	ts11_state before = before_call();
 	for (int i = 0; i < 2; i++) {
 		struct world *w = &worlds[i];
-		o[i].answer = units[i].operate(&w->state, w->memory, handed.memory, w->reel, handed.reel, w->journal,
-		                               handed.journal, which_switch, on);
+		o[i].answer = units[i].operate(&w->state, BUFFERS(w), which_switch, on);
 	}
-	return alike("operate", o, &before);
+	return alike_change("operate", o, &before, SMALL_TO_CHANGE);
 }
 
 static struct out try_register(bool which_register)
 {
 	struct out o[2] = {unset, unset};
-	ts11_state before = worlds[0].state;
+	ts11_state before = before_call();
 	for (int i = 0; i < 2; i++)
 		o[i].answer = units[i].read_register(&worlds[i].state, which_register, &o[i].word);
-	return alike("read_register", o, &before);
+	struct out done = alike("read_register", o, &before);
+	expect_table_kept("read_register");
+	return done;
+}
+
+/* Both look-ups; what is not found has place 0. */
+static void count_found(const char *call, const struct out *o, enum table_way found, enum table_way none)
+{
+	if (!o->found && o->place != 0)
+		differ(call, "nothing found, and yet place %zu", o->place);
+	if (o->found && (o->answer != TS11_DONE || o->place >= state_at(TS11_AT_OBJECTS)))
+		differ(call, "answer %zu, and yet found at %zu", o->answer, o->place);
+	if (o->answer == TS11_DONE)
+		table_ways[o->found ? found : none]++;
+}
+
+static struct out try_find_file(size_t file)
+{
+	struct out o[2] = {unset, unset};
+	ts11_state before = before_call();
+	for (int i = 0; i < 2; i++)
+		o[i].answer = units[i].find_file(&worlds[i].state, worlds[i].table, handed.table, file, &o[i].found,
+		                                 &o[i].place);
+	struct out done = alike_change("find_file", o, &before, SMALL_TO_FIND);
+	count_found("find_file", &done, FILE_FOUND, NO_FILE);
+	return done;
+}
+
+static struct out try_find_block(size_t block)
+{
+	struct out o[2] = {unset, unset};
+	ts11_state before = before_call();
+	for (int i = 0; i < 2; i++)
+		o[i].answer = units[i].find_block(&worlds[i].state, worlds[i].table, handed.table, block, &o[i].found,
+		                                  &o[i].place);
+	struct out done = alike_change("find_block", o, &before, SMALL_TO_FIND);
+	count_found("find_block", &done, BLOCK_FOUND, NO_BLOCK);
+	return done;
 }
 
 static struct out try_store(size_t address, const uint8_t *bytes, size_t length)
 {
 	struct out o[2] = {unset, unset};
-	ts11_state before = worlds[0].state;
+	ts11_state before = before_call();
 	for (int i = 0; i < 2; i++) {
 		struct world *w = &worlds[i];
-		o[i].answer = units[i].host_store(&w->state, w->memory, handed.memory, w->reel, handed.reel, w->journal,
-		                                  handed.journal, address, bytes, length);
+		o[i].answer = units[i].host_store(&w->state, BUFFERS(w), address, bytes, length);
 	}
-	return alike("host_store", o, &before);
+	return alike_change("host_store", o, &before, SMALL_TO_STORE);
 }
 
 /* Counts an advance that was a step: its class, the command where it was carried out, the status bits that it sent. */
@@ -385,16 +532,28 @@ static void count_advance(const ts11_state *before, uint32_t header)
 	}
 }
 
+/* Counts what an advance does to the table. */
+static void count_places(const struct out *o, const ts11_state *before)
+{
+	uint32_t objects = objects_of(before);
+	bool written = o->stepped && memcmp(table_before, worlds[0].table, held.table) != 0;
+	count_small(o, objects > places_handed() ? SMALL_TO_ADVANCE : SMALL_FOR_WRITE);
+	table_ways[CUT] += o->stepped && state_at(TS11_AT_OBJECTS) < objects;
+	table_ways[WRITTEN_OVER] += written && !in_session;
+}
+
 static struct out advance_both(void)
 {
 	struct out o[2] = {unset, unset};
-	ts11_state before = worlds[0].state;
+	ts11_state before = before_call();
 	for (int i = 0; i < 2; i++) {
 		struct world *w = &worlds[i];
-		o[i].answer = units[i].advance(&w->state, w->memory, handed.memory, w->reel, handed.reel, w->journal,
-		                               handed.journal, &o[i].stepped, &o[i].interrupt, &o[i].block, &o[i].fault);
+		o[i].answer = units[i].advance(&w->state, BUFFERS(w), &o[i].stepped, &o[i].interrupt, &o[i].block,
+		                               &o[i].fault);
 	}
-	return alike("advance", o, &before);
+	struct out done = alike("advance", o, &before);
+	count_places(&done, &before);
+	return done;
 }
 
 /* The way that a command reads its first blocks; a reread reads the same ones again on its way back. */
@@ -430,14 +589,15 @@ static struct out try_advance(void)
 static struct out try_back(void)
 {
 	struct out o[2] = {unset, unset};
-	ts11_state before = worlds[0].state;
+	ts11_state before = before_call();
 	for (int i = 0; i < 2; i++) {
 		struct world *w = &worlds[i];
-		o[i].answer = units[i].step_back(&w->state, w->memory, handed.memory, w->reel, handed.reel, w->journal,
-		                                 handed.journal);
+		o[i].answer = units[i].step_back(&w->state, BUFFERS(w));
 	}
 	struct out done = alike("step_back", o, &before);
 	undone += done.answer == TS11_DONE;
+	count_small(&done, objects_of(&before) > places_handed() ? SMALL_TO_BACK : SMALL_FOR_BACK);
+	table_ways[MENDED] += done.answer == TS11_DONE && state_at(TS11_AT_OBJECTS) > objects_of(&before);
 	return done;
 }
 
@@ -447,11 +607,24 @@ static size_t built_from, built_end;         /* the blocks that hold objects */
 static size_t edges[REMEMBERED], edge_count; /* where objects begin and end */
 static size_t record_lengths[REMEMBERED], record_count;
 
+static void put_number(uint8_t *at, uint32_t value)
+{
+	for (size_t j = 0; j < 4; j++)
+		at[j] = (uint8_t)(value >> 8 * j);
+}
+
 static void put_state(size_t at, uint32_t value)
 {
+	in_session = false;
 	for (int i = 0; i < 2; i++)
-		for (size_t j = 0; j < 4; j++)
-			worlds[i].state.bytes[at + j] = (uint8_t)(value >> 8 * j);
+		put_number(worlds[i].state.bytes + at, value);
+}
+
+/* The state of before, where a turn made up another. */
+static void put_state_back(const ts11_state *kept)
+{
+	in_session = false;
+	worlds[0].state = worlds[1].state = *kept;
 }
 
 static void poke(size_t at, const uint8_t *bytes, size_t n)
@@ -517,23 +690,19 @@ static size_t pick_journal(void)
 	}
 }
 
-static void put_word(uint8_t *at, size_t word)
-{
-	at[0] = (uint8_t)word;
-	at[1] = (uint8_t)(word >> 8);
-}
+static size_t built_objects;
 
-static void set_check(uint8_t *block)
+/* Places for the objects that are built and a few more; for every block; just enough; too few. Any length will do. */
+static size_t pick_table(void)
 {
-	uint32_t sum = 0;
-	for (size_t i = 0; i < TS11_BLOCK_CHECK; i += 2)
-		sum += word_at(block + i);
-	put_word(block + TS11_BLOCK_CHECK, sum % 65535);
-}
-
-static size_t blocks_of(size_t length)
-{
-	return (length + TS11_BLOCK_DATA - 1) / TS11_BLOCK_DATA;
+	size_t odd = one_in(3) ? below(TS11_PLACE_BYTES) : 0;
+	switch (below(8)) {
+	case 0: return held.reel / TS11_BLOCK * TS11_PLACE_BYTES + odd;
+	case 1: return built_objects * TS11_PLACE_BYTES + odd;
+	case 2: return below(built_objects + 1) * TS11_PLACE_BYTES + odd;
+	case 3: return below(4 * TS11_PLACE_BYTES);
+	default: return (built_objects + below(48)) * TS11_PLACE_BYTES + odd;
+	}
 }
 
 static void put_block(size_t k, unsigned kind, size_t n, size_t i)
@@ -545,7 +714,7 @@ static void put_block(size_t k, unsigned kind, size_t n, size_t i)
 	put_word(b + TS11_BLOCK_LENGTH, n);
 	b[TS11_BLOCK_INDEX] = (uint8_t)i;
 	fill_random(b + TS11_BLOCK_BYTES, left < TS11_BLOCK_DATA ? left : TS11_BLOCK_DATA);
-	set_check(b);
+	seal(b);
 }
 
 static size_t pick_length(void)
@@ -566,12 +735,13 @@ static void build_object(size_t limit)
 {
 	unsigned kind = one_in(5) ? TS11_KIND_GAP : one_in(4) ? TS11_KIND_MARK : TS11_KIND_RECORD;
 	size_t n = kind == TS11_KIND_RECORD ? pick_length() : 0;
-	size_t blocks = kind == TS11_KIND_RECORD ? blocks_of(n) : 1;
+	size_t blocks = kind == TS11_KIND_RECORD ? pieces(n) : 1;
 	if (blocks > limit - built_end)
 		return;
 	for (size_t i = 0; i < blocks; i++)
 		put_block(built_end + i, kind, n, i);
 	built_end += blocks;
+	built_objects++;
 	if (edge_count < REMEMBERED)
 		edges[edge_count++] = built_end;
 	if (kind == TS11_KIND_RECORD && record_count < REMEMBERED)
@@ -584,6 +754,7 @@ static void build_reel(void)
 	size_t most = blocks < BUILT_MOST ? blocks : BUILT_MOST;
 	built_from = blocks > most && one_in(2) ? blocks - most : 0;
 	built_end = built_from;
+	built_objects = 0;
 	edges[0] = built_end;
 	edge_count = 1;
 	record_count = 0;
@@ -605,7 +776,7 @@ static uint8_t *built_block(void)
 /* A sound piece of a long record: the first, which the end cuts off, the last, which reaches below block 0, or any. */
 static void harm_place(uint8_t *b)
 {
-	size_t n = long_lengths[below(LONG_LENGTHS)], last = blocks_of(n) - 1;
+	size_t n = long_lengths[below(LONG_LENGTHS)], last = pieces(n) - 1;
 	size_t i = one_in(4) ? below(last + 1) : one_in(2) ? 0 : last;
 	put_block((size_t)(b - worlds[0].reel) / TS11_BLOCK, TS11_KIND_RECORD, n, i);
 }
@@ -613,7 +784,7 @@ static void harm_place(uint8_t *b)
 /* The sum becomes 0, and the check word what is 0 modulo 65,535 too, but is none. */
 static void check_wrongly(uint8_t *b)
 {
-	set_check(b);
+	seal(b);
 	uint32_t w = (word_at(b + TS11_BLOCK_BYTES) + 65535 - word_at(b + TS11_BLOCK_CHECK)) % 65535;
 	put_word(b + TS11_BLOCK_BYTES, w);
 	put_word(b + TS11_BLOCK_CHECK, 0xFFFF);
@@ -629,7 +800,7 @@ static void harm_length(uint8_t *b)
 /* An index about the record's last. */
 static void harm_index(uint8_t *b)
 {
-	put_word(b + TS11_BLOCK_INDEX, blocks_of(word_at(b + TS11_BLOCK_LENGTH)) + below(4) - 2);
+	put_word(b + TS11_BLOCK_INDEX, pieces(word_at(b + TS11_BLOCK_LENGTH)) + below(4) - 2);
 }
 
 static void harm(uint8_t *b)
@@ -652,12 +823,13 @@ static void damage(void)
 {
 	if (built_end == built_from)
 		return;
+	in_session = false;
 	uint8_t *b = built_block();
 	harm(b);
 	if (one_in(3))
 		harm(b);
 	if (one_in(2))
-		set_check(b);
+		seal(b);
 	memcpy(worlds[1].reel + (b - worlds[0].reel), b, TS11_BLOCK);
 }
 
@@ -666,6 +838,47 @@ static void make_up_message_buffer(void)
 	size_t length = TS11_MESSAGE_BYTES + below(held.memory - TS11_MESSAGE_BYTES + 1) / (1 + below(20));
 	put_state(TS11_AT_MESSAGE, (uint32_t)below(held.memory - length + 1) & ~1u);
 	put_state(TS11_AT_MESSAGE_LENGTH, (uint32_t)length);
+}
+
+/* As many as the table has places, or fewer; now and then more. */
+static void make_up_objects(void)
+{
+	size_t places = held.table / TS11_PLACE_BYTES;
+	put_state(TS11_AT_OBJECTS, (uint32_t)(one_in(8) ? places + below(3) : below(places + 1)));
+}
+
+/* A number that may stand in a place: of a block, of few marks, or any. */
+static uint32_t made_up_number(void)
+{
+	switch (below(8)) {
+	case 0: return (uint32_t)next_random();
+	case 1: return 0xFFFFFFFF - (uint32_t)below(2);
+	case 2: return (uint32_t)below(3);
+	default: return (uint32_t)below(built_end + 2);
+	}
+}
+
+/* One number of the table, all of them, or all in order: the first blocks then rise, some of them by 0. */
+static void make_up_table(void)
+{
+	size_t places = held.table / TS11_PLACE_BYTES;
+	uint8_t *t = worlds[0].table;
+	in_session = false;
+	if (places == 0)
+		return;
+	if (places > BUILT_MOST)
+		places = BUILT_MOST;
+	size_t at = one_in(2) ? below(places) : 0, to = one_in(2) ? at + 1 : places;
+	bool in_order = one_in(2);
+	uint32_t block = 0;
+	for (; at < to; at++) {
+		block += (uint32_t)below(4);
+		put_number(t + at * TS11_PLACE_BYTES, in_order ? block : made_up_number());
+		put_number(t + at * TS11_PLACE_BYTES + 4, made_up_number());
+	}
+	memcpy(worlds[1].table, t, held.table);
+	if (one_in(2))
+		make_up_objects();
 }
 
 /* A state that no call need have left, but that refusal 1 lets pass. */
@@ -698,6 +911,7 @@ static void make_up_state(void)
 	put_state(TS11_AT_USED, (uint32_t)used);
 	put_state(TS11_AT_JOURNAL, (uint32_t)held.journal);
 	memcpy(worlds[1].journal, worlds[0].journal, used);
+	make_up_objects();
 }
 
 /* ---- what a turn does -------------------------------------------------------------------------------------------- */
@@ -835,6 +1049,8 @@ static void put_overhang(const struct overhang *o, bool cvc)
 	put_state(TS11_AT_PENDING, o->pending);
 	put_state(TS11_AT_UNIT_OWNS, o->owned);
 	put_state(TS11_AT_VCK, (uint32_t)below(2));
+	if (state_at(TS11_AT_OBJECTS) > held.table / TS11_PLACE_BYTES)
+		put_state(TS11_AT_OBJECTS, 0);
 	if (!o->nba)
 		make_up_message_buffer();
 }
@@ -927,20 +1143,23 @@ static bool reads(const struct long_way *w)
 /* The blocks from the place on that the command reads or writes. */
 static size_t blocks_needed(const struct long_way *w)
 {
-	return blocks_of(w->length) + (w->deed == RETRY_IT);
+	return pieces(w->length) + (w->deed == RETRY_IT);
 }
 
-/* The entry where it is answered 0: what does not fit on the reel saves no block. */
+/* The entry where it is answered 0: what does not fit on the reel saves no block and no place. */
 static size_t entry_of(const struct long_way *w)
 {
 	size_t entry = TS11_ENTRY_HEAD + TS11_MESSAGE_BYTES;
 	if (reads(w))
 		return entry + w->length;
-	return entry + (w->place == A_BLOCK_SHORT ? 0 : blocks_needed(w) * TS11_BLOCK);
+	if (w->place == A_BLOCK_SHORT)
+		return entry;
+	return entry + blocks_needed(w) * TS11_BLOCK + (w->deed == RETRY_IT ? 2 : 1) * TS11_PLACE_BYTES;
 }
 
 static void put_alike(size_t k, unsigned kind, size_t n, size_t i)
 {
+	in_session = false;
 	put_block(k, kind, n, i);
 	memcpy(worlds[1].reel + k * TS11_BLOCK, worlds[0].reel + k * TS11_BLOCK, TS11_BLOCK);
 }
@@ -1034,17 +1253,20 @@ static void give_long(void)
 	static size_t given;
 	struct long_way w = long_way_by_number(given);
 	ts11_state kept = worlds[0].state;
-	if (held.journal < entry_of(&w) || held.reel / TS11_BLOCK + (w.place == A_BLOCK_SHORT) < blocks_needed(&w))
+	size_t places = held.table / TS11_PLACE_BYTES;
+	if (held.journal < entry_of(&w) || held.reel / TS11_BLOCK + (w.place == A_BLOCK_SHORT) < blocks_needed(&w) ||
+	    places < 2)
 		return;
 	size_t at = place_of(&w);
 	put_long(&w, at);
+	put_state(TS11_AT_OBJECTS, (uint32_t)below(places - 1));
 	struct out done = try_advance();
 	expect_long_end(&w, at, &done);
 	if (done.answer == TS11_DONE)
 		try_back();
 	long_given[given]++;
 	given = (given + 1) % LONG_WAYS;
-	worlds[0].state = worlds[1].state = kept;
+	put_state_back(&kept);
 }
 
 static void host_store(void)
@@ -1062,9 +1284,9 @@ static void host_store(void)
 
 static void put_journal(size_t at, uint32_t value)
 {
+	in_session = false;
 	for (int i = 0; i < 2; i++)
-		for (size_t j = 0; j < 4; j++)
-			worlds[i].journal[at + j] = (uint8_t)(value >> 8 * j);
+		put_number(worlds[i].journal + at, value);
 }
 
 /* A step back with a number of the newest entry's head made up, which is put right again where the entry stays. */
@@ -1103,9 +1325,19 @@ static void mount(void)
 	handed = kept;
 }
 
+/* Files and blocks that are there, just past the last, or none. */
+static void look_up(void)
+{
+	size_t objects = state_at(TS11_AT_OBJECTS), end = state_at(TS11_AT_END);
+	if (one_in(2))
+		try_find_file(odd_length(below(objects < BUILT_MOST ? objects / 4 + 2 : BUILT_MOST)));
+	else
+		try_find_block(odd_length(one_in(8) ? end : below(end + 2)));
+}
+
 static void any_call(void)
 {
-	switch (below(8)) {
+	switch (below(9)) {
 	case 0: mount(); break;
 	case 1: try_tsdb((uint16_t)next_random()); break;
 	case 2: try_tssr((uint16_t)next_random()); break;
@@ -1113,6 +1345,7 @@ static void any_call(void)
 	case 4: try_register(one_in(2)); break;
 	case 5: host_store(); break;
 	case 6: try_advance(); break;
+	case 7: look_up(); break;
 	default: try_back(); break;
 	}
 }
@@ -1129,6 +1362,23 @@ static size_t wrong_length(size_t length, size_t limit)
 	return length < limit ? length : limit;
 }
 
+/* A call that is handed a table of another length: any will do that has the places. */
+static void with_table_of(size_t length)
+{
+	handed.table = length;
+	any_call();
+	handed.table = held.table;
+}
+
+/* About as many places as there are objects. */
+static size_t close_length(void)
+{
+	size_t objects = state_at(TS11_AT_OBJECTS);
+	if (objects > TS11_REEL_BLOCKS_MAX)
+		objects = TS11_REEL_BLOCKS_MAX;
+	return (objects < 2 ? 0 : objects - 2) * TS11_PLACE_BYTES + below(5 * TS11_PLACE_BYTES);
+}
+
 /* A call with lengths that are not all those of the buffers. */
 static void with_wrong_lengths(void)
 {
@@ -1138,13 +1388,17 @@ static void with_wrong_lengths(void)
 		handed.reel = wrong_length(held.reel, TS11_REEL_BLOCKS_MAX * TS11_BLOCK + SLACK);
 	if (one_in(2))
 		handed.journal = wrong_length(held.journal, TS11_JOURNAL_MAX + SLACK);
-	any_call();
+	if (one_in(4))
+		with_table_of(wrong_length(held.table, TABLE_ROOM));
+	else
+		any_call();
 	handed = held;
 }
 
 /* A call on a state with a number made up, or all of them. */
 static void with_spoiled_state(void)
 {
+	in_session = false;
 	if (one_in(8)) {
 		fill_random(worlds[0].state.bytes, TS11_STATE_BYTES);
 		worlds[1].state = worlds[0].state;
@@ -1159,20 +1413,23 @@ static void with_spoiled_state(void)
 static void settle(const ts11_state *kept)
 {
 	if (state_at(TS11_AT_MEMORY) != held.memory || state_at(TS11_AT_BLOCKS) != held.reel / TS11_BLOCK ||
-	    state_at(TS11_AT_JOURNAL) != held.journal || try_register(one_in(2)).answer != TS11_DONE)
-		worlds[0].state = worlds[1].state = *kept;
+	    state_at(TS11_AT_JOURNAL) != held.journal || state_at(TS11_AT_OBJECTS) > held.table / TS11_PLACE_BYTES ||
+	    try_register(one_in(2)).answer != TS11_DONE)
+		put_state_back(kept);
 }
 
 static void odd_turn(void)
 {
 	ts11_state kept = worlds[0].state;
-	switch (below(8)) {
+	switch (below(10)) {
 	case 0: host_store(); break;
 	case 1: try_operate(one_in(3), one_in(2)); break;
 	case 2: case 3: step_back(); break;
 	case 4: with_wrong_lengths(); break;
 	case 5: with_spoiled_state(); break;
 	case 6: try_advance(); break;
+	case 7: with_table_of(close_length()); break;
+	case 8: look_up(); break;
 	default: any_call(); break;
 	}
 	settle(&kept);
@@ -1188,6 +1445,8 @@ static void take_turn(void)
 		step_back();
 	if (one_in(60))
 		damage();
+	if (one_in(60))
+		make_up_table();
 	if (one_in(30))
 		give_overhang();
 	if (long_round && one_in(4))
@@ -1196,6 +1455,20 @@ static void take_turn(void)
 		odd_turn();
 	else
 		give_command(pick_header());
+}
+
+/* A reel that is well formed, as it is built; where the table is too small, with a larger one. */
+static void mount_whole(void)
+{
+	size_t needed = built_objects * TS11_PLACE_BYTES;
+	bool small = held.table < needed;
+	if (try_mount(built_end, !one_in(6), one_in(6)).answer != (small ? TS11_SMALL_TABLE : TS11_DONE))
+		differ("mount", "%zu objects, a table of %zu bytes: another answer", built_objects, held.table);
+	if (small) {
+		held.table = handed.table = needed;
+		memcpy(worlds[1].table, worlds[0].table, held.table);
+		try_mount(built_end, !one_in(6), one_in(6));
+	}
 }
 
 static void run_round(void)
@@ -1209,10 +1482,14 @@ static void run_round(void)
 	fill_random(worlds[0].memory, held.memory);
 	memcpy(worlds[1].memory, worlds[0].memory, held.memory);
 	build_reel();
+	held.table = handed.table = pick_table();
+	fill_random(worlds[0].table, held.table);
+	memcpy(worlds[1].table, worlds[0].table, held.table);
+	in_session = false;
 	if (built_from != 0 || one_in(3))
 		make_up_state();
-	else if (try_mount(built_end, !one_in(6), one_in(6)).answer != TS11_DONE)
-		differ("mount", "a reel that is well formed was refused");
+	else
+		mount_whole();
 	if (one_in(4))
 		damage();
 	for (size_t turns = 10 + below(30); turns != 0; turns--)
@@ -1227,8 +1504,11 @@ static void make_worlds(void)
 	for (int i = 0; i < 2; i++) {
 		worlds[i].memory = calloc(TS11_MEMORY_MAX + SLACK, 1);
 		worlds[i].reel = calloc((size_t)TS11_REEL_BLOCKS_MAX * TS11_BLOCK + SLACK, 1);
+		worlds[i].table = calloc(TABLE_ROOM, 1);
 		worlds[i].journal = calloc(TS11_JOURNAL_MAX + SLACK, 1);
-		if (worlds[i].memory == NULL || worlds[i].reel == NULL || worlds[i].journal == NULL) {
+		table_before = calloc(TABLE_ROOM, 1);
+		if (worlds[i].memory == NULL || worlds[i].reel == NULL || worlds[i].table == NULL || worlds[i].journal == NULL ||
+		    table_before == NULL) {
 			fprintf(stderr, "compare: no room for the buffers\n");
 			exit(1);
 		}
@@ -1271,9 +1551,12 @@ static bool anything_missed(void)
 	bool any = missed("idle advance", 0, idles) | fault_missed();
 	any |= ways_missed("a packet past memory", overhung, OVERHANG_WAYS);
 	any |= ways_missed("a long record", long_given, LONG_WAYS);
+	for (unsigned i = 0; i < TABLE_WAYS; i++)
+		any |= missed("way of the table", i, table_ways[i]);
+	any |= missed("a table worked out afresh", 0, worked_out);
 	any |= missed("step back", 0, undone);
-	for (unsigned i = TS11_BAD_STATE; i <= TS11_JOURNAL_FULL; i++)
-		any |= missed("refusal", i, answers[i]);
+	for (unsigned i = TS11_BAD_STATE; i <= TS11_SMALL_TABLE; i++)
+		any |= i != 10 && missed("refusal", i, answers[i]);
 	for (unsigned i = 0; i <= TS11_CLASS_LOST; i++)
 		any |= i != TS11_CLASS_RECOVERABLE && missed("class", i, classes[i]);
 	for (unsigned i = 0; i < COMMANDS; i++)
@@ -1296,9 +1579,13 @@ int main(int argc, char **argv)
 		run_round();
 	if (anything_missed())
 		return 1;
-	printf("compare: %zu calls, both alike (%zu steps back, %zu idle; refusals 1 to 9:", calls_made, undone, idles);
-	for (size_t i = TS11_BAD_STATE; i <= TS11_JOURNAL_FULL; i++)
-		printf(" %zu", answers[i]);
+	printf("compare: %zu calls, both alike (%zu steps back, %zu idle; refusals 1 to 9 and 11:", calls_made, undone, idles);
+	for (size_t i = TS11_BAD_STATE; i <= TS11_SMALL_TABLE; i++)
+		if (i != 10)
+			printf(" %zu", answers[i]);
+	printf("; the table afresh %zu, small, cut, mended, found:", worked_out);
+	for (size_t i = 0; i < TABLE_WAYS; i++)
+		printf(" %zu", table_ways[i]);
 	printf("; classes 0 to 6:");
 	for (size_t i = 0; i <= TS11_CLASS_LOST; i++)
 		printf(" %zu", classes[i]);

@@ -53,6 +53,16 @@ static inline struct result step_back(struct unit *u)
 	return make(u, &(struct call){ .kind = STEP_BACK });
 }
 
+static inline struct result find_file(struct unit *u, size_t file)
+{
+	return make(u, &(struct call){ .kind = FIND_FILE, .sought = file });
+}
+
+static inline struct result find_block(struct unit *u, size_t block)
+{
+	return make(u, &(struct call){ .kind = FIND_BLOCK, .sought = block });
+}
+
 static inline uint16_t tssr(struct unit *u)
 {
 	return read_register(u, TS11_REGISTER_TSSR).word;
@@ -61,6 +71,11 @@ static inline uint16_t tssr(struct unit *u)
 static inline size_t used(const struct unit *u)
 {
 	return number(u, TS11_AT_USED);
+}
+
+static inline size_t objects(const struct unit *u)
+{
+	return number(u, TS11_AT_OBJECTS);
 }
 
 /* How an advance ended. */

@@ -152,6 +152,7 @@
 1:	add $40, %rsp
 	ret
 2:	jump_by table_2
+	mov %rdi, 8(%rsp)
 	jmp *%rax
 3:	call callee
 	jmp 1b

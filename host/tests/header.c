@@ -15,7 +15,7 @@ _Static_assert(TS11_STACK_BYTES == 2048, "what hosts were told; stack.c shows th
 
 /* ---- the unit under test ----------------------------------------------------------------------------------------- */
 
-enum { MEMORY_BYTES = 4096, REEL_BLOCKS = 176, JOURNAL_BYTES = 65536, TAPE_END = 9, HERE = 3 };
+enum { MEMORY_BYTES = 4096, REEL_BLOCKS = 176, JOURNAL_BYTES = 65536, TAPE_END = 9, TAPE_OBJECTS = 8, HERE = 3 };
 
 static struct unit u;
 
@@ -63,7 +63,7 @@ static const size_t state_offsets[] = {
 	TS11_AT_POSITION, TS11_AT_END,        TS11_AT_POINTER, TS11_AT_CLASS,          TS11_AT_RMR,     TS11_AT_NXM,
 	TS11_AT_NBA,      TS11_AT_SSR,        TS11_AT_ONLINE,  TS11_AT_LOCKED,         TS11_AT_VCK,     TS11_AT_UNIT_OWNS,
 	TS11_AT_PENDING,  TS11_AT_RELEASE_IE, TS11_AT_MESSAGE, TS11_AT_MESSAGE_LENGTH, TS11_AT_EAI,     TS11_AT_ESS,
-	TS11_AT_ENB,      TS11_AT_MEMORY,     TS11_AT_BLOCKS,  TS11_AT_USED,           TS11_AT_JOURNAL,
+	TS11_AT_ENB,      TS11_AT_MEMORY,     TS11_AT_BLOCKS,  TS11_AT_USED,           TS11_AT_JOURNAL, TS11_AT_OBJECTS,
 };
 enum { NUMBERS = COUNT(state_offsets) };
 
@@ -110,10 +110,11 @@ static void test_mount_limits(void)
 		struct buffer state = make_buffer(TS11_STATE_BYTES, GUARD), reel = make_buffer(rows[k].reel, 0);
 		ts11_state *s = (ts11_state *)state.at;
 		size_t block = 1;
-		uint8_t fault = 1;
+		uint8_t fault = 1, no_table;
 		context("%s", rows[k].name);
 		EXPECT("mount",
-		       ts11_mount(s, rows[k].memory, reel.at, rows[k].reel, rows[k].journal, 0, true, false, &block, &fault),
+		       ts11_mount(s, rows[k].memory, reel.at, rows[k].reel, &no_table, 0, rows[k].journal, 0, true, false,
+		                  &block, &fault),
 		       rows[k].answer);
 		EXPECT("*block", block, 0);
 		EXPECT("*fault", fault, 0);
@@ -152,7 +153,9 @@ static void test_record_limits(void)
 		struct ending e = command(&u, TS11_WRITE | TS11_ACK, DATA, (uint16_t)rows[k].length);
 		EXPECT("class", TS11_CLASS(e.tssr), rows[k].class);
 		EXPECT("position", number(&u, TS11_AT_POSITION), rows[k].blocks);
-		EXPECT("entry", e.entry, TS11_ENTRY_HEAD + TS11_MESSAGE_BYTES + rows[k].blocks * TS11_BLOCK);
+		EXPECT("entry", e.entry,
+		       TS11_ENTRY_HEAD + TS11_MESSAGE_BYTES + rows[k].blocks * TS11_BLOCK +
+		           (rows[k].blocks ? TS11_PLACE_BYTES : 0));
 	}
 	context("");
 }
@@ -178,6 +181,20 @@ static void test_entry_and_message_sizes(void)
 	       TS11_CLASS_NORMAL);
 	EXPECT("a byte less", TS11_CLASS(characteristics(&u, 0, MESSAGE, TS11_MESSAGE_BYTES - 1, 0).tssr),
 	       TS11_CLASS_REJECT);
+}
+
+/* What an erase keeps beside head, message and block; and the least table for as many objects as the tape has. */
+static void test_place_size(void)
+{
+	ready(0, HERE);
+	size_t entry = command(&u, TS11_ERASE | TS11_ACK, 0, 0).entry;
+	EXPECT("bytes kept of the table", entry - TS11_ENTRY_HEAD - TS11_MESSAGE_BYTES - TS11_BLOCK, TS11_PLACE_BYTES);
+	mounted();
+	struct unit v = u;
+	v.table = (struct buffer){ u.table.at, 0, 0 };
+	while (v.table.length < u.table.length && mount(&v, TAPE_END, true, false).answer == TS11_SMALL_TABLE)
+		v.table.length++;
+	EXPECT("the least table", v.table.length, TAPE_OBJECTS * TS11_PLACE_BYTES);
 }
 
 /* A packet that ends where memory ends, and one that ends a byte further. */
@@ -209,21 +226,25 @@ static void test_eot_margin(void)
 
 /* ---- answers ----------------------------------------------------------------------------------------------------- */
 
-/* The unit with one buffer handed shorter; its guards are then out of place. */
-static struct unit handed(size_t memory_less, size_t reel_less, size_t journal_less)
+/* The unit with one buffer handed shorter, whose guards are then out of place; the table with no place to spare. */
+static struct unit handed(size_t memory_less, size_t reel_less, size_t journal_less, size_t table_less)
 {
 	struct unit v = u;
 	v.memory = (struct buffer){ u.memory.at, u.memory.length - memory_less, 0 };
 	v.reel = (struct buffer){ u.reel.at, u.reel.length - reel_less, 0 };
 	v.journal = (struct buffer){ u.journal.at, u.journal.length - journal_less, 0 };
+	v.table = (struct buffer){ u.table.at, TAPE_OBJECTS * TS11_PLACE_BYTES - table_less, 0 };
 	return v;
 }
 
 static void test_answers_to_lengths(void)
 {
 	ready(0, HERE);
-	struct unit memory = handed(2, 0, 0), reel = handed(0, TS11_BLOCK, 0), journal = handed(0, 0, 1);
+	struct unit memory = handed(2, 0, 0, 0), reel = handed(0, TS11_BLOCK, 0, 0), journal = handed(0, 0, 1, 0);
+	struct unit table = handed(0, 0, 0, 1), enough = handed(0, 0, 0, 0);
 	EXPECT("the lengths of the mount", write_tsdb(&u, 0).answer, TS11_DONE);
+	EXPECT("a table with just the places", write_tsdb(&enough, 0).answer, TS11_DONE);
+	EXPECT("a table with a byte less", write_tsdb(&table, 0).answer, TS11_SMALL_TABLE);
 	EXPECT("another memory length", write_tsdb(&memory, 0).answer, TS11_BAD_MEMORY);
 	EXPECT("another reel length", write_tsdb(&reel, 0).answer, TS11_BAD_REEL);
 	EXPECT("another journal length", write_tsdb(&journal, 0).answer, TS11_BAD_JOURNAL);
@@ -332,11 +353,12 @@ static void expect_no_fault(const char *what, struct unit *v, enum kind kind, ts
 
 static void test_no_faults(void)
 {
-	struct unit memory, reel, journal;
+	struct unit memory, reel, journal, table;
 	ready(0, HERE);
-	memory = handed(1, 0, 0);
-	reel = handed(0, 1, 0);
-	journal = handed(0, 0, 1);
+	memory = handed(1, 0, 0, 0);
+	reel = handed(0, 1, 0, 0);
+	journal = handed(0, 0, 1, 0);
+	table = handed(0, 0, 0, 1);
 	expect_no_fault("an idle advance", &u, ADVANCE, TS11_DONE);
 	put_packet(&u, TS11_READ_NEXT | TS11_ACK, DATA, 9);
 	write_tsdb(&u, TS11_TSDB(PACKET));
@@ -344,8 +366,10 @@ static void test_no_faults(void)
 	expect_no_fault("an advance with another memory", &memory, ADVANCE, TS11_BAD_MEMORY);
 	expect_no_fault("an advance with another reel", &reel, ADVANCE, TS11_BAD_REEL);
 	expect_no_fault("an advance with another journal", &journal, ADVANCE, TS11_BAD_JOURNAL);
+	expect_no_fault("an advance with a small table", &table, ADVANCE, TS11_SMALL_TABLE);
 	set_number(&u, TS11_AT_USED, JOURNAL_BYTES);
 	expect_no_fault("an advance without room", &u, ADVANCE, TS11_JOURNAL_FULL);
+	expect_no_fault("an advance with a small table, and without room", &table, ADVANCE, TS11_SMALL_TABLE);
 	set_number(&u, TS11_AT_USED, JOURNAL_BYTES + 1);
 	expect_no_fault("an advance from a number out of range", &u, ADVANCE, TS11_BAD_STATE);
 	set_number(&u, TS11_AT_RMR, 2);
@@ -353,6 +377,7 @@ static void test_no_faults(void)
 	expect_no_fault("a mount", &u, MOUNT, TS11_DONE);
 	expect_no_fault("a mount with an odd memory", &memory, MOUNT, TS11_BAD_MEMORY);
 	expect_no_fault("a mount with no whole reel", &reel, MOUNT, TS11_BAD_REEL);
+	expect_no_fault("a mount with a small table", &table, MOUNT, TS11_SMALL_TABLE);
 	journal.journal.length = TS11_JOURNAL_MAX + 1;
 	expect_no_fault("a mount with too long a journal", &journal, MOUNT, TS11_BAD_JOURNAL);
 }
@@ -363,7 +388,7 @@ static void test_no_faults(void)
 union numbers {
 	struct {
 		uint32_t position, end, pointer, class, rmr, nxm, nba, ssr, online, locked, vck, unit_owns, pending, release_ie,
-			message, message_length, eai, ess, enb, memory, blocks, used, journal;
+			message, message_length, eai, ess, enb, memory, blocks, used, journal, objects;
 	};
 	uint32_t all[NUMBERS];
 };
@@ -392,7 +417,8 @@ static void initial(uint32_t used_journal)
 		                   .memory = MEMORY_BYTES,
 		                   .blocks = REEL_BLOCKS,
 		                   .used = used_journal,
-		                   .journal = JOURNAL_BYTES };
+		                   .journal = JOURNAL_BYTES,
+		                   .objects = TAPE_OBJECTS };
 }
 
 static void drive_switches(void)
@@ -504,7 +530,7 @@ static void drive_tape(void)
 	now.used = (uint32_t)used(&u);
 	expect_state("space over a record");
 	command(&u, TS11_ERASE | TS11_ACK, 0, 0);
-	now.position = now.end = 2;
+	now.position = now.end = now.objects = 2;
 	now.used = (uint32_t)used(&u);
 	expect_state("erase");
 }
@@ -540,6 +566,13 @@ static uint64_t seen_first_byte(void)
 static uint64_t seen_space(void)
 {
 	return TS11_CLASS(command(&u, TS11_SPACE_RECORDS | TS11_ACK, 1, 0).tssr);
+}
+
+/* The place where the file behind two marks begins. */
+static uint64_t seen_file(void)
+{
+	struct result r = find_file(&u, 2);
+	return r.found ? r.place : 99;
 }
 
 static uint64_t seen_xst0(void)
@@ -634,6 +667,8 @@ static void test_made_up(void)
 		{ "used journal", TS11_AT_USED, JOURNAL_BYTES + 1, seen_answer, TS11_DONE, TS11_BAD_STATE },
 		{ "no used journal", TS11_AT_USED, 0, seen_step_back, TS11_DONE, TS11_NO_ENTRY },
 		{ "journal length", TS11_AT_JOURNAL, JOURNAL_BYTES - 1, seen_answer, TS11_DONE, TS11_BAD_JOURNAL },
+		{ "objects", TS11_AT_OBJECTS, 6, seen_file, 6, 99 },
+		{ "objects past the table", TS11_AT_OBJECTS, REEL_BLOCKS + 1, seen_answer, TS11_DONE, TS11_SMALL_TABLE },
 	};
 	ROWS(k, rows) {
 		context("made up: %s", rows[k].name);
@@ -646,6 +681,15 @@ static void test_made_up(void)
 	context("");
 }
 
+/* Is a state with one bit of this byte changed refused? */
+static bool byte_refused(size_t at)
+{
+	u.state.at[at] ^= 1;
+	bool refused = read_register(&u, TS11_REGISTER_TSSR).answer == TS11_BAD_STATE;
+	u.state.at[at] ^= 1;
+	return refused;
+}
+
 /* A flag other than 0 and 1 is no state, nor is anything in the unused bytes; behind them the library does not look. */
 static void test_state_bytes(void)
 {
@@ -656,14 +700,8 @@ static void test_state_bytes(void)
 	EXPECT("unused bytes after it", all_are(u.state.at + TS11_STATE_UNUSED, TS11_STATE_BYTES - TS11_STATE_UNUSED, 0),
 	       true);
 	size_t least = TS11_STATE_BYTES;
-	for (; least > 0; least--) {
-		uint8_t *byte = u.state.at + least - 1;
-		*byte ^= 1;
-		bool unused = read_register(&u, TS11_REGISTER_TSSR).answer == TS11_BAD_STATE;
-		*byte ^= 1;
-		if (!unused)
-			break;
-	}
+	while (least > 0 && (byte_refused(least - 1) || least - 1 - TS11_AT_OBJECTS < 4))
+		least--;
 	EXPECT("the least byte from which on all are unused", least, TS11_STATE_UNUSED);
 	set_number(&u, TS11_AT_VCK, 2);
 	EXPECT("a flag of 2", read_register(&u, TS11_REGISTER_TSSR).answer, TS11_BAD_STATE);
@@ -674,6 +712,84 @@ static void test_state_number(void)
 	ts11_state s = { { 0x11, 0x22, 0x33, 0x44, 0x85, 0x86, 0x87, 0x88 } };
 	EXPECT("the number at 0", ts11_state_number(&s, 0), 0x44332211);
 	EXPECT("the number at 4", ts11_state_number(&s, 4), 0x88878685);
+}
+
+/* ---- the table --------------------------------------------------------------------------------------------------- */
+
+static void test_place_numbers(void)
+{
+	static const uint8_t table[] = { 0x11, 0x22, 0x33, 0x44, 0x85, 0x86, 0x87, 0x88, 0x91, 0xA2, 0xB3, 0xC4, 5, 6, 7, 8 };
+	EXPECT("a first block", ts11_place_block(table, 0), 0x44332211);
+	EXPECT("the marks before it", ts11_place_marks(table, 0), 0x88878685);
+	EXPECT("the next first block", ts11_place_block(table, 1), 0xC4B3A291);
+	EXPECT("the marks before it", ts11_place_marks(table, 1), 0x08070605);
+}
+
+/* The tape's first blocks, and the marks before each object. */
+static const uint32_t tape_places[TAPE_OBJECTS][2] = { { 0, 0 }, { 1, 0 }, { 2, 1 }, { 3, 1 },
+	                                                   { 4, 1 }, { 5, 1 }, { 6, 2 }, { 7, 3 } };
+
+static void expect_place(size_t place, uint32_t block, uint32_t marks)
+{
+	EXPECT("first block", ts11_place_block(u.table.at, place), block);
+	EXPECT("marks before", ts11_place_marks(u.table.at, place), marks);
+}
+
+static void test_places(void)
+{
+	mounted();
+	for (size_t k = 0; k < TAPE_OBJECTS; k++) {
+		context("place %zu of a mounted tape", k);
+		expect_place(k, tape_places[k][0], tape_places[k][1]);
+	}
+	ready(0, 7);
+	context("a mark in place of the last record");
+	command(&u, TS11_WRITE_MARK | TS11_ACK, 0, 0);
+	EXPECT("objects", objects(&u), TAPE_OBJECTS);
+	expect_place(7, 7, 3);
+	context("a record behind it");
+	command(&u, TS11_WRITE | TS11_ACK, DATA, 5);
+	EXPECT("objects", objects(&u), TAPE_OBJECTS + 1);
+	expect_place(8, 8, 4);
+	context("a retry over it: a gap and a record");
+	struct ending e = command(&u, TS11_WRITE_RETRY | TS11_ACK, DATA, 5);
+	EXPECT("objects", objects(&u), TAPE_OBJECTS + 2);
+	expect_place(8, 8, 4);
+	expect_place(9, 9, 4);
+	EXPECT("entry", e.entry, TS11_ENTRY_HEAD + TS11_MESSAGE_BYTES + 2 * (TS11_BLOCK + TS11_PLACE_BYTES));
+	context("a step back");
+	EXPECT("its answer", step_back(&u).answer, TS11_DONE);
+	EXPECT("objects", objects(&u), TAPE_OBJECTS + 1);
+	context("");
+}
+
+/* What a look-up finds, or SIZE_MAX. */
+static void expect_look_up(const char *what, struct result r, size_t wanted)
+{
+	EXPECT(what, r.answer, TS11_DONE);
+	EXPECT(what, r.found ? r.place : SIZE_MAX, wanted);
+}
+
+static void test_look_ups(void)
+{
+	static const size_t files[] = { 0, 2, 6, 7, SIZE_MAX };
+	static const size_t blocks[TAPE_END + 2] = { 0, 1, 2, 3, 4, 5, 6, 7, 7, SIZE_MAX, SIZE_MAX };
+	mounted();
+	ROWS(k, files) {
+		context("file %zu", k);
+		expect_look_up("its place", find_file(&u, k), files[k]);
+	}
+	ROWS(k, blocks) {
+		context("block %zu", k);
+		expect_look_up("its place", find_block(&u, k), blocks[k]);
+	}
+	context("");
+	struct unit table = handed(0, 0, 0, 1);
+	EXPECT("a file in a small table", find_file(&table, 0).answer, TS11_SMALL_TABLE);
+	EXPECT("a block in a small table", find_block(&table, 0).answer, TS11_SMALL_TABLE);
+	set_number(&u, TS11_AT_CLASS, 7);
+	EXPECT("a file by a state that none is", find_file(&u, 0).answer, TS11_BAD_STATE);
+	EXPECT("a block by it", find_block(&table, 0).answer, TS11_BAD_STATE);
 }
 
 /* ---- registers --------------------------------------------------------------------------------------------------- */
@@ -938,7 +1054,7 @@ static void expect_effect(const struct effect *got, const struct effect *wanted)
 enum { R = TS11_KIND_RECORD, M = TS11_KIND_MARK, G = TS11_KIND_GAP };
 enum { STILL = XST0_READY, MOVED = STILL | TS11_XST0_MOT, MARKED = MOVED | TS11_XST0_TMK };
 enum { RLS = TS11_XST0_RLS, BOT = TS11_XST0_BOT, ONL = TS11_XST0_ONL, REV = TS11_XST3_REV };
-enum { HEAD = TS11_ENTRY_HEAD, SENT = HEAD + TS11_MESSAGE_BYTES };
+enum { HEAD = TS11_ENTRY_HEAD, SENT = HEAD + TS11_MESSAGE_BYTES, LAID = 512 + 8 };
 
 /* From block 3, with the record "ABCDEFG" behind and "abcdefghi" ahead. */
 static const struct {
@@ -952,16 +1068,16 @@ static const struct {
 	{ "previous", TS11_READ_PREVIOUS, DATA, 9, { 2, 9, 1, 0, 2, 1, 2, MOVED | RLS, REV, SENT + 7, R, R, "..ABCDEFG" } },
 	{ "reread", TS11_REREAD_PREVIOUS, DATA, 9, { 3, 9, 1, 0, 2, 1, 2, STILL | RLS, 0, SENT + 7, R, R, "ABCDEFG.." } },
 	{ "reread next", TS11_REREAD_NEXT, DATA, 9, { 3, 9, 1, 0, 0, 1, 0, STILL, REV, SENT + 9, R, R, "abcdefghi" } },
-	{ "write", TS11_WRITE, DATA, 5, { 4, 4, 1, 0, 0, 1, 0, MOVED, 0, SENT + 512, R, R, UNTOUCHED } },
-	{ "write retry", TS11_WRITE_RETRY, DATA, 5, { 4, 4, 1, 0, 0, 1, 0, MOVED, 0, SENT + 1024, G, R, UNTOUCHED } },
+	{ "write", TS11_WRITE, DATA, 5, { 4, 4, 1, 0, 0, 1, 0, MOVED, 0, SENT + LAID, R, R, UNTOUCHED } },
+	{ "write retry", TS11_WRITE_RETRY, DATA, 5, { 4, 4, 1, 0, 0, 1, 0, MOVED, 0, SENT + 2 * LAID, G, R, UNTOUCHED } },
 	{ "space", TS11_SPACE_RECORDS, 1, 0, { 4, 9, 1, 0, 0, 1, 0, MOVED, 0, SENT, R, R, UNTOUCHED } },
 	{ "space reverse", TS11_SPACE_RECORDS_REVERSE, 1, 0, { 2, 9, 1, 0, 0, 1, 0, MOVED, REV, SENT, R, R, UNTOUCHED } },
 	{ "skip", TS11_SKIP_MARKS, 1, 0, { 6, 9, 1, 0, 0, 1, 0, MARKED, 0, SENT, R, R, UNTOUCHED } },
 	{ "skip reverse", TS11_SKIP_MARKS_REVERSE, 1, 0, { 1, 9, 1, 0, 0, 1, 0, MARKED, REV, SENT, R, R, UNTOUCHED } },
 	{ "rewind", TS11_REWIND, 1, 0, { 0, 9, 1, 0, 0, 1, 0, MOVED | BOT, 0, SENT, R, R, UNTOUCHED } },
-	{ "mark", TS11_WRITE_MARK, 0, 0, { 4, 4, 1, 0, 0, 1, 0, MARKED, 0, SENT + 512, R, M, UNTOUCHED } },
-	{ "erase", TS11_ERASE, 0, 0, { 4, 4, 1, 0, 0, 1, 0, MOVED, 0, SENT + 512, R, G, UNTOUCHED } },
-	{ "mark retry", TS11_WRITE_MARK_RETRY, 0, 0, { 4, 4, 1, 0, 0, 1, 0, MARKED, 0, SENT + 1024, G, M, UNTOUCHED } },
+	{ "mark", TS11_WRITE_MARK, 0, 0, { 4, 4, 1, 0, 0, 1, 0, MARKED, 0, SENT + LAID, R, M, UNTOUCHED } },
+	{ "erase", TS11_ERASE, 0, 0, { 4, 4, 1, 0, 0, 1, 0, MOVED, 0, SENT + LAID, R, G, UNTOUCHED } },
+	{ "mark retry", TS11_WRITE_MARK_RETRY, 0, 0, { 4, 4, 1, 0, 0, 1, 0, MARKED, 0, SENT + 2 * LAID, G, M, UNTOUCHED } },
 	{ "release", TS11_RELEASE, 0, 0, { 3, 9, 1, 1, 0, 0, 0, 0, 0, HEAD, R, R, UNTOUCHED } },
 	{ "unload", TS11_UNLOAD, 0, 0, { 0, 9, 0, 0, 0, 1, 0, (MOVED | BOT) & ~ONL, 0, SENT, R, R, UNTOUCHED } },
 	{ "clean", TS11_CLEAN, 0, 0, { 3, 9, 1, 0, 0, 1, 0, STILL, 0, SENT, R, R, UNTOUCHED } },
@@ -1277,6 +1393,7 @@ static void test_all(void)
 	test_record_limits();
 	test_host_store_limit();
 	test_entry_and_message_sizes();
+	test_place_size();
 	test_packet_size();
 	test_eot_margin();
 	test_answers_to_lengths();
@@ -1291,6 +1408,9 @@ static void test_all(void)
 	test_made_up();
 	test_state_bytes();
 	test_state_number();
+	test_place_numbers();
+	test_places();
+	test_look_ups();
 	test_tsdb();
 	test_tssr_driven();
 	test_tssr_measured();

@@ -1,7 +1,7 @@
 /*
- * limits: lengths and numbers at every limit and just outside it, blocks with every fault, and one session with memory,
- * reel and journal of full size. Every buffer is an allocation of exactly its length. A refused call must have changed
- * nothing.
+ * limits: lengths and numbers at every limit and just outside it, blocks with every fault, tables of every small length
+ * and of any bytes, a reel of as many objects as it can have, and one session with memory, reel and journal of full
+ * size. Every buffer is an allocation of exactly its length. A refused call must have changed nothing.
  * Compile with -I host/include and link with libts11.a.
  */
 #include "driver.h"
@@ -43,7 +43,7 @@ static void expect_mount(const struct lengths *l, size_t gaps, ts11_answer wante
 {
 	context("mount: memory %zu, reel %zu, journal %zu, recorded end %zu", l->memory, l->reel, l->journal,
 	        l->recorded_end);
-	struct unit u = make_unit(0, l->reel, 0, 0);
+	struct unit u = make_unit_with(0, l->reel, gaps * TS11_PLACE_BYTES, 0, 0);
 	struct copy state = { 0 }, reel = { 0 };
 	size_t block = 1;
 	uint8_t fault = 1;
@@ -52,16 +52,19 @@ static void expect_mount(const struct lengths *l, size_t gaps, ts11_answer wante
 	take_copy(&state, u.state.at, u.state.length);
 	take_copy(&reel, u.reel.at, u.reel.length);
 	EXPECT("answer",
-	       ts11_mount(state_of(&u), l->memory, u.reel.at, l->reel, l->journal, l->recorded_end, true, false, &block,
-	                  &fault),
+	       ts11_mount(state_of(&u), l->memory, u.reel.at, l->reel, u.table.at, u.table.length, l->journal,
+	                  l->recorded_end, true, false, &block, &fault),
 	       wanted);
 	EXPECT("*block", block, 0);
 	EXPECT("*fault", fault, wanted == TS11_BAD_BLOCK ? TS11_FAULT_KIND : 0);
 	EXPECT_BYTES("the reel", u.reel.at, reel.bytes, reel.length);
-	if (wanted == TS11_DONE)
+	if (wanted == TS11_DONE) {
 		expect_mounted(state_of(&u), l);
-	else
+		expect_afresh(&u);
+	} else {
 		EXPECT_BYTES("refused: the state", u.state.at, state.bytes, state.length);
+		EXPECT("refused: the table", all_are(u.table.at, u.table.length, 0), true);
+	}
 	free(state.bytes);
 	free(reel.bytes);
 	free_unit(&u);
@@ -174,9 +177,9 @@ static void test_mount_order(void)
 
 /* ---- lengths other than the mount's ------------------------------------------------------------------------------ */
 
-enum { SMALL_MEMORY = 64, SMALL_REEL = 3 * TS11_BLOCK, SMALL_JOURNAL = 1024 };
+enum { SMALL_MEMORY = 64, SMALL_REEL = 3 * TS11_BLOCK, SMALL_PLACES = 3, SMALL_JOURNAL = 1024 };
 
-/* The seven calls that a mounted unit takes, each answered 0 when all is right. */
+/* The calls that a mounted unit takes, each answered 0 when all is right; the advance is an idle one. */
 static const struct call calls[] = {
 	{ .kind = WRITE_TSDB, .word = 8 },
 	{ .kind = WRITE_TSSR, .word = 1 },
@@ -185,8 +188,16 @@ static const struct call calls[] = {
 	{ .kind = ADVANCE },
 	{ .kind = STEP_BACK },
 	{ .kind = READ_REGISTER, .which = TS11_REGISTER_TSSR },
+	{ .kind = FIND_FILE, .sought = 0 },
+	{ .kind = FIND_BLOCK, .sought = 0 },
 };
-enum { BUFFERED = COUNT(calls) - 1 }; /* all but the last are handed memory, reel and journal */
+enum { BUFFERED = COUNT(calls) - 3 }; /* all but the last are handed memory, reel and journal */
+
+/* An idle advance and a register read don't ask how many places the table has. */
+static bool asks_table(const struct call *c)
+{
+	return c->kind != ADVANCE && c->kind != READ_REGISTER;
+}
 
 /* A small unit with one entry in its journal. */
 static struct unit small_unit(void)
@@ -205,50 +216,68 @@ static struct buffer exact(const struct buffer *b, long more)
 	return other;
 }
 
+/* What is wrong with a call: the state, and by how much the buffers' lengths differ from the mount's. */
+struct differing {
+	bool state;
+	long memory, reel, journal, table;
+};
+
 /* The call is handed buffers whose lengths differ by so much, each allocated anew. */
-static ts11_answer answer_with(const struct call *c, bool bad_state, long memory, long reel, long journal)
+static ts11_answer answer_with(const struct call *c, const struct differing *d)
 {
 	struct unit u = small_unit();
-	if (bad_state)
+	if (d->state)
 		set_number(&u, TS11_AT_CLASS, 7);
-	struct unit v = { exact(&u.state, 0), exact(&u.memory, memory), exact(&u.reel, reel), exact(&u.journal, journal) };
+	struct unit v = { exact(&u.state, 0), exact(&u.memory, d->memory), exact(&u.reel, d->reel),
+		              exact(&u.table, d->table), exact(&u.journal, d->journal) };
 	ts11_answer answer = checked(&v, c).answer;
 	free_unit(&u);
 	free_unit(&v);
 	return answer;
 }
 
-static ts11_answer least_refusal(bool bad_state, long memory, long reel, long journal)
+/* A longer table is as good. */
+static ts11_answer least_refusal(const struct call *c, const struct differing *d)
 {
-	if (bad_state)
+	if (d->state)
 		return TS11_BAD_STATE;
-	if (memory)
+	if (d->memory)
 		return TS11_BAD_MEMORY;
-	if (reel)
+	if (d->reel)
 		return TS11_BAD_REEL;
-	return journal ? TS11_BAD_JOURNAL : TS11_DONE;
+	if (d->journal)
+		return TS11_BAD_JOURNAL;
+	return d->table < 0 && asks_table(c) ? TS11_SMALL_TABLE : TS11_DONE;
 }
 
-static void expect_answer_with(const struct call *c, bool bad_state, long memory, long reel, long journal)
+static void expect_answer_with(const struct call *c, struct differing d)
 {
-	context("call %d: state %s, memory %+ld, reel %+ld, journal %+ld", (int)c->kind, bad_state ? "wrong" : "right",
-	        memory, reel, journal);
-	EXPECT("answer", answer_with(c, bad_state, memory, reel, journal), least_refusal(bad_state, memory, reel, journal));
+	context("call %d: state %s, memory %+ld, reel %+ld, journal %+ld, table %+ld", (int)c->kind,
+	        d.state ? "wrong" : "right", d.memory, d.reel, d.journal, d.table);
+	EXPECT("answer", answer_with(c, &d), least_refusal(c, &d));
 }
 
 /* 1 before 2 before 3 before 4, whatever else is wrong. */
 static void test_other_lengths(void)
 {
 	static const long memories[] = { 0, -1, 1, -2, 2 }, reels[] = { 0, -1, 1, -TS11_BLOCK, TS11_BLOCK },
-					  journals[] = { 0, -1, 1 };
+					  journals[] = { 0, -1, 1 }, tables[] = { 0, -1, 1, -8, 8 };
 	for (size_t c = 0; c < BUFFERED; c++)
 		ROWS(m, memories)
 			ROWS(r, reels)
-				ROWS(j, journals) {
-					expect_answer_with(&calls[c], false, memories[m], reels[r], journals[j]);
-					if (m < 2 && r < 2 && j < 2)
-						expect_answer_with(&calls[c], true, memories[m], reels[r], journals[j]);
-				}
+				ROWS(j, journals)
+					ROWS(t, tables) {
+						struct differing d = { false, memories[m], reels[r], journals[j], tables[t] };
+						expect_answer_with(&calls[c], d);
+						d.state = true;
+						if (m < 2 && r < 2 && j < 2 && t < 2)
+							expect_answer_with(&calls[c], d);
+					}
+	for (size_t c = BUFFERED; c < COUNT(calls); c++)
+		ROWS(t, tables) {
+			expect_answer_with(&calls[c], (struct differing){ .table = tables[t] });
+			expect_answer_with(&calls[c], (struct differing){ .state = true, .table = tables[t] });
+		}
 	context("");
 }
 
@@ -286,7 +315,13 @@ static const struct {
 	{ "used beyond", TS11_AT_USED, SMALL_JOURNAL + 1, TS11_BAD_STATE },
 	{ "RMR of 2", TS11_AT_RMR, 2, TS11_BAD_STATE },
 	{ "on line of 256", TS11_AT_ONLINE, 256, TS11_BAD_STATE },
+	{ "no objects", TS11_AT_OBJECTS, 0, TS11_DONE },
+	{ "objects past the recorded end", TS11_AT_OBJECTS, SMALL_PLACES, TS11_DONE },
+	{ "objects past the table", TS11_AT_OBJECTS, SMALL_PLACES + 1, TS11_SMALL_TABLE },
+	{ "huge objects", TS11_AT_OBJECTS, UINT32_MAX, TS11_SMALL_TABLE },
 	{ "first unused number", TS11_STATE_UNUSED, 1, TS11_BAD_STATE },
+	{ "unused number before the objects", TS11_AT_OBJECTS - 4, 0x80000000, TS11_BAD_STATE },
+	{ "unused number behind the objects", TS11_AT_OBJECTS + 4, 1, TS11_BAD_STATE },
 	{ "last unused byte", TS11_STATE_BYTES - 4, 0x80000000, TS11_BAD_STATE },
 };
 
@@ -297,7 +332,8 @@ static void test_made_up_states(void)
 			context("made up: %s, call %d", made_up[k].name, (int)calls[c].kind);
 			struct unit u = small_unit();
 			set_number(&u, made_up[k].at, made_up[k].value);
-			EXPECT("answer", checked(&u, &calls[c]).answer, made_up[k].answer);
+			bool asked = made_up[k].answer != TS11_SMALL_TABLE || asks_table(&calls[c]);
+			EXPECT("answer", checked(&u, &calls[c]).answer, asked ? made_up[k].answer : TS11_DONE);
 			free_unit(&u);
 		}
 	context("");
@@ -417,17 +453,17 @@ static void test_no_entries(void)
 	context("");
 }
 
-/* Steps back over an entry with one byte damaged: 0 with a state that 1 accepts, or 8. Gives whether it was 8. */
+/* Steps back over an entry with one byte damaged: 0 with a state that 1 accepts, 8, or for the objects 11. */
 static bool damaged_refused(struct unit *u, size_t at, uint8_t damage)
 {
 	u->journal.at[at] ^= damage;
 	ts11_answer answer = step_back(u).answer;
-	EXPECT("0 or 8", answer == TS11_DONE || answer == TS11_BAD_ENTRY, true);
+	EXPECT("0, 8 or 11", answer == TS11_DONE || answer == TS11_BAD_ENTRY || answer == TS11_SMALL_TABLE, true);
 	EXPECT("the state then", read_register(u, TS11_REGISTER_TSSR).answer, TS11_DONE);
-	return answer == TS11_BAD_ENTRY;
+	return answer != TS11_DONE;
 }
 
-/* An entry with memory and reel bytes, each of its bytes damaged in turn; guards stand around all buffers. */
+/* An entry with memory, reel and table bytes, each of its bytes damaged in turn; guards stand around all buffers. */
 static void test_damaged_entry(void)
 {
 	struct unit u = make_unit(SMALL_JOURNAL, SMALL_REEL, 4 * SMALL_JOURNAL, GUARD);
@@ -436,7 +472,7 @@ static void test_damaged_entry(void)
 	EXPECT("the mount", mount(&u, 0, true, false).answer, TS11_DONE);
 	characteristics(&u, TS11_CVC, MESSAGE, TS11_MESSAGE_BYTES, 0);
 	size_t entry = command(&u, TS11_ERASE | TS11_ACK, 0, 0).entry;
-	EXPECT("the entry", entry, TS11_ENTRY_HEAD + TS11_MESSAGE_BYTES + TS11_BLOCK);
+	EXPECT("the entry", entry, TS11_ENTRY_HEAD + TS11_MESSAGE_BYTES + TS11_BLOCK + TS11_PLACE_BYTES);
 	take_picture(&whole, &u);
 	for (size_t k = 0; k < 2 * entry; k++) {
 		context("byte %zu of an entry damaged", k / 2);
@@ -457,14 +493,19 @@ static void test_empty_buffers(void)
 	struct unit u = make_unit(2, TS11_BLOCK, SMALL_JOURNAL, 0);
 	EXPECT("the mount", mount(&u, 0, true, false).answer, TS11_DONE);
 	EXPECT("a store of no bytes", host_store(&u, 2, nowhere, 0).answer, TS11_DONE);
-	struct unit no_journal = { u.state, u.memory, u.reel, { nowhere, 0, 0 } };
+	struct buffer none = { nowhere, 0, 0 };
+	struct unit no_journal = { u.state, u.memory, u.reel, u.table, none };
 	EXPECT("a mount without a journal", mount(&no_journal, 0, true, false).answer, TS11_DONE);
 	EXPECT("a step", write_tsdb(&no_journal, 0).answer, TS11_JOURNAL_FULL);
 	EXPECT("a step back", step_back(&no_journal).answer, TS11_NO_ENTRY);
 	EXPECT("an idle advance", advance(&no_journal).answer, TS11_DONE);
-	struct unit no_memory = { u.state, { nowhere, 0, 0 }, u.reel, { nowhere, 0, 0 } };
+	struct unit no_table = { u.state, u.memory, u.reel, none, none };
+	EXPECT("a mount without a table", mount(&no_table, 0, true, false).answer, TS11_DONE);
+	EXPECT("a file without a table", find_file(&no_table, 0).found, false);
+	EXPECT("a step back without a table", step_back(&no_table).answer, TS11_NO_ENTRY);
+	struct unit no_memory = { u.state, none, u.reel, u.table, none };
 	EXPECT("without memory", write_tsdb(&no_memory, 0).answer, TS11_BAD_MEMORY);
-	struct unit no_reel = { u.state, u.memory, { nowhere, 0, 0 }, { nowhere, 0, 0 } };
+	struct unit no_reel = { u.state, u.memory, none, u.table, none };
 	EXPECT("without a reel", write_tsdb(&no_reel, 0).answer, TS11_BAD_REEL);
 	EXPECT("a mount without a reel", mount(&no_reel, 0, true, false).answer, TS11_BAD_REEL);
 	free_unit(&u);
@@ -911,6 +952,321 @@ static void test_blocks_at_fault(void)
 	free_harmed();
 }
 
+/* ---- the table --------------------------------------------------------------------------------------------------- */
+
+/* R 0 1100, M 3, G 4, M 5, M 6, R 7 2; the marks that stand before each object are 0 0 1 1 2 3. */
+enum { INDEXED_BLOCKS = 20, INDEXED_END = 8, INDEXED_OBJECTS = 6, LAST_OBJECT = 7 };
+
+static struct unit indexed_unit(size_t table)
+{
+	struct unit u = make_unit_with(4 * SMALL_JOURNAL, INDEXED_BLOCKS * TS11_BLOCK, table, 4 * SMALL_JOURNAL, 0);
+	uint8_t *reel = u.reel.at;
+	size_t at = lay_mark(reel, lay_record(reel, 0, host, LONG));
+	at = lay_mark(reel, lay_mark(reel, lay_gap(reel, at)));
+	EXPECT("the tape's end", lay_record(reel, at, host, 2), INDEXED_END);
+	make_bytes(u.table.at, u.table.length, 5);
+	return u;
+}
+
+/* Mounts ever longer parts of the tape with tables of every length. */
+static void test_table_lengths(void)
+{
+	static const size_t ends[] = { 0, 3, 4, 5, 6, 7, 8 };
+	ROWS(n, ends)
+		for (size_t length = 0; length < (n + 2) * TS11_PLACE_BYTES; length++) {
+			struct unit u = indexed_unit(length);
+			context("%zu objects, a table of %zu bytes", n, length);
+			EXPECT("the mount", mount(&u, ends[n], true, false).answer,
+			       length < n * TS11_PLACE_BYTES ? TS11_SMALL_TABLE : TS11_DONE);
+			if (length >= n * TS11_PLACE_BYTES)
+				EXPECT("objects", objects(&u), n);
+			free_unit(&u);
+		}
+	context("");
+}
+
+/* A mounted unit with a message buffer, at a block. */
+static struct unit indexed_at(uint32_t position)
+{
+	struct unit u = indexed_unit(INDEXED_BLOCKS * TS11_PLACE_BYTES);
+	EXPECT("the mount", mount(&u, INDEXED_END, true, false).answer, TS11_DONE);
+	characteristics(&u, TS11_CVC, MESSAGE, TS11_MESSAGE_BYTES, 0);
+	set_number(&u, TS11_AT_POSITION, position);
+	return u;
+}
+
+/* The same unit with a table of so many bytes, which begins like its own and is allocated anew. */
+static struct unit with_table(const struct unit *u, size_t length)
+{
+	struct unit v = *u;
+	v.table = exact(&u->table, (long)length - (long)u->table.length);
+	return v;
+}
+
+/* Commands from each bound: how many objects they leave, and so the least table beside that of the objects before. */
+static void test_table_room(void)
+{
+	static const struct {
+		const char *name;
+		uint32_t position;
+		uint16_t header;
+		size_t leaves;
+	} rows[] = {
+		{ "a record behind all", INDEXED_END, TS11_WRITE, INDEXED_OBJECTS + 1 },
+		{ "a mark behind all", INDEXED_END, TS11_WRITE_MARK, INDEXED_OBJECTS + 1 },
+		{ "a gap behind all", INDEXED_END, TS11_ERASE, INDEXED_OBJECTS + 1 },
+		{ "a retry over the last record", INDEXED_END, TS11_WRITE_RETRY, INDEXED_OBJECTS + 1 },
+		{ "a mark retry over it", INDEXED_END, TS11_WRITE_MARK_RETRY, INDEXED_OBJECTS + 1 },
+		{ "a record over the last one", LAST_OBJECT, TS11_WRITE, INDEXED_OBJECTS },
+		{ "a retry over the last mark", LAST_OBJECT, TS11_WRITE_RETRY, INDEXED_OBJECTS },
+		{ "a mark over the second mark", 5, TS11_WRITE_MARK, 4 },
+		{ "a retry over a mark and a gap", 5, TS11_WRITE_RETRY, 3 },
+		{ "a gap at block 0", 0, TS11_ERASE, 1 },
+		{ "a read", 0, TS11_READ_NEXT, INDEXED_OBJECTS },
+		{ "a space", INDEXED_END, TS11_SPACE_RECORDS_REVERSE, INDEXED_OBJECTS },
+	};
+	ROWS(k, rows) {
+		size_t least = rows[k].leaves < INDEXED_OBJECTS ? INDEXED_OBJECTS : rows[k].leaves;
+		struct unit u = indexed_at(rows[k].position);
+		context("%s", rows[k].name);
+		put_packet(&u, rows[k].header | TS11_ACK, rows[k].header == TS11_SPACE_RECORDS_REVERSE ? 1 : DATA, 9);
+		write_tsdb(&u, TS11_TSDB(PACKET));
+		for (size_t length = 0; length <= (least + 1) * TS11_PLACE_BYTES; length++) {
+			struct unit v = with_table(&u, length);
+			struct picture before = { 0 };
+			ts11_answer wanted = length < least * TS11_PLACE_BYTES ? TS11_SMALL_TABLE : TS11_DONE;
+			take_picture(&before, &v);
+			EXPECT("the advance", advance(&v).answer, wanted);
+			EXPECT("objects", objects(&v), wanted == TS11_DONE ? rows[k].leaves : INDEXED_OBJECTS);
+			if (wanted == TS11_DONE)
+				expect_afresh(&v);
+			put_back(&v, &before);
+			free_picture(&before);
+			free_buffer(&v.table);
+		}
+		free_unit(&u);
+	}
+	context("");
+}
+
+/* 11 comes after 5, 6, 7 and 8 and before 9; step back asks it of both counts. */
+static void test_table_order(void)
+{
+	struct unit u = indexed_at(0), small = with_table(&u, INDEXED_OBJECTS * TS11_PLACE_BYTES - 1);
+	EXPECT("a store past memory", host_store(&small, u.memory.length, host, 1).answer, TS11_BAD_STORE);
+	EXPECT("a store", host_store(&small, 0, host, 1).answer, TS11_SMALL_TABLE);
+	EXPECT("a step back", step_back(&small).answer, TS11_SMALL_TABLE);
+	EXPECT("an idle advance", advance(&small).answer, TS11_DONE);
+	EXPECT("a register", read_register(&small, TS11_REGISTER_TSSR).answer, TS11_DONE);
+	uint32_t used_now = (uint32_t)used(&u);
+	set_number(&u, TS11_AT_USED, 0);
+	EXPECT("a step back with no entry", step_back(&small).answer, TS11_NO_ENTRY);
+	set_number(&u, TS11_AT_USED, used_now - 1);
+	EXPECT("a step back with no whole entry", step_back(&small).answer, TS11_BAD_ENTRY);
+	set_number(&u, TS11_AT_USED, (uint32_t)u.journal.length);
+	EXPECT("a TSDB write without room", write_tsdb(&u, 0).answer, TS11_JOURNAL_FULL);
+	EXPECT("and with a small table", write_tsdb(&small, 0).answer, TS11_SMALL_TABLE);
+	set_number(&u, TS11_AT_USED, used_now);
+	put_packet(&u, TS11_WRITE_MARK_RETRY | TS11_ACK, 0, 0);
+	write_tsdb(&u, TS11_TSDB(PACKET));
+	set_number(&u, TS11_AT_POSITION, INDEXED_END);
+	u.reel.at[LAST_OBJECT * TS11_BLOCK + TS11_BLOCK_BYTES] ^= 1;
+	EXPECT("a damaged block", advance(&small).answer, TS11_BAD_BLOCK);
+	EXPECT("a mount of it", mount(&small, INDEXED_END, true, false).answer, TS11_BAD_BLOCK);
+	u.reel.at[LAST_OBJECT * TS11_BLOCK + TS11_BLOCK_BYTES] ^= 1;
+	EXPECT("a sound one", advance(&small).answer, TS11_SMALL_TABLE);
+	set_number(&u, TS11_AT_USED, (uint32_t)u.journal.length);
+	EXPECT("a sound one without room", advance(&u).answer, TS11_JOURNAL_FULL);
+	EXPECT("and with a small table", advance(&small).answer, TS11_SMALL_TABLE);
+	EXPECT("a store without room, with a small table", host_store(&small, 0, host, 1).answer, TS11_SMALL_TABLE);
+	free_buffer(&small.table);
+	free_unit(&u);
+}
+
+/* A mark at block 0 leaves one object; its step back wants room for those that it brings back. */
+static void test_table_mended(void)
+{
+	struct unit u = indexed_at(0);
+	command(&u, TS11_WRITE_MARK | TS11_ACK, 0, 0);
+	EXPECT("objects", objects(&u), 1);
+	for (size_t length = 0; length <= (INDEXED_OBJECTS + 1) * TS11_PLACE_BYTES; length++) {
+		struct unit v = with_table(&u, length);
+		struct picture before = { 0 };
+		bool enough = length >= INDEXED_OBJECTS * TS11_PLACE_BYTES;
+		context("a table of %zu bytes", length);
+		take_picture(&before, &v);
+		EXPECT("step back", step_back(&v).answer, enough ? TS11_DONE : TS11_SMALL_TABLE);
+		if (enough)
+			expect_afresh(&v);
+		put_back(&v, &before);
+		free_picture(&before);
+		free_buffer(&v.table);
+	}
+	context("");
+	set_number(&u, TS11_AT_OBJECTS, 0);
+	EXPECT("an entry with more places than objects", step_back(&u).answer, TS11_BAD_ENTRY);
+	free_unit(&u);
+}
+
+/* ---- tables of any bytes ----------------------------------------------------------------------------------------- */
+
+/* What may stand in a place here; every list of them up to a length is tried. */
+static const uint32_t alphabet[] = { 0, 1, 2, 3, UINT32_MAX };
+enum { LETTERS = COUNT(alphabet), MADE_UP_PLACES = 4 };
+
+static void put_number(uint8_t *at, uint32_t value)
+{
+	for (int i = 0; i < 4; i++)
+		at[i] = (uint8_t)(value >> 8 * i);
+}
+
+/* The nth list of letters, as first blocks or as marks. */
+static void make_up_places(uint8_t *table, size_t count, size_t nth, size_t number_at)
+{
+	for (size_t i = 0; i < count; i++, nth /= LETTERS)
+		put_number(table + i * TS11_PLACE_BYTES + number_at, alphabet[nth % LETTERS]);
+}
+
+static size_t lists_of(size_t count)
+{
+	size_t lists = 1;
+	while (count-- > 0)
+		lists *= LETTERS;
+	return lists;
+}
+
+/* The rule of the search as it is told: look at the place in the middle, and go on in one half. */
+static size_t halved(const uint8_t *table, uint32_t (*number_of)(const uint8_t *, size_t), size_t bound, size_t from,
+                     size_t count)
+{
+	size_t half = count / 2;
+	if (count == 0)
+		return from;
+	if (number_of(table, from + half) < bound)
+		return halved(table, number_of, bound, from + half + 1, count - half - 1);
+	return halved(table, number_of, bound, from, half);
+}
+
+/* .. and where the numbers never fall: the first that is no less. */
+static size_t first_from(const uint8_t *table, uint32_t (*number_of)(const uint8_t *, size_t), size_t bound,
+                         size_t count)
+{
+	size_t at = 0;
+	while (at < count && number_of(table, at) < bound)
+		at++;
+	return at;
+}
+
+static bool never_falls(const uint8_t *table, uint32_t (*number_of)(const uint8_t *, size_t), size_t count)
+{
+	for (size_t i = 1; i < count; i++)
+		if (number_of(table, i) < number_of(table, i - 1))
+			return false;
+	return true;
+}
+
+/* The last place is looked at before all others. */
+static size_t searched(const uint8_t *table, uint32_t (*number_of)(const uint8_t *, size_t), size_t bound, size_t count)
+{
+	bool all = count > 0 && number_of(table, count - 1) < bound;
+	size_t at = all ? count : halved(table, number_of, bound, 0, count);
+	if (never_falls(table, number_of, count))
+		EXPECT("the search where numbers never fall", at, first_from(table, number_of, bound, count));
+	return at;
+}
+
+static void expect_place_found(struct result r, size_t at, size_t count)
+{
+	EXPECT("answer", r.answer, TS11_DONE);
+	EXPECT("*found", r.found, at < count);
+	EXPECT("*place", r.place, at < count ? at : 0);
+}
+
+/* Both look-ups over one table; u's recorded end is 3. */
+static void expect_look_ups_in(struct unit *u, size_t count)
+{
+	static const size_t sought[] = { 0, 1, 2, 3, 4, UINT32_MAX, TWO_32, SIZE_MAX };
+	ROWS(k, sought) {
+		size_t file = searched(u->table.at, ts11_place_marks, sought[k], count);
+		expect_place_found(find_file(u, sought[k]), file, count);
+		size_t behind = sought[k] < 3 ? searched(u->table.at, ts11_place_block, sought[k] + 1, count) : 0;
+		expect_place_found(find_block(u, sought[k]), behind - 1, count);
+	}
+}
+
+/* As many objects as the table has places, or one more. */
+static void test_look_ups_in_any_table(void)
+{
+	make = perform;
+	for (size_t count = 0; count <= MADE_UP_PLACES; count++)
+		for (size_t nth = 0; nth < lists_of(count); nth++) {
+			struct unit u = make_unit_with(SMALL_MEMORY, SMALL_REEL, count * TS11_PLACE_BYTES, 0, 0);
+			lay_gaps(u.reel.at, 3);
+			context("%zu places, list %zu", count, nth);
+			EXPECT("the mount", mount(&u, 0, true, false).answer, TS11_DONE);
+			set_number(&u, TS11_AT_END, 3);
+			set_number(&u, TS11_AT_OBJECTS, (uint32_t)count);
+			make_up_places(u.table.at, count, nth, 0);
+			make_up_places(u.table.at, count, lists_of(count) - 1 - nth, 4);
+			expect_look_ups_in(&u, count);
+			set_number(&u, TS11_AT_OBJECTS, (uint32_t)count + 1);
+			EXPECT("a file, an object too many", find_file(&u, 0).answer, TS11_SMALL_TABLE);
+			EXPECT("a block, an object too many", find_block(&u, 0).answer, TS11_SMALL_TABLE);
+			free_unit(&u);
+		}
+	make = checked;
+	context("");
+}
+
+/* What a write at a block must leave of a table: the places before the cut, and one or two more. */
+static size_t expect_cut(uint8_t *wanted, const struct unit *u, size_t count, uint32_t block, size_t filled)
+{
+	size_t at = searched(wanted, ts11_place_block, block, count);
+	uint32_t marks = 0;
+	if (at > 0) {
+		const uint8_t *before = u->reel.at + (size_t)ts11_place_block(wanted, at - 1) * TS11_BLOCK;
+		marks = ts11_place_marks(wanted, at - 1) + (word_at(before + TS11_BLOCK_KIND) == TS11_KIND_MARK);
+	}
+	for (size_t i = 0; i < filled; i++) {
+		put_number(wanted + (at + i) * TS11_PLACE_BYTES, block + (uint32_t)i);
+		put_number(wanted + (at + i) * TS11_PLACE_BYTES + 4, marks);
+	}
+	return at + filled;
+}
+
+/* Writes over tables of any bytes, at each block of a tape: G 0, M 1, G 2, M 3; a retry meets one of the marks. */
+static void test_writes_over_any_table(void)
+{
+	enum { ROOM = MADE_UP_PLACES + 2 };
+	struct unit u = make_unit_with(SMALL_JOURNAL, 8 * TS11_BLOCK, ROOM * TS11_PLACE_BYTES + 3, 4 * SMALL_JOURNAL, 0);
+	struct picture start = { 0 };
+	uint8_t wanted[ROOM * TS11_PLACE_BYTES + 3];
+	lay_mark(u.reel.at, lay_gap(u.reel.at, lay_mark(u.reel.at, lay_gap(u.reel.at, 0))));
+	EXPECT("the mount", mount(&u, 4, true, false).answer, TS11_DONE);
+	characteristics(&u, TS11_CVC, MESSAGE, TS11_MESSAGE_BYTES, 0);
+	take_picture(&start, &u);
+	for (size_t count = 0; count <= MADE_UP_PLACES; count++)
+		for (size_t nth = 0; nth < lists_of(count); nth++)
+			for (uint32_t position = 0; position <= 4; position++) {
+				bool retry = position >= 2 && nth % 2;
+				put_back(&u, &start);
+				make_up_places(u.table.at, count, nth, 0);
+				make_up_places(u.table.at, count, (nth * 7 + 3) % lists_of(count), 4);
+				set_number(&u, TS11_AT_OBJECTS, (uint32_t)count);
+				set_number(&u, TS11_AT_POSITION, position);
+				memcpy(wanted, u.table.at, sizeof wanted);
+				context("%zu places, list %zu, %s at block %u", count, nth, retry ? "a retry" : "a mark", position);
+				size_t left = expect_cut(wanted, &u, count, retry ? (position < 4 ? 1 : 3) : position, retry ? 2 : 1);
+				struct ending e = command(&u, (retry ? TS11_WRITE_MARK_RETRY : TS11_WRITE_MARK) | TS11_ACK, 0, 0);
+				EXPECT("answer", e.answer, TS11_DONE);
+				EXPECT("objects", objects(&u), left);
+				EXPECT_BYTES("the table", u.table.at, wanted, sizeof wanted);
+			}
+	free_picture(&start);
+	free_unit(&u);
+	context("");
+}
+
 /* ---- records and small reels ------------------------------------------------------------------------------------- */
 
 /* A data buffer's bytes in their order: with SWB byte i lies at its address with the lowest bit flipped. */
@@ -950,12 +1306,17 @@ static void expect_read_back(struct unit *u, const uint8_t *bytes, size_t length
 
 /* A copy of what a step changes, to hold the buffers to after as many steps back. */
 struct kept {
-	uint8_t *state, *memory, *reel;
+	uint8_t *state, *memory, *reel, *table;
 };
 
 static uint8_t *kept_bytes(const struct buffer *b)
 {
 	return memcpy(need(malloc(b->length)), b->at, b->length);
+}
+
+static struct kept keep(const struct unit *u)
+{
+	return (struct kept){ kept_bytes(&u->state), kept_bytes(&u->memory), kept_bytes(&u->reel), kept_bytes(&u->table) };
 }
 
 static void expect_undone(struct unit *u, int steps, struct kept *before)
@@ -965,9 +1326,11 @@ static void expect_undone(struct unit *u, int steps, struct kept *before)
 	EXPECT_BYTES("the state before", u->state.at, before->state, u->state.length);
 	EXPECT_BYTES("memory before", u->memory.at, before->memory, u->memory.length);
 	EXPECT_BYTES("the reel before", u->reel.at, before->reel, u->reel.length);
+	EXPECT_BYTES("the table before", u->table.at, before->table, u->table.length);
 	free(before->state);
 	free(before->memory);
 	free(before->reel);
+	free(before->table);
 }
 
 /* Written, read back in both directions, and all of it undone: each command is a store of its packet, a TSDB write and an advance. */
@@ -980,11 +1343,12 @@ static void expect_record(size_t length, size_t blocks, uint16_t swb)
 	characteristics(&u, TS11_CVC, MESSAGE, TS11_MESSAGE_BYTES, 0);
 	make_bytes(u.memory.at + DATA, length + 1, 3);
 	gather(bytes, &u, DATA, length, swb);
-	struct kept before = { kept_bytes(&u.state), kept_bytes(&u.memory), kept_bytes(&u.reel) };
+	struct kept before = keep(&u);
 	struct ending e = command(&u, TS11_WRITE | TS11_ACK | swb, DATA, (uint16_t)length);
 	expect_class("write", e, written ? TS11_CLASS_NORMAL : TS11_CLASS_REJECT);
 	EXPECT("XST0 of the write", e.xst0, READY | (written ? TS11_XST0_MOT : TS11_XST0_NEF | TS11_XST0_BOT));
-	EXPECT("entry of the write", e.entry, TS11_ENTRY_HEAD + TS11_MESSAGE_BYTES + blocks * TS11_BLOCK);
+	EXPECT("entry of the write", e.entry,
+	       TS11_ENTRY_HEAD + TS11_MESSAGE_BYTES + blocks * TS11_BLOCK + (written ? TS11_PLACE_BYTES : 0));
 	EXPECT("position", number(&u, TS11_AT_POSITION), blocks);
 	EXPECT("recorded end", number(&u, TS11_AT_END), written ? blocks : 1);
 	if (written) {
@@ -1076,13 +1440,14 @@ static void expect_room(size_t length, bool retry, size_t left)
 	size_t before = number(&u, TS11_AT_POSITION), needed = pieces(length) + retry;
 	bool fits = needed <= left, eot = !fits || left - needed <= FROM_MARKER;
 	size_t after = fits ? ROOMY - left + needed : before;
+	size_t kept = needed * TS11_BLOCK + (retry ? 2 : 1) * TS11_PLACE_BYTES;
 	context("%s of %zu bytes with %zu blocks left", retry ? "retry" : "write", length, left);
 	struct ending e = command(&u, (retry ? TS11_WRITE_RETRY : TS11_WRITE) | TS11_ACK, DATA, (uint16_t)length);
 	expect_class("class", e, !fits ? TS11_CLASS_REJECT : eot ? TS11_CLASS_STATUS : TS11_CLASS_NORMAL);
 	EXPECT("XST0", e.xst0, READY | (fits ? TS11_XST0_MOT : TS11_XST0_NEF) | (eot ? TS11_XST0_EOT : 0));
 	EXPECT("XST3", e.xst3, 0);
 	EXPECT("residual", e.residual, 0);
-	EXPECT("entry", e.entry, TS11_ENTRY_HEAD + TS11_MESSAGE_BYTES + (fits ? needed * TS11_BLOCK : 0));
+	EXPECT("entry", e.entry, TS11_ENTRY_HEAD + TS11_MESSAGE_BYTES + (fits ? kept : 0));
 	EXPECT("position", number(&u, TS11_AT_POSITION), after);
 	EXPECT("recorded end", number(&u, TS11_AT_END), after);
 	free_unit(&u);
@@ -1128,8 +1493,8 @@ static void test_long_entries(void)
 	} rows[] = {
 		{ "read", TS11_READ_PREVIOUS, 65677 },
 		{ "swapped read", TS11_READ_PREVIOUS | TS11_SWB, 65677 },
-		{ "write", TS11_WRITE, 67214 },
-		{ "write retry, which has the longest entry of all", TS11_WRITE_RETRY, 67726 },
+		{ "write", TS11_WRITE, 67222 },
+		{ "write retry, which has the longest entry of all", TS11_WRITE_RETRY, 67742 },
 	};
 	ROWS(k, rows)
 		for (size_t less = 0; less < 2; less++) {
@@ -1138,12 +1503,79 @@ static void test_long_entries(void)
 			free_unit(&u);
 			context("%s of the longest record, with %zu bytes of room less", rows[k].name, less);
 			u = unit_with_long(before + rows[k].entry - less, rows[k].header);
-			struct kept bytes = { kept_bytes(&u.state), kept_bytes(&u.memory), kept_bytes(&u.reel) };
+			struct kept bytes = keep(&u);
 			EXPECT("answer", advance(&u).answer, less ? TS11_JOURNAL_FULL : TS11_DONE);
 			EXPECT("used journal", used(&u), before + (less ? 0 : rows[k].entry));
 			expect_undone(&u, less ? 0 : 1, &bytes);
 			free_unit(&u);
 		}
+	context("");
+}
+
+/* ---- as many objects as there can be ----------------------------------------------------------------------------- */
+
+static struct unit unit_of_marks(void)
+{
+	struct unit u = make_unit(SMALL_JOURNAL, REEL_MAX, 4 * SMALL_JOURNAL, 0);
+	for (size_t at = 0; at < TS11_REEL_BLOCKS_MAX;)
+		at = lay_mark(u.reel.at, at);
+	return u;
+}
+
+/* Each mark is found, as a block and as the first object of its file; behind the last there is none. */
+static void expect_all_found(struct unit *u)
+{
+	size_t wrong = 0;
+	make = perform;
+	for (size_t k = 0; k < TS11_REEL_BLOCKS_MAX; k++) {
+		struct result file = find_file(u, k), block = find_block(u, k);
+		wrong += file.answer || block.answer || !file.found || !block.found || file.place != k || block.place != k;
+	}
+	EXPECT("marks that are not found", wrong, 0);
+	EXPECT("a file behind the last mark", find_file(u, TS11_REEL_BLOCKS_MAX).found, false);
+	EXPECT("a block behind it", find_block(u, TS11_REEL_BLOCKS_MAX).found, false);
+	make = checked;
+}
+
+/* A mark at the last block, over the one there: as many objects as before, in a table of just as many places. */
+static void expect_last_rewritten(struct unit *u)
+{
+	struct kept before = keep(u);
+	set_number(u, TS11_AT_POSITION, TS11_REEL_BLOCKS_MAX - 1);
+	memcpy(before.state, u->state.at, u->state.length);
+	expect_class("a mark over the last", command(u, TS11_WRITE_MARK | TS11_ACK, 0, 0), TS11_CLASS_STATUS);
+	EXPECT("objects", objects(u), TS11_REEL_BLOCKS_MAX);
+	expect_afresh(u);
+	expect_undone(u, 3, &before);
+}
+
+static void test_most_objects(void)
+{
+	static const size_t less[] = { 1, TS11_PLACE_BYTES };
+	struct unit u = unit_of_marks();
+	context("65,536 marks");
+	ROWS(k, less) {
+		struct unit v = u;
+		v.table = make_buffer(u.table.length - less[k], 0);
+		EXPECT("a table that is too small", mount(&v, TS11_REEL_BLOCKS_MAX, true, false).answer, TS11_SMALL_TABLE);
+		EXPECT("without the last mark", mount(&v, TS11_REEL_BLOCKS_MAX - 1, true, false).answer, TS11_DONE);
+		free_buffer(&v.table);
+	}
+	EXPECT("a table of just as many places", mount(&u, TS11_REEL_BLOCKS_MAX, true, false).answer, TS11_DONE);
+	EXPECT("objects", objects(&u), TS11_REEL_BLOCKS_MAX);
+	expect_all_found(&u);
+	characteristics(&u, TS11_CVC, MESSAGE, TS11_MESSAGE_BYTES, 0);
+	struct kept before = keep(&u);
+	command(&u, TS11_ERASE | TS11_ACK, 0, 0);
+	EXPECT("objects after a gap at BOT", objects(&u), 1);
+	expect_undone(&u, 3, &before);
+	expect_all_found(&u);
+	free_unit(&u);
+	u = unit_of_marks();
+	EXPECT("the mount", mount(&u, TS11_REEL_BLOCKS_MAX, true, false).answer, TS11_DONE);
+	characteristics(&u, TS11_CVC, MESSAGE, TS11_MESSAGE_BYTES, 0);
+	expect_last_rewritten(&u);
+	free_unit(&u);
 	context("");
 }
 
@@ -1215,6 +1647,7 @@ static void full_mount(void)
 	make_bytes(full.memory.at, full.memory.length, 77);
 	lay_full_reel();
 	EXPECT("the mount", mount(&full, PRERECORDED, true, false).answer, TS11_DONE);
+	expect_afresh(&full);
 	take_picture(&fresh, &full);
 	standing = 0;
 }
@@ -1257,8 +1690,10 @@ static void full_write(void)
 		struct ending e =
 			expect_command("write", TS11_WRITE, from, TS11_RECORD_MAX, eot ? TS11_CLASS_STATUS : TS11_CLASS_NORMAL,
 		                   TS11_XST0_MOT | (eot ? TS11_XST0_EOT : 0), 0, end);
-		EXPECT("entry", e.entry, TS11_ENTRY_HEAD + TS11_MESSAGE_BYTES + LONG_BLOCKS * TS11_BLOCK);
+		EXPECT("entry", e.entry,
+		       TS11_ENTRY_HEAD + TS11_MESSAGE_BYTES + LONG_BLOCKS * TS11_BLOCK + TS11_PLACE_BYTES);
 		EXPECT("recorded end", number(&full, TS11_AT_END), end);
+		expect_afresh(&full);
 	}
 	expect_laid(&full, PRERECORDED, full.memory.at + written_from(0), TS11_RECORD_MAX);
 }
@@ -1273,6 +1708,7 @@ static void full_fill_reel(void)
 	expect_command("to the very end", TS11_WRITE, from, LAST, TS11_CLASS_STATUS, TS11_XST0_MOT | TS11_XST0_EOT, 0,
 	               FILLED);
 	EXPECT("recorded end", number(&full, TS11_AT_END), FILLED);
+	expect_afresh(&full);
 	expect_command("a byte", TS11_WRITE, DATA, 1, TS11_CLASS_REJECT, NO_ROOM, 0, FILLED);
 	expect_command("a mark", TS11_WRITE_MARK, 0, 0, TS11_CLASS_REJECT, NO_ROOM, 0, FILLED);
 	expect_command("a gap", TS11_ERASE, 0, 0, TS11_CLASS_REJECT, NO_ROOM, 0, FILLED);
@@ -1320,6 +1756,7 @@ static void full_mount_whole(void)
 {
 	struct unit other = full;
 	other.state = make_buffer(TS11_STATE_BYTES, 0);
+	other.table = make_buffer(objects(&full) * TS11_PLACE_BYTES, 0);
 	EXPECT("an end beyond capacity",
 	       perform(&other, &(struct call){ .kind = MOUNT, .recorded_end = TS11_REEL_BLOCKS_MAX + 1 }).answer,
 	       TS11_BAD_REEL);
@@ -1327,7 +1764,9 @@ static void full_mount_whole(void)
 	EXPECT("an end at capacity",
 	       perform(&other, &(struct call){ .kind = MOUNT, .recorded_end = TS11_REEL_BLOCKS_MAX }).answer, TS11_DONE);
 	EXPECT("its end", number(&other, TS11_AT_END), TS11_REEL_BLOCKS_MAX);
+	EXPECT_BYTES("its table", other.table.at, full.table.at, other.table.length);
 	free_buffer(&other.state);
+	free_buffer(&other.table);
 }
 
 /* Back over everything: to the mark, over it, to BOT; then by marks, there and back. */
@@ -1354,6 +1793,8 @@ static void full_write_at_bot(void)
 {
 	expect_command("a mark at BOT", TS11_WRITE_MARK, 0, 0, 0, TS11_XST0_TMK | TS11_XST0_MOT, 0, 1);
 	EXPECT("recorded end", number(&full, TS11_AT_END), 1);
+	EXPECT("objects", objects(&full), 1);
+	expect_afresh(&full);
 }
 
 /* ---- full size: the journal -------------------------------------------------------------------------------------- */
@@ -1411,7 +1852,7 @@ static void expect_command_fits_exactly(const char *what, uint16_t header, size_
 
 static void full_exact_room(void)
 {
-	enum { SENT = TS11_MESSAGE_BYTES };
+	enum { SENT = TS11_MESSAGE_BYTES, PLACE = TS11_PLACE_BYTES };
 	expect_fits_exactly("TSDB", &(struct call){ .kind = WRITE_TSDB, .word = 4 }, TS11_ENTRY_HEAD);
 	expect_fits_exactly("TSSR", &(struct call){ .kind = WRITE_TSSR }, TS11_ENTRY_HEAD);
 	expect_fits_exactly("a switch", &(struct call){ .kind = OPERATE, .which = TS11_SWITCH_WRITE_LOCK, .on = true },
@@ -1422,9 +1863,9 @@ static void full_exact_room(void)
 	expect_command_fits_exactly("release", TS11_RELEASE, 0, 0, 0);
 	expect_command_fits_exactly("get status", TS11_GET_STATUS, 0, 0, SENT);
 	expect_command_fits_exactly("read a mark", TS11_READ_PREVIOUS, DATA, 9, SENT);
-	expect_command_fits_exactly("erase", TS11_ERASE, 0, 0, SENT + TS11_BLOCK);
-	expect_command_fits_exactly("write", TS11_WRITE, DATA, 505, SENT + 2 * TS11_BLOCK);
-	expect_command_fits_exactly("write retry", TS11_WRITE_RETRY, DATA, 505, SENT + 3 * TS11_BLOCK);
+	expect_command_fits_exactly("erase", TS11_ERASE, 0, 0, SENT + TS11_BLOCK + PLACE);
+	expect_command_fits_exactly("write", TS11_WRITE, DATA, 505, SENT + 2 * TS11_BLOCK + PLACE);
+	expect_command_fits_exactly("write retry", TS11_WRITE_RETRY, DATA, 505, SENT + 3 * TS11_BLOCK + 2 * PLACE);
 }
 
 /* No room at all: every step is refused, also with a command waiting; an idle advance and the registers need none. */
@@ -1469,6 +1910,9 @@ static void full_other_lengths(void)
 	full.journal.length = whole.journal.length - 1;
 	expect_refused("journal less one", &c, TS11_BAD_JOURNAL);
 	full.journal = whole.journal;
+	full.table.length = objects(&full) * TS11_PLACE_BYTES - 1;
+	expect_refused("a place less than objects", &c, TS11_SMALL_TABLE);
+	full.table = whole.table;
 }
 
 /* Back over all entries: state, memory and reel are those of the mount. */
@@ -1480,6 +1924,7 @@ static size_t full_all_back(void)
 	EXPECT("steps back", steps, entries);
 	expect_refused("one more", &(struct call){ .kind = STEP_BACK }, TS11_NO_ENTRY);
 	expect_same("all stepped back", &full, &fresh);
+	expect_afresh(&full);
 	EXPECT("used journal", used(&full), 0);
 	return steps;
 }
@@ -1529,10 +1974,17 @@ int main(void)
 	test_least_memory();
 	test_memory_ends();
 	test_blocks_at_fault();
+	test_table_lengths();
+	test_table_room();
+	test_table_order();
+	test_table_mended();
+	test_look_ups_in_any_table();
+	test_writes_over_any_table();
 	test_records();
 	test_small_reels();
 	test_room();
 	test_long_entries();
+	test_most_objects();
 	size_t steps = test_full_size();
 	snprintf(done, sizeof done, "every limit and fault, and %zu steps of full size stepped back", steps);
 	return summary("limits", done);

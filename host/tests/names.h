@@ -20,6 +20,10 @@
 #define ts11_host_store named_host_store
 #define ts11_advance named_advance
 #define ts11_step_back named_step_back
+#define ts11_find_file named_find_file
+#define ts11_find_block named_find_block
+#define ts11_place_block named_place_block
+#define ts11_place_marks named_place_marks
 
 enum name {
 	MEMORY_ = 1,
@@ -40,7 +44,12 @@ enum name {
 	ADDRESS_,
 	LENGTH_,
 	STEPPED_,
-	INTERRUPT_
+	INTERRUPT_,
+	TABLE_,
+	TABLE_LENGTH_,
+	FILE_,
+	FOUND_,
+	PLACE_
 };
 
 #define memory (*memory)[MEMORY_]
@@ -62,6 +71,11 @@ enum name {
 #define length (*length)[LENGTH_]
 #define stepped (*stepped)[STEPPED_]
 #define interrupt (*interrupt)[INTERRUPT_]
+#define table (*table)[TABLE_]
+#define table_length (*table_length)[TABLE_LENGTH_]
+#define file (*file)[FILE_]
+#define found (*found)[FOUND_]
+#define place (*place)[PLACE_]
 
 #include "ts11.h"
 
@@ -84,28 +98,42 @@ enum name {
 #undef length
 #undef stepped
 #undef interrupt
+#undef table
+#undef table_length
+#undef file
+#undef found
+#undef place
 
 /* A type other than the header's is an error. `state`, and `bytes` of the host store, have their own types anyway. */
-#define NAMED_BUFFERS                                                                                                  \
-	ts11_state *, uint8_t *(*)[MEMORY_], size_t(*)[MEMORY_LENGTH_], uint8_t *(*)[REEL_], size_t(*)[REEL_LENGTH_],      \
-		uint8_t *(*)[JOURNAL_], size_t(*)[JOURNAL_LENGTH_]
+#define NAMED_MEMORY ts11_state *, uint8_t *(*)[MEMORY_], size_t(*)[MEMORY_LENGTH_]
+#define NAMED_REEL uint8_t *(*)[REEL_], size_t(*)[REEL_LENGTH_]
+#define NAMED_TABLE uint8_t *(*)[TABLE_], size_t(*)[TABLE_LENGTH_]
+#define NAMED_JOURNAL uint8_t *(*)[JOURNAL_], size_t(*)[JOURNAL_LENGTH_]
+#define NAMED_BUFFERS NAMED_MEMORY, NAMED_REEL, const NAMED_TABLE, NAMED_JOURNAL
 
-size_t ts11_mount(ts11_state *, size_t (*)[MEMORY_LENGTH_], const uint8_t *(*)[REEL_], size_t (*)[REEL_LENGTH_],
-                  size_t (*)[JOURNAL_LENGTH_], size_t (*)[RECORDED_END_], bool (*)[ONLINE_], bool (*)[WRITE_LOCK_],
-                  size_t *(*)[BLOCK_], uint8_t *(*)[FAULT_]);
+size_t ts11_mount(ts11_state *, size_t (*)[MEMORY_LENGTH_], const NAMED_REEL, NAMED_TABLE, size_t (*)[JOURNAL_LENGTH_],
+                  size_t (*)[RECORDED_END_], bool (*)[ONLINE_], bool (*)[WRITE_LOCK_], size_t *(*)[BLOCK_],
+                  uint8_t *(*)[FAULT_]);
 size_t ts11_write_tsdb(NAMED_BUFFERS, uint16_t (*)[WORD_]);
 size_t ts11_write_tssr(NAMED_BUFFERS, uint16_t (*)[WORD_]);
 size_t ts11_operate(NAMED_BUFFERS, bool (*)[WHICH_SWITCH_], bool (*)[ON_]);
 size_t ts11_read_register(const ts11_state *, bool (*)[WHICH_REGISTER_], uint16_t *(*)[WORD_]);
-size_t ts11_host_store(ts11_state *, uint8_t *(*)[MEMORY_], size_t (*)[MEMORY_LENGTH_], const uint8_t *(*)[REEL_],
-                       size_t (*)[REEL_LENGTH_], uint8_t *(*)[JOURNAL_], size_t (*)[JOURNAL_LENGTH_],
-                       size_t (*)[ADDRESS_], const uint8_t *, size_t (*)[LENGTH_]);
-size_t ts11_advance(NAMED_BUFFERS, bool *(*)[STEPPED_], bool *(*)[INTERRUPT_], size_t *(*)[BLOCK_],
-                    uint8_t *(*)[FAULT_]);
-size_t ts11_step_back(ts11_state *, uint8_t *(*)[MEMORY_], size_t (*)[MEMORY_LENGTH_], uint8_t *(*)[REEL_],
-                      size_t (*)[REEL_LENGTH_], const uint8_t *(*)[JOURNAL_], size_t (*)[JOURNAL_LENGTH_]);
+size_t ts11_host_store(NAMED_MEMORY, const NAMED_REEL, const NAMED_TABLE, NAMED_JOURNAL, size_t (*)[ADDRESS_],
+                       const uint8_t *, size_t (*)[LENGTH_]);
+size_t ts11_advance(NAMED_MEMORY, NAMED_REEL, NAMED_TABLE, NAMED_JOURNAL, bool *(*)[STEPPED_], bool *(*)[INTERRUPT_],
+                    size_t *(*)[BLOCK_], uint8_t *(*)[FAULT_]);
+size_t ts11_step_back(NAMED_MEMORY, NAMED_REEL, NAMED_TABLE, const NAMED_JOURNAL);
+size_t ts11_find_file(const ts11_state *, const NAMED_TABLE, size_t (*)[FILE_], bool *(*)[FOUND_], size_t *(*)[PLACE_]);
+size_t ts11_find_block(const ts11_state *, const NAMED_TABLE, size_t (*)[BLOCK_], bool *(*)[FOUND_],
+                       size_t *(*)[PLACE_]);
 uint32_t ts11_state_number(const ts11_state *, size_t);
+uint32_t ts11_place_block(const uint8_t *, size_t);
+uint32_t ts11_place_marks(const uint8_t *, size_t);
 
+#undef NAMED_MEMORY
+#undef NAMED_REEL
+#undef NAMED_TABLE
+#undef NAMED_JOURNAL
 #undef NAMED_BUFFERS
 #undef ts11_state
 #undef ts11_state_number
@@ -117,6 +145,10 @@ uint32_t ts11_state_number(const ts11_state *, size_t);
 #undef ts11_host_store
 #undef ts11_advance
 #undef ts11_step_back
+#undef ts11_find_file
+#undef ts11_find_block
+#undef ts11_place_block
+#undef ts11_place_marks
 
 /* The header once more, as it stands, by whoever includes it next. */
 #undef TS11_H

@@ -1,6 +1,6 @@
-# The exported signatures of crates/ts11/src/calls.rt, as assertions that a host's declarations are just these:
-#   awk -f signatures.awk calls.rt                   C, of ts11.h
-#   awk -v rust=PATH -f signatures.awk calls.rt      Rust, of the file ts11.rs at PATH
+# The exported signatures of crates/ts11/src, as assertions that a host's declarations are just these:
+#   awk -f signatures.awk SOURCE..                   C, of ts11.h
+#   awk -v rust=PATH -f signatures.awk SOURCE..      Rust, of the file ts11.rs at PATH
 function set(type, in_c, in_rust) { name_of[type] = rust ? in_rust : in_c }
 
 BEGIN {

@@ -2,7 +2,7 @@
 """spoils.py HEADER DIRECTORY [all]: copies of ts11.h with one thing spoiled in each.
 
 Each is DIRECTORY/N/ts11.h, with what is spoiled in DIRECTORY/N/what: the value of a constant, a number in a macro or in
-the inline function, a type, or a prototype's parameters. With `all`, numbers are also spoiled in each of 18 bits,
+an inline function, a type, or a prototype's parameters. With `all`, numbers are also spoiled in each of 18 bits,
 and letters are every letter.
 """
 import itertools
@@ -60,13 +60,13 @@ def spoiled_constants(header, every_bit):
 
 
 def spoiled_inline(header):
-    m = re.search(r"static inline .*?^}", header, re.M | re.S)
-    body = m.start() + m.group().index("{")
-    text = header[body : m.end()]
-    for n in NUMBER.finditer(text):
-        value = str(int(n.group()) + 1)
-        what = f"inline function, {text[max(0, n.start() - 4):n.end() + 1]!r} -> {value}"
-        yield what, body + n.start(), body + n.end(), value
+    for m in re.finditer(r"static inline \w+ (\w+).*?^}", header, re.M | re.S):
+        body = m.start() + m.group().index("{")
+        text = header[body : m.end()]
+        for n in NUMBER.finditer(text):
+            value = str(int(n.group()) + 1)
+            what = f"{m.group(1)}, {text[max(0, n.start() - 4):n.end() + 1]!r} -> {value}"
+            yield what, body + n.start(), body + n.end(), value
 
 
 def spoiled_types(header):

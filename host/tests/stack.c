@@ -9,14 +9,14 @@
 /* ---- a painted stack --------------------------------------------------------------------------------------------- */
 
 /* Room for scratch as long as a few records; an even number of words, so that the stack begins where one may. */
-enum { WORDS = 4 * (TS11_RECORD_MAX + 1) / sizeof(uint64_t), IN_REGISTERS = 6, ARGUMENTS = 11 };
+enum { WORDS = 4 * (TS11_RECORD_MAX + 1) / sizeof(uint64_t), IN_REGISTERS = 6, ARGUMENTS = 13 };
 _Static_assert(WORDS % 2 == 0, "a call's stack is aligned to 16 bytes");
 
 static _Alignas(16) uint64_t painted[WORDS + ARGUMENTS - IN_REGISTERS];
 
 typedef void function(void);
 
-/* Calls f on another stack, with eleven arguments or, by f, fewer: those past the sixth stand there already. */
+/* Calls f on another stack, with thirteen arguments or, by f, fewer: those past the sixth stand there already. */
 uint64_t call_on(uint64_t *stack, function *f, const uint64_t *arguments);
 __asm__(".text\n"
         "call_on:\n"
@@ -67,27 +67,31 @@ static size_t last;
 /* As put_call (unit.h) makes them. */
 static ts11_answer put_painted(struct unit *u, const struct call *c, struct outs *o)
 {
-	uint64_t s = AT(u->state.at), m = AT(u->memory.at), r = AT(u->reel.at), j = AT(u->journal.at);
-	uint64_t mn = u->memory.length, rn = u->reel.length, jn = u->journal.length;
+	uint64_t s = AT(u->state.at), m = AT(u->memory.at), r = AT(u->reel.at), t = AT(u->table.at), j = AT(u->journal.at);
+	uint64_t mn = u->memory.length, rn = u->reel.length, tn = u->table.length, jn = u->journal.length;
 	switch (c->kind) {
 	case MOUNT:
-		return CALL(ts11_mount, s, mn, r, rn, jn, c->recorded_end, c->online, c->write_lock, AT(&o->block),
+		return CALL(ts11_mount, s, mn, r, rn, t, tn, jn, c->recorded_end, c->online, c->write_lock, AT(&o->block),
 		            AT(&o->fault));
 	case WRITE_TSDB:
-		return CALL(ts11_write_tsdb, s, m, mn, r, rn, j, jn, c->word);
+		return CALL(ts11_write_tsdb, s, m, mn, r, rn, t, tn, j, jn, c->word);
 	case WRITE_TSSR:
-		return CALL(ts11_write_tssr, s, m, mn, r, rn, j, jn, c->word);
+		return CALL(ts11_write_tssr, s, m, mn, r, rn, t, tn, j, jn, c->word);
 	case OPERATE:
-		return CALL(ts11_operate, s, m, mn, r, rn, j, jn, c->which, c->on);
+		return CALL(ts11_operate, s, m, mn, r, rn, t, tn, j, jn, c->which, c->on);
 	case READ_REGISTER:
 		return CALL(ts11_read_register, s, c->which, AT(&o->word));
 	case HOST_STORE:
-		return CALL(ts11_host_store, s, m, mn, r, rn, j, jn, c->address, AT(c->bytes), c->length);
+		return CALL(ts11_host_store, s, m, mn, r, rn, t, tn, j, jn, c->address, AT(c->bytes), c->length);
 	case ADVANCE:
-		return CALL(ts11_advance, s, m, mn, r, rn, j, jn, AT(&o->stepped), AT(&o->interrupt), AT(&o->block),
+		return CALL(ts11_advance, s, m, mn, r, rn, t, tn, j, jn, AT(&o->stepped), AT(&o->interrupt), AT(&o->block),
 		            AT(&o->fault));
+	case STEP_BACK:
+		return CALL(ts11_step_back, s, m, mn, r, rn, t, tn, j, jn);
+	case FIND_FILE:
+		return CALL(ts11_find_file, s, t, tn, c->sought, AT(&o->found), AT(&o->place));
 	default:
-		return CALL(ts11_step_back, s, m, mn, r, rn, j, jn);
+		return CALL(ts11_find_block, s, t, tn, c->sought, AT(&o->found), AT(&o->place));
 	}
 }
 
@@ -122,14 +126,16 @@ static void note(struct use *use)
 }
 
 static struct use calls[] = {
-	[MOUNT] = USE("ts11_mount", 344),
-	[WRITE_TSDB] = USE("ts11_write_tsdb", 168),
-	[WRITE_TSSR] = USE("ts11_write_tssr", 80),
-	[OPERATE] = USE("ts11_operate", 160),
+	[MOUNT] = USE("ts11_mount", 632),
+	[WRITE_TSDB] = USE("ts11_write_tsdb", 616),
+	[WRITE_TSSR] = USE("ts11_write_tssr", 616),
+	[OPERATE] = USE("ts11_operate", 648),
 	[READ_REGISTER] = USE("ts11_read_register", 64),
-	[HOST_STORE] = USE("ts11_host_store", 192),
-	[ADVANCE] = USE("ts11_advance", 1240),
-	[STEP_BACK] = USE("ts11_step_back", 288),
+	[HOST_STORE] = USE("ts11_host_store", 328),
+	[ADVANCE] = USE("ts11_advance", 1464),
+	[STEP_BACK] = USE("ts11_step_back", 464),
+	[FIND_FILE] = USE("ts11_find_file", 72),
+	[FIND_BLOCK] = USE("ts11_find_block", 88),
 };
 
 static struct result noted(struct unit *u, const struct call *c)
@@ -147,28 +153,28 @@ static struct {
 	uint16_t header;
 	bool behind;
 } commands[] = {
-	{ USE("read next", 1016), TS11_READ_NEXT, false },
-	{ USE("read previous", 1016), TS11_READ_PREVIOUS, true },
-	{ USE("reread next", 1192), TS11_REREAD_NEXT, false },
-	{ USE("reread previous", 1192), TS11_REREAD_PREVIOUS, true },
-	{ USE("reread next, OPP", 1192), TS11_REREAD_NEXT | TS11_OPP, false },
-	{ USE("reread previous, OPP", 1192), TS11_REREAD_PREVIOUS | TS11_OPP, true },
-	{ USE("write", 800), TS11_WRITE, true },
-	{ USE("write retry", 1240), TS11_WRITE_RETRY, true },
-	{ USE("write characteristics", 800), TS11_WRITE_CHARACTERISTICS, false },
-	{ USE("space records", 1176), TS11_SPACE_RECORDS, false },
-	{ USE("space records reverse", 1176), TS11_SPACE_RECORDS_REVERSE, true },
-	{ USE("skip marks", 1176), TS11_SKIP_MARKS, false },
-	{ USE("skip marks reverse", 1176), TS11_SKIP_MARKS_REVERSE, true },
-	{ USE("rewind", 800), TS11_REWIND, true },
-	{ USE("write mark", 800), TS11_WRITE_MARK, true },
-	{ USE("erase", 800), TS11_ERASE, true },
-	{ USE("write mark retry", 1240), TS11_WRITE_MARK_RETRY, true },
-	{ USE("release", 800), TS11_RELEASE, false },
-	{ USE("unload", 800), TS11_UNLOAD, true },
-	{ USE("clean", 800), TS11_CLEAN, false },
-	{ USE("initialize", 800), TS11_INITIALIZE, false },
-	{ USE("get status", 800), TS11_GET_STATUS, false },
+	{ USE("read next", 1240), TS11_READ_NEXT, false },
+	{ USE("read previous", 1240), TS11_READ_PREVIOUS, true },
+	{ USE("reread next", 1416), TS11_REREAD_NEXT, false },
+	{ USE("reread previous", 1416), TS11_REREAD_PREVIOUS, true },
+	{ USE("reread next, OPP", 1416), TS11_REREAD_NEXT | TS11_OPP, false },
+	{ USE("reread previous, OPP", 1416), TS11_REREAD_PREVIOUS | TS11_OPP, true },
+	{ USE("write", 1024), TS11_WRITE, true },
+	{ USE("write retry", 1464), TS11_WRITE_RETRY, true },
+	{ USE("write characteristics", 1024), TS11_WRITE_CHARACTERISTICS, false },
+	{ USE("space records", 1400), TS11_SPACE_RECORDS, false },
+	{ USE("space records reverse", 1400), TS11_SPACE_RECORDS_REVERSE, true },
+	{ USE("skip marks", 1400), TS11_SKIP_MARKS, false },
+	{ USE("skip marks reverse", 1400), TS11_SKIP_MARKS_REVERSE, true },
+	{ USE("rewind", 1024), TS11_REWIND, true },
+	{ USE("write mark", 1024), TS11_WRITE_MARK, true },
+	{ USE("erase", 1024), TS11_ERASE, true },
+	{ USE("write mark retry", 1464), TS11_WRITE_MARK_RETRY, true },
+	{ USE("release", 1024), TS11_RELEASE, false },
+	{ USE("unload", 1024), TS11_UNLOAD, true },
+	{ USE("clean", 1024), TS11_CLEAN, false },
+	{ USE("initialize", 1024), TS11_INITIALIZE, false },
+	{ USE("get status", 1024), TS11_GET_STATUS, false },
 };
 
 static bool reads(uint16_t header)
@@ -251,7 +257,7 @@ static void run_row(struct unit *u, size_t row)
 	context("");
 }
 
-/* The other calls: both registers, both switches turned, a host store as long as the record, a command that is lost. */
+/* The other calls: registers, switches turned, a host store as long as the record, a command that is lost, look-ups. */
 static void run_others(struct unit *u)
 {
 	for (int k = 0; k < 2; k++) {
@@ -265,6 +271,8 @@ static void run_others(struct unit *u)
 	EXPECT("TSDB", write_tsdb(u, TS11_TSDB(PACKET)).answer, TS11_DONE);
 	EXPECT("TSDB, a command waiting", write_tsdb(u, TS11_TSDB(PACKET)).answer, TS11_DONE);
 	EXPECT("TSSR", write_tssr(u, 0).answer, TS11_DONE);
+	EXPECT("the file behind two marks", find_file(u, 2).found, true);
+	EXPECT("the last block", find_block(u, number(u, TS11_AT_END) - 1).place, objects(u) - 1);
 	back_to_the_mount(u);
 }
 

@@ -13,7 +13,7 @@ enum { LINE = 8192, WORDS = 16, BYTES_MAX = 131072 };
 /* ---- the script's state ------------------------------------------------------------------------------------------ */
 
 struct sizes {
-	size_t memory, reel, journal;
+	size_t memory, reel, journal, table;
 };
 
 static struct {
@@ -23,6 +23,7 @@ static struct {
 	struct unit unit;
 	size_t cursor; /* the block at which the next object is laid */
 	bool cut;      /* the calls are handed these lengths */
+	bool table_cut;
 	struct sizes handed;
 	struct buffer host; /* a host store's bytes */
 } run;
@@ -77,7 +78,7 @@ static size_t made_in(const char *length, const char *seed, uint8_t *bytes)
 
 /* ---- the result line --------------------------------------------------------------------------------------------- */
 
-/* In the order of the result line; the last three are not printed. */
+/* The first in the order of the result line; the last three are not printed. */
 static const struct {
 	const char *name;
 	size_t at;
@@ -102,11 +103,12 @@ static const struct {
 	{ "msglen", TS11_AT_MESSAGE_LENGTH },
 	{ "release_ie", TS11_AT_RELEASE_IE },
 	{ "used", TS11_AT_USED },
+	{ "objects", TS11_AT_OBJECTS },
 	{ "memlen", TS11_AT_MEMORY },
 	{ "reelblocks", TS11_AT_BLOCKS },
 	{ "jrnllen", TS11_AT_JOURNAL },
 };
-enum { FIELDS = sizeof fields / sizeof fields[0], PRINTED = 20 };
+enum { FIELDS = sizeof fields / sizeof fields[0], PRINTED = 21 };
 
 /* CRC-32, eight bytes at a time: crc_table[k] is for a byte with k bytes behind it. */
 static uint32_t crc_table[8][256];
@@ -124,18 +126,18 @@ static void make_crc_table(void)
 			crc_table[k][i] = crc_table[k - 1][i] >> 8 ^ crc_table[0][crc_table[k - 1][i] & 255];
 }
 
-static uint32_t crc(const struct buffer *b)
+static uint32_t crc(const uint8_t *bytes, size_t length)
 {
 	uint32_t c = 0xFFFFFFFF;
 	size_t i = 0;
-	for (; b->length - i >= 8; i += 8) {
-		const uint8_t *p = b->at + i;
+	for (; length - i >= 8; i += 8) {
+		const uint8_t *p = bytes + i;
 		c = crc_table[7][(c ^ p[0]) & 255] ^ crc_table[6][(c >> 8 ^ p[1]) & 255] ^
 		    crc_table[5][(c >> 16 ^ p[2]) & 255] ^ crc_table[4][c >> 24 ^ p[3]] ^ crc_table[3][p[4]] ^
 		    crc_table[2][p[5]] ^ crc_table[1][p[6]] ^ crc_table[0][p[7]];
 	}
-	for (; i < b->length; i++)
-		c = crc_table[0][(c ^ b->at[i]) & 255] ^ c >> 8;
+	for (; i < length; i++)
+		c = crc_table[0][(c ^ bytes[i]) & 255] ^ c >> 8;
 	return ~c;
 }
 
@@ -167,17 +169,19 @@ static size_t print_decimal(char *out, uint32_t n)
 	return count;
 }
 
-/* A line has room: an answer, 20 numbers and two check sums are shorter by far. */
+/* A line has room: an answer, 21 numbers and three check sums are shorter by far. */
 static void print_result(char *out, const struct call *c, const struct result *r, size_t entry)
 {
+	const struct unit *u = &run.unit;
 	out += print_answer(out, LINE, c, r, entry);
 	*out++ = ' ';
 	*out++ = '|';
 	for (int k = 0; k < PRINTED; k++) {
 		*out++ = ' ';
-		out += print_decimal(out, number(&run.unit, fields[k].at));
+		out += print_decimal(out, number(u, fields[k].at));
 	}
-	sprintf(out, " | %08" PRIx32 " %08" PRIx32, crc(&run.unit.memory), crc(&run.unit.reel));
+	sprintf(out, " | %08" PRIx32 " %08" PRIx32 " %08" PRIx32, crc(u->memory.at, u->memory.length),
+	        crc(u->reel.at, u->reel.length), crc(u->table.at, used_table(u)));
 }
 
 /* The next line that is expected must be this one. */
@@ -214,10 +218,12 @@ static struct result checked_cut(const struct call *c)
 {
 	struct unit *u = &run.unit;
 	struct unit cut = { u->state, resized(&u->memory, run.handed.memory), resized(&u->reel, run.handed.reel),
+		                resized(&u->table, run.table_cut ? run.handed.table : u->table.length),
 		                resized(&u->journal, run.handed.journal) };
 	struct result r = checked(&cut, c);
 	take_back(&u->memory, &cut.memory);
 	take_back(&u->reel, &cut.reel);
+	take_back(&u->table, &cut.table);
 	take_back(&u->journal, &cut.journal);
 	return r;
 }
@@ -318,7 +324,7 @@ static void call_back(char **w)
 /* ---- set-up lines ------------------------------------------------------------------------------------------------ */
 
 /* The requests that the library has built in, a bit for each, and those that change no line of a script. */
-enum { OWN_RULES = 1 << 2 | 1 << 4 | 1 << 7, UNSEEN_RULES = 1 << 1 | 1 << 3 | 1 << 12 | 1 << 13 };
+enum { OWN_RULES = 1 << 2 | 1 << 4 | 1 << 7 | 1 << 8, UNSEEN_RULES = 1 << 1 | 1 << 3 | 1 << 12 | 1 << 13 };
 
 static void set_up_rules(char **w)
 {
@@ -338,8 +344,15 @@ static void set_up_sizes(char **w)
 static void set_up_lens(char **w)
 {
 	run.cut = !w[1] || strcmp(w[1], "off") != 0;
+	run.table_cut = run.cut && w[4];
 	if (run.cut)
-		run.handed = (struct sizes){ number_in(w[1]), number_in(w[2]), number_in(w[3]) };
+		run.handed = (struct sizes){ number_in(w[1]), number_in(w[2]), number_in(w[3]), w[4] ? number_in(w[4]) : 0 };
+}
+
+static void set_up_index(char **w)
+{
+	free_buffer(&run.unit.table);
+	run.unit.table = make_buffer(number_in(w[1]), GUARD);
 }
 
 static void set_up_field(char **w)
@@ -374,6 +387,11 @@ static void set_up_word(char **w)
 static void set_up_pokereel(char **w)
 {
 	poke(&run.unit.reel, number_in(w[1]), bytes, hex_in(w[2], bytes));
+}
+
+static void set_up_poketable(char **w)
+{
+	poke(&run.unit.table, number_in(w[1]), bytes, hex_in(w[2], bytes));
 }
 
 static void need_blocks(size_t at, size_t n)
@@ -440,10 +458,12 @@ static const struct {
 	{ "case", start_case },
 	{ "sizes", set_up_sizes },
 	{ "lens", set_up_lens },
+	{ "index", set_up_index },
 	{ "set", set_up_field },
 	{ "poke", set_up_poke },
 	{ "word", set_up_word },
 	{ "pokereel", set_up_pokereel },
+	{ "poketable", set_up_poketable },
 	{ "fixsum", set_up_fixsum },
 	{ "R", set_up_record },
 	{ "RN", set_up_record_made },
