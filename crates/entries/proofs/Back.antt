@@ -60,6 +60,7 @@ entry-back e top h at =
       low _ (h .message-length),
       low _ (h .reel-at),
       low _ (h .reel-blocks),
+      low _ (h .objects),
     )
 
 pub entry-places : (n : List ℕ) (top : ℕ) → entryOf n top .touched .«place_at» ≡ placeBelow top (entryOf n top .touched .places)

@@ -43,7 +43,7 @@ numbersOf e =
     ∷ e .touched .«message_length» % numberLimit
     ∷ e .touched .«reel_at» % numberLimit
     ∷ e .touched .«reel_blocks» % numberLimit
-    ∷ e .objects
+    ∷ e .objects % numberLimit
     ∷ e .touched .places
     ∷ 0
     ∷ []
@@ -107,3 +107,4 @@ pub record Small (e : Entry) : Type 0 where
   pub message-length : e .touched .«message_length» < numberLimit
   pub reel-at : e .touched .«reel_at» < numberLimit
   pub reel-blocks : e .touched .«reel_blocks» < numberLimit
+  pub objects : e .objects < numberLimit

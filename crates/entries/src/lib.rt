@@ -22,7 +22,7 @@ use touched::Touched;
 // The state before a step with the used places of the table, and what the step touches.
 pub struct Entry {
     pub unit: Unit,
-    pub objects: u32,
+    pub objects: usize,
     pub touched: Touched,
 }
 

@@ -59,7 +59,7 @@ pub fn numbers_of(e: Entry) -> [u32; 31]
         low(t.message_length),
         low(t.reel_at),
         low(t.reel_blocks),
-        e.objects,
+        low(e.objects),
         t.places,
         0,
     ]
@@ -112,16 +112,17 @@ fn unit_of(n: [u32; 31]) -> Unit
 }
 
 // The first of f places that end below the place `top`; with more than that, place 0.
-fn place_below(top: u32, f: u32) -> usize
+fn place_below(top: usize, f: u32) -> usize
     ensures { λ r. ⌜ r ≡ placeBelow top f ⌝ }
 {
-    if (f == 0) | (top < f) {
+    let k = f as usize;
+    if (k == 0) | (top < k) {
         return 0;
     }
-    (top - f) as usize
+    top - k
 }
 
-fn touched_of(n: [u32; 31], top: u32) -> Touched
+fn touched_of(n: [u32; 31], top: usize) -> Touched
     ensures { λ r. ⌜ r ≡ touchedOf n top ⌝ }
 {
     Touched {
@@ -138,14 +139,14 @@ fn touched_of(n: [u32; 31], top: u32) -> Touched
 }
 
 // The entry with this head, of a step that left so many used places of the table.
-pub fn entry_of(n: [u32; 31], top: u32) -> Entry
+pub fn entry_of(n: [u32; 31], top: usize) -> Entry
     ensures { λ r. ⌜ r ≡ entryOf n top ⌝ }
 {
     let unit = unit_of(n);
     let touched = touched_of(n, top);
     Entry {
         unit,
-        objects: n[28],
+        objects: n[28] as usize,
         touched,
     }
 }

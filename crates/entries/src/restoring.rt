@@ -17,7 +17,7 @@ ghost use Rattle.entries.specs.Bytes.{headLength};
 ghost use Rattle.entries.specs.Entries.{entryFits, entryLength, newestEntry, savedIn, usedIn};
 
 // The entry whose head ends at `used`, where `top` places of the table are used.
-pub fn newest_entry(jrnl: &[u8], used: usize, top: u32) -> Entry
+pub fn newest_entry(jrnl: &[u8], used: usize, top: usize) -> Entry
     requires { ⌜ (headLength ≤ used) × (used ≤ length (now jrnl)) ⌝ }
     ensures { λ r. ⌜ r ≡ newestEntry top (usedIn used (now (jrnl .entry))) ⌝ }
 {
@@ -31,7 +31,7 @@ pub fn entry_fits(
     mounted: Lengths,
     memory: usize,
     reel: usize,
-    top: u32,
+    top: usize,
 ) -> bool
     requires { ⌜ Sizes memory reel ⌝ }
     ensures { λ r. ⌜ r ≡ entryFits e used mounted memory reel top ⌝ }
@@ -39,7 +39,7 @@ pub fn entry_fits(
     let t = e.touched;
     let same = (e.unit.lengths.memory == mounted.memory)
         & (e.unit.lengths.blocks == mounted.blocks);
-    if !(same & (touched_fits(t, memory, reel) & (t.places <= top))) {
+    if !(same & (touched_fits(t, memory, reel) & (t.places as usize <= top))) {
         return false;
     }
     BARE + saved_length(t, memory, reel) <= used

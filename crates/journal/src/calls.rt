@@ -3,6 +3,7 @@
 use commands::Answer;
 use state::Act;
 use steps::change;
+use steps::change_refusal;
 use steps::host_step;
 use steps::mount_table;
 use steps::refused;
@@ -33,7 +34,7 @@ pub fn write_tsdb(
 ) -> Outcome
     ensures { λ r. ⌜ Leaves (stepOn (worldOf s (now (mem .entry)) (now (reel .entry)) (now (table .entry)) (now (jrnl .entry))) (length (now (jrnl .entry))) (Ask.write-tsdb word)) (now (jrnl .entry)) r (now (mem .exit)) (now (reel .exit)) (now (table .entry)) (now (jrnl .exit)) ⌝ }
 {
-    let n = check(s, mem.len(), reel.len(), jrnl.len());
+    let n = change_refusal(s, mem.len(), reel.len(), table.len(), jrnl.len());
     if n != 0 {
         return refused(s, n);
     }
@@ -51,7 +52,7 @@ pub fn write_tssr(
 ) -> Outcome
     ensures { λ r. ⌜ Leaves (stepOn (worldOf s (now (mem .entry)) (now (reel .entry)) (now (table .entry)) (now (jrnl .entry))) (length (now (jrnl .entry))) Ask.write-tssr) (now (jrnl .entry)) r (now (mem .exit)) (now (reel .exit)) (now (table .entry)) (now (jrnl .exit)) ⌝ }
 {
-    let n = check(s, mem.len(), reel.len(), jrnl.len());
+    let n = change_refusal(s, mem.len(), reel.len(), table.len(), jrnl.len());
     if n != 0 {
         return refused(s, n);
     }
@@ -69,7 +70,7 @@ pub fn operate(
 ) -> Outcome
     ensures { λ r. ⌜ Leaves (stepOn (worldOf s (now (mem .entry)) (now (reel .entry)) (now (table .entry)) (now (jrnl .entry))) (length (now (jrnl .entry))) (Ask.operate act)) (now (jrnl .entry)) r (now (mem .exit)) (now (reel .exit)) (now (table .entry)) (now (jrnl .exit)) ⌝ }
 {
-    let n = check(s, mem.len(), reel.len(), jrnl.len());
+    let n = change_refusal(s, mem.len(), reel.len(), table.len(), jrnl.len());
     if n != 0 {
         return refused(s, n);
     }

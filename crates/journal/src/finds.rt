@@ -17,7 +17,7 @@ fn find_refusal(s: Session, table: usize) -> usize
     if session_wrong(s) {
         return 1;
     }
-    if places(table) < s.objects as usize {
+    if places(table) < s.objects {
         return 11;
     }
     0
@@ -43,10 +43,7 @@ fn finding(n: usize, x: Found) -> Finding
 pub fn file_place(s: Session, table: &[u8], f: usize) -> Finding
     ensures { λ r. ⌜ r ≡ fileOn s (now (table .entry)) f ⌝ }
 {
-    finding(
-        find_refusal(s, table.len()),
-        find_file(table, s.objects as usize, f),
-    )
+    finding(find_refusal(s, table.len()), find_file(table, s.objects, f))
 }
 
 // The place of the object that holds block b.
@@ -55,6 +52,6 @@ pub fn block_place(s: Session, table: &[u8], b: usize) -> Finding
 {
     finding(
         find_refusal(s, table.len()),
-        find_block(table, s.objects as usize, s.unit.tape.end, b),
+        find_block(table, s.objects, s.unit.tape.end, b),
     )
 }

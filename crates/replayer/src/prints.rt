@@ -42,6 +42,14 @@ fn crc_of(b: &[u8], n: usize, sums: &[usize; 256]) -> usize {
     crc(&b[0..m], sums)
 }
 
+// The used part of a table of n bytes: eight for each object, or all of it.
+fn used_bytes(objects: usize, n: usize) -> usize {
+    if n / 8 < objects {
+        return n;
+    }
+    8 * objects
+}
+
 // The result line over m bytes of memory, r of reel, and of the n bytes of the table those in use.
 fn print_result(
     t: Told,
@@ -53,7 +61,7 @@ fn print_result(
     n: usize,
     sums: &[usize; 256],
 ) {
-    let used = least(8 * t.session.objects as usize, n);
+    let used = used_bytes(t.session.objects, n);
     let mut out = line_space();
     let k = put_result(
         &mut out,

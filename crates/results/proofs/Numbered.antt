@@ -14,9 +14,9 @@ told : (b : Bool) → not (eqb (bitOf b) 0) ≡ b
 told true = refl
 told false = refl
 
-pub session-back : (s : Session) → s .unit .characteristics .address < 4294967296 → s .unit .characteristics .length < 4294967296 → s .objects < 4294967296 → sessionWith (fieldsOf s) ≡ s
+pub session-back : (s : Session) → s .unit .characteristics .address < 4294967296 → s .unit .characteristics .length < 4294967296 → sessionWith (fieldsOf s) ≡ s
 unfolding fieldsOf sessionWith unitWith
-session-back s h g o =
+session-back s h g =
     let r = s .unit .registers in
     let p = s .unit .panel in
     let a = s .unit .attention in
@@ -24,7 +24,6 @@ session-back s h g o =
     rw (
       low (k .address) h,
       low (k .length) g,
-      low (s .objects) o,
       told (r .rmr),
       told (r .nxm),
       told (r .nba),

@@ -78,4 +78,4 @@ unitWith n =
     }
 
 unfoldable pub sessionWith : List ℕ → Session
-sessionWith n = record { unit = unitWith n; objects = lowOf (nth n 20); used = nth n 19; journal = nth n 23 }
+sessionWith n = record { unit = unitWith n; objects = nth n 20; used = nth n 19; journal = nth n 23 }

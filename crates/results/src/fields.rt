@@ -40,7 +40,7 @@ fn fields(s: Session) -> [usize; 24]
         s.unit.characteristics.length as usize,
         flag(s.unit.attention.release_ie),
         s.used,
-        s.objects as usize,
+        s.objects,
         s.unit.lengths.memory,
         s.unit.lengths.blocks,
         s.journal,
@@ -99,7 +99,7 @@ fn session_of(f: [usize; 24]) -> Session
 {
     Session {
         unit: unit_of(f),
-        objects: low(f[20]),
+        objects: f[20],
         used: f[19],
         journal: f[23],
     }

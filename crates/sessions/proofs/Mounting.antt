@@ -3,6 +3,7 @@ use mathlib.Core.Path.{_≡_, refl, ap}
 use mathlib.Core.Bool.{Bool, false}
 use mathlib.Core.List.{List}
 use Prim.Native.Nat.{ℕ, _/_, _≤_}
+use native.Mathlib.Nat.{min-le-right}
 use native.Mathlib.Omega.{arith}
 use borrow.Author.Tests.{eqb-true, ltb-false}
 use lib.Dec.{eqb, ltb}
@@ -17,13 +18,12 @@ use Rattle.tape.proofs.Afresh.{objects-held}
 use Rattle.tape.specs.declared.Swept.{Swept}
 use Rattle.tape.specs.declared.Swept.the-variants as swept
 use Rattle.tape.specs.declared.BlockFault.{BlockFault}
-use Rattle.index.specs.Table.{placesIn}
+use Rattle.index.specs.Table.{placeLength, placesIn, placesLimit}
 use Rattle.index.proofs.Cuts.{filled-indexed}
 use Rattle.state.specs.Changes.{mountedAs}
 use Rattle.state.specs.declared.Unit.{Unit}
 use Rattle.state.proofs.Legal.{legal-mounted}
 use Rattle.commands.specs.declared.plans.Answer.the-variants as answer
-use Rattle.unit.proofs.Accepted.{Accepts, accepts}
 use Rattle.unit.specs.Mounts.{mountCallUnder, mountRefusal, mountSwept}
 use Rattle.unit.proofs.Accepted.{Accepts, accepts}
 use Rattle.worlds.specs.declared.Session.{Session}
@@ -120,6 +120,11 @@ module _ (old : Session) (m r tb : List ℕ) (journal e : ℕ) (online locked : 
             });
         whole = refl;
       })
+
+  -- its places can be counted in four bytes
+  pub mounted-few : worldFrom journal (mountMoment old m r tb journal e online locked) .core .objects ≤ placesLimit
+  unfolding mountedAs
+  mounted-few = rw (found .is) (omega (arith, found .places, min-le-right (length tb / placeLength) placesLimit))
 
   module _ (bytes : Bytes r) where
     held : Holds r e (objectsIn r e)

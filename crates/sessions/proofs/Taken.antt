@@ -9,11 +9,13 @@ use lib.Dec.{eqb}
 use lib.ListN.{length}
 use Rattle.lists.proofs.Cases.{by-test}
 use Rattle.state.proofs.Tests.{either}
+use Rattle.index.specs.Table.{placesLimit}
 use Rattle.commands.specs.declared.plans.Answer.{Answer}
 use Rattle.commands.specs.declared.plans.Answer.the-variants as answer
 use Rattle.unit.specs.Asks.{Ask}
 use Rattle.unit.specs.Cores.{Admitted}
 use Rattle.unit.specs.Steps.{Sound, Step, stepOf}
+use Rattle.unit.proofs.Rows.{enough-after}
 use Rattle.unit.proofs.Stepping.{sound}
 use Rattle.entries.specs.Entries.{entryLength}
 use Rattle.worlds.specs.Worlds.{Answered, World, answered, sessionOf}
@@ -122,6 +124,10 @@ module _ (n : ℕ) (w : World) (fit : Fit n w) where
     -- the step back after a step gives the world before it
     pub step-undone : backOn (onCall n c w .world) n ≡ answered (answer.Done false) w
     step-undone = rw (took n c w k .is) (taken-undone n w (doing c (w .core)) fit (doing-sound c k) has-room (took n c w k .places))
+
+    -- the places that are used after it can be counted in four bytes
+    pub step-few : onCall n c w .world .core .objects ≤ placesLimit
+    step-few = rw (took n c w k .is) (enough-after (length (w .core .table)) (w .core .objects) (doing c (w .core) .after .objects) (took n c w k .places) .few)
 
     pub step-fit : Fit n (onCall n c w .world)
     step-fit =

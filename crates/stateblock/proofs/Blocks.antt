@@ -89,6 +89,7 @@ small-entry b top h =
       message-length = s 25;
       reel-at = s 26;
       reel-blocks = s 27;
+      objects = s 28;
     }
 
 -- what a block is read as has numbers of at most four bytes
@@ -109,6 +110,7 @@ small-in b h =
       message-length = omega arith;
       reel-at = omega arith;
       reel-blocks = omega arith;
+      objects = s .objects;
     }
 
 -- the bytes of the numbers that were read are the bytes
@@ -242,7 +244,7 @@ module _ (n : List ℕ) (small : (i : ℕ) → getD n i 0 < numberLimit) (f : Fl
       ∷ flag 8 (b .0) i ∷ flag 9 (b .1) i ∷ flag 10 (b .2) i ∷ flag 11 (c .0) i ∷ flag 12 (c .1) i ∷ flag 13 (c .2) i
       ∷ nth n 14 ∷ nth n 15 ∷ flag 16 (d .0) i ∷ flag 17 (d .1) i ∷ flag 18 (d .2) i ∷ number 19 i ∷ number 20 i ∷ number 21 i ∷ number 22 i
       ∷ unused 23 (r .swb) i ∷ unused 24 (r .message .0) i ∷ unused 25 (r .message .1) i ∷ unused 26 (r .reel .0) i ∷ unused 27 (r .reel .1) i
-      ∷ nth n 28 ∷ unused 29 (r .free .0) i ∷ unused 30 (r .free .1) i ∷ []
+      ∷ number 28 i ∷ unused 29 (r .free .0) i ∷ unused 30 (r .free .1) i ∷ []
 
   numbers-own : length n ≡ headCount → numbersOf (entryWith (sessionWith (entryOf n 0))) ≡ n
   numbers-own long = each-own ∙ ap (elements (nth n) 0) (sym long) ∙ all-elements n

@@ -2,6 +2,7 @@
 pub mod Outs
 pub mod Entered
 pub mod Called
+pub mod Changing
 pub mod Readies
 pub mod Backs
 pub mod Mounting

@@ -2,8 +2,10 @@
 use mathlib.Core.Bool.{true, false}
 use mathlib.Core.List.{List}
 use mathlib.Core.Path.{_≡_}
-use Prim.Native.Nat.{ℕ, _+_, _≤_}
+use Prim.Native.Nat.{ℕ, _+_, _-_, _≤_}
+use lib.Dec.{eqb, ltb}
 use lib.ListN.{length}
+use Rattle.lists.specs.Pick.{pick}
 use Rattle.commands.specs.Answers.{isStep}
 use Rattle.commands.specs.declared.plans.Plan.{Plan}
 use Rattle.storing.specs.Stored.{Storable}
@@ -36,3 +38,10 @@ pub record HostReady (s : Session) (memory reel journal place n : ℕ) : Type 0 
 pub record Undoable (s : Session) (memory reel journal : ℕ) : Type 0 where
   pub sound : Unrefused s memory reel journal
   pub bare : entryBare ≤ s .used
+
+-- the first of refusals 1 to 4, 11 and 9 of a step that changes the state alone, or 0: its entry saves no bytes, and the objects stay
+unfoldable pub changeRefusal : Session → ℕ → ℕ → ℕ → ℕ → ℕ
+changeRefusal s memory reel table journal =
+    pick (eqb (checked s memory reel journal) 0)
+    (pick (tooSmall table (s .objects) (s .objects)) 11 (pick (ltb (s .journal - s .used) entryBare) 9 0))
+    (checked s memory reel journal)

@@ -4,6 +4,7 @@ mod steps;
 
 pub use mounts::mount_table;
 pub use steps::change;
+pub use steps::change_refusal;
 pub use steps::host_step;
 pub use steps::refused;
 pub use steps::step;

@@ -39,7 +39,7 @@ pub fn mount_table(
         answer: Answer::Done(interrupts),
         session: Session {
             unit,
-            objects: n as u32,
+            objects: n,
             used: 0,
             journal,
         },

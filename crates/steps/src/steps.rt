@@ -23,13 +23,14 @@ use unit::too_small;
 use unit::touched_by;
 use worlds::Outcome;
 use worlds::Session;
+use worlds::check;
 ghost use mathlib.Core.Bool.{false};
 ghost use mathlib.Core.Path.{_≡_};
 ghost use lib.ListN.{length};
 ghost use Rattle.unit.specs.Steps.{carried, changed, stored};
 ghost use Rattle.worlds.specs.Worlds.{Leaves, worldOf};
 ghost use Rattle.worlds.specs.Calls.{takenAs, undoOn};
-ghost use Rattle.steps.specs.Readiness.{CutReady, HostReady, Ready, Unrefused, Undoable};
+ghost use Rattle.steps.specs.Readiness.{CutReady, HostReady, Ready, Undoable, changeRefusal};
 
 // Refusal n changes nothing.
 pub fn refused(s: Session, n: usize) -> Outcome
@@ -77,7 +78,7 @@ fn take_step(
         answer,
         session: Session {
             unit: next,
-            objects: top as u32,
+            objects: top,
             used: s.used + n,
             journal: s.journal,
         },
@@ -96,20 +97,36 @@ pub fn step(
     requires { ⌜ Ready s p (length (now mem)) (length (now reel)) (length (now jrnl)) ⌝ }
     ensures { λ r. ⌜ Leaves (takenAs (worldOf s (now (mem .entry)) (now (reel .entry)) (now (table .entry)) (now (jrnl .entry))) (carried (record { unit = s .unit; objects = s .objects; memory = now (mem .entry); reel = now (reel .entry); table = now (table .entry) }) p) (p .answer)) (now (jrnl .entry)) r (now (mem .exit)) (now (reel .exit)) (now (table .exit)) (now (jrnl .exit)) ⌝ }
 {
-    let objects = s.objects as usize;
-    if too_small(table.len(), objects, objects) {
+    if too_small(table.len(), s.objects, s.objects) {
         return refused(s, 11);
     }
     let l = p.laid;
-    let c = cut_for(l, table, objects, reel);
-    let top = objects_after(l, c, objects);
-    if too_small(table.len(), objects, top) {
+    let c = cut_for(l, table, s.objects, reel);
+    let top = objects_after(l, c, s.objects);
+    if too_small(table.len(), s.objects, top) {
         return refused(s, 11);
     }
     take_step(s, p, c, top, mem, reel, table, jrnl)
 }
 
-// A change of the state alone: its entry saves no bytes, and nothing is stored.
+// The first of refusals 1 to 4, 11 and 9 of a step that changes the state alone, or 0.
+pub fn change_refusal(s: Session, memory: usize, reel: usize, table: usize, journal: usize) -> usize
+    ensures { λ r. ⌜ r ≡ changeRefusal s memory reel table journal ⌝ }
+{
+    let n = check(s, memory, reel, journal);
+    if n != 0 {
+        return n;
+    }
+    if too_small(table, s.objects, s.objects) {
+        return 11;
+    }
+    if s.journal - s.used < BARE {
+        return 9;
+    }
+    0
+}
+
+// A change of the state alone, which is not refused: its entry saves no bytes, and nothing is stored.
 pub fn change(
     s: Session,
     next: Unit,
@@ -118,13 +135,9 @@ pub fn change(
     table: &[u8],
     jrnl: &mut [u8],
 ) -> Outcome
-    requires { ⌜ Unrefused s (length (now mem)) (length (now reel)) (length (now jrnl)) ⌝ }
+    requires { ⌜ changeRefusal s (length (now mem)) (length (now reel)) (length (now table)) (length (now jrnl)) ≡ 0 ⌝ }
     ensures { λ r. ⌜ Leaves (takenAs (worldOf s (now (mem .entry)) (now (reel .entry)) (now (table .entry)) (now (jrnl .entry))) (carried (record { unit = s .unit; objects = s .objects; memory = now (mem .entry); reel = now (reel .entry); table = now (table .entry) }) (changed next)) (Answer.Done false)) (now (jrnl .entry)) r (now (mem .exit)) (now (reel .exit)) (now (table .entry)) (now (jrnl .exit)) ⌝ }
 {
-    let objects = s.objects as usize;
-    if too_small(table.len(), objects, objects) {
-        return refused(s, 11);
-    }
     let unit = s.unit;
     let touched = nothing();
     let e = Entry {
@@ -132,9 +145,6 @@ pub fn change(
         objects: s.objects,
         touched,
     };
-    if s.journal - s.used < BARE {
-        return refused(s, 9);
-    }
     enter_bare(jrnl, s.used, e);
     Outcome {
         answer: Answer::Done(false),
@@ -160,8 +170,7 @@ pub fn host_step(
     requires { ⌜ HostReady s (length (now mem)) (length (now reel)) (length (now jrnl)) place (length (now bytes)) ⌝ }
     ensures { λ r. ⌜ Leaves (takenAs (worldOf s (now (mem .entry)) (now (reel .entry)) (now (table .entry)) (now (jrnl .entry))) (stored (record { unit = s .unit; objects = s .objects; memory = now (mem .entry); reel = now (reel .entry); table = now (table .entry) }) place (now (bytes .entry))) (Answer.Done false)) (now (jrnl .entry)) r (now (mem .exit)) (now (reel .entry)) (now (table .entry)) (now (jrnl .exit)) ⌝ }
 {
-    let objects = s.objects as usize;
-    if too_small(table.len(), objects, objects) {
+    if too_small(table.len(), s.objects, s.objects) {
         return refused(s, 11);
     }
     let unit = s.unit;
@@ -202,7 +211,7 @@ pub fn undo(s: Session, mem: &mut [u8], reel: &mut [u8], table: &mut [u8], jrnl:
         & !state::state_wrong(unit)) {
         return refused(s, 8);
     }
-    if too_small(table.len(), s.objects as usize, e.objects as usize) {
+    if too_small(table.len(), s.objects, e.objects) {
         return refused(s, 11);
     }
     let n = entry_length(e, mem.len(), reel.len());

@@ -2,6 +2,7 @@
 use mathlib.Core.Path.{_≡_, refl, subst}
 use Prim.Native.Nat.{ℕ}
 use lib.ListN.{length}
+use Rattle.unit.proofs.Rows.{enough-after}
 use Rattle.worlds.specs.Worlds.{Answered, World, sessionOf}
 use Rattle.worlds.specs.Calls.{backOn, undone}
 use Rattle.sessions.specs.Calling.{stepKind}
@@ -18,7 +19,7 @@ unfolding stepKind undone
 went-as n w x stayed-back = stayed refl
 went-as n w x (brought-back e d p v f) =
     let q = back-passed n w e p v in
-    went refl (small-legal (sessionOf (backTo w e)) (q .legal) (q .used) (q .limit))
+    went refl (small-legal (sessionOf (backTo w e)) (q .legal) (q .used) (q .limit) (enough-after (length (w .core .table)) (w .core .objects) (e .objects) f .few))
 
 module _ (h : Host) (k : Block (h .block)) where
   abbrev does : Answered

@@ -3,6 +3,7 @@ use mathlib.Core.Path.{_≡_}
 use Prim.Native.Nat.{ℕ, _≤_}
 use native.Mathlib.Omega.{arith}
 use lib.ListN.{length}
+use Rattle.index.specs.Table.{placesLimit}
 use Rattle.state.specs.Legal.{Legal}
 use Rattle.entries.specs.Numbers.{Small}
 use Rattle.entries.proofs.Used.{length-used}
@@ -24,10 +25,10 @@ fit-in h sound =
       whole = length-used (s .used) (h .journal) (omega (arith, p .used, p .journal-is));
     }
 
--- a session that the checks let pass has numbers of four bytes
-pub small-legal : (s : Session) → Legal (s .unit) → s .used ≤ s .journal → s .journal ≤ journalLimit → Small (entryWith s)
+-- a session that the checks let pass, and whose places a table has, has numbers of four bytes
+pub small-legal : (s : Session) → Legal (s .unit) → s .used ≤ s .journal → s .journal ≤ journalLimit → s .objects ≤ placesLimit → Small (entryWith s)
 unfolding entryWith
-small-legal s l used limit =
+small-legal s l used limit few =
     record {
       position = omega (arith, l .place, l .capacity, l .blocks-most);
       end = omega (arith, l .capacity, l .blocks-most);
@@ -41,9 +42,10 @@ small-legal s l used limit =
       message-length = omega arith;
       reel-at = omega arith;
       reel-blocks = omega arith;
+      objects = omega arith;
     }
 
-pub small-fit : (n : ℕ) (w : World) → Fit n w → Small (entryWith (sessionOf w))
-small-fit n w fit =
+pub small-fit : (n : ℕ) (w : World) → Fit n w → w .core .objects ≤ placesLimit → Small (entryWith (sessionOf w))
+small-fit n w fit few =
     let p = passed (sessionOf w) (length (w .core .memory)) (length (w .core .reel)) n (fit .sound) in
-    small-legal (sessionOf w) (p .legal) (p .used) (p .limit)
+    small-legal (sessionOf w) (p .legal) (p .used) (p .limit) few

@@ -26,7 +26,7 @@ use Rattle.worlds.specs.Refusals.{journalLimit}
 use Rattle.worlds.specs.Calls.{mountOn, mountedBy, session}
 use Rattle.sessions.specs.Calling.{Here, journalOf, ledgerOf, lengthOf, stepKind, worldFrom}
 use Rattle.sessions.specs.Good.{Fresh, mountMoment}
-use Rattle.sessions.proofs.Mounting.{mount-session, mounted, mounted-fit}
+use Rattle.sessions.proofs.Mounting.{mount-session, mounted, mounted-few, mounted-fit}
 use Rattle.stateblock.specs.Block.{Block, stateBlock, sessionIn}
 use Rattle.ts11.specs.Given.{Host, Mounts, holding, worldIn}
 use Rattle.stateblock.proofs.Blocks.{block-back, block-is}
@@ -91,7 +91,7 @@ module _ (h : Host) (e : ℕ) (online locked : Bool) {b′ tb′ : List ℕ} {k 
 
   read-as : sessionOf (worldFrom n moment) ≡ sessionIn b′
   read-as =
-      sym (block-back (sessionOf (worldFrom n moment)) (small-fit n (worldFrom n moment) (mounted-fit old (h .memory) (h .reel) (h .table) n e online locked done)))
+      sym (block-back (sessionOf (worldFrom n moment)) (small-fit n (worldFrom n moment) (mounted-fit old (h .memory) (h .reel) (h .table) n e online locked done) (mounted-few old (h .memory) (h .reel) (h .table) n e online locked done)))
       ∙ ap sessionIn (ap stateBlock new-is ∙ sym its-block)
 
   its-moment : moment ≡ first after

@@ -6,7 +6,7 @@ use Rattle.worlds.specs.Worlds.{Answered}
 use Rattle.worlds.specs.Passes.{Fit}
 use Rattle.sessions.specs.Session.{Kind, looked, refused, stepped}
 use Rattle.sessions.specs.Calling.{Call, callKind, onCall}
-use Rattle.sessions.proofs.Taken.{looked-none, refused-none, sound-step, stays, step-done, step-fit}
+use Rattle.sessions.proofs.Taken.{looked-none, refused-none, sound-step, stays, step-done, step-few, step-fit}
 use Rattle.stateblock.specs.Block.{Block}
 use Rattle.ts11.specs.Given.{Gives, Host, worldIn}
 use Rattle.surface.specs.Hosting.{Returned, given}
@@ -30,7 +30,7 @@ module _ (c : Call) (h : Host) (k : Block (h .block)) where
   fit-before t = fit-in h (sound-step n (worldIn h) c t)
 
   call-went-by : (z : Kind) → callKind c (does .answer) ≡ z → Went (worldIn h) does
-  call-went-by stepped t = went (step-done c (does .answer) t) (small-fit n (does .world) (step-fit n (worldIn h) (fit-before t) c t))
+  call-went-by stepped t = went (step-done c (does .answer) t) (small-fit n (does .world) (step-fit n (worldIn h) (fit-before t) c t) (step-few n (worldIn h) (fit-before t) c t))
   call-went-by refused t = stayed (stays n c (worldIn h) (λ s. refused-none (sym t ∙ s)))
   call-went-by looked t = stayed (stays n c (worldIn h) (λ s. looked-none (sym t ∙ s)))
 

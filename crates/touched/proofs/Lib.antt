@@ -1,4 +1,5 @@
 -- Laws of what is saved and put back.
+pub mod Empty
 pub mod Parts
 pub mod PutBack
 pub mod Joins

@@ -6,9 +6,10 @@ use lists::gather;
 use lists::scatter;
 use tape::Geometry;
 ghost use mathlib.Core.Path.{_≡_};
-ghost use Prim.Native.Nat.{_+_, _≤_};
+ghost use Prim.Native.Nat.{_+_, _≤_, _%_};
 ghost use lib.Dec.{leb};
 ghost use lib.ListN.{length};
+ghost use Rattle.lists.specs.Places.{gathered, placed};
 ghost use Rattle.touched.specs.Touches.{PlacesIn, Restored, TouchedIn, none, savedBytes, savedLength, touchedFits};
 
 // No byte.
@@ -56,6 +57,28 @@ pub fn touched_fits(t: Touched, memory: usize, reel: usize) -> bool
     data & (message & blocks)
 }
 
+// The data's bytes from address a on fill b. Most steps move none, and are spared the call.
+fn save_data(b: &mut [u8], mem: &[u8], a: usize, swb: bool)
+    requires { ⌜ (a + length (now b) ≤ length (now mem)) × (length (now mem) % 2 ≡ 0) ⌝ }
+    ensures { λ _. ⌜ now (b .exit) ≡ gathered swb (now (mem .entry)) a (length (now (b .entry))) ⌝ }
+{
+    if b.len() == 0 {
+        return;
+    }
+    gather(b, mem, a, swb);
+}
+
+// And back.
+fn bring_data(d: &[u8], mem: &mut [u8], a: usize, swb: bool)
+    requires { ⌜ (a + length (now d) ≤ length (now mem)) × (length (now mem) % 2 ≡ 0) ⌝ }
+    ensures { λ _. ⌜ now (mem .exit) ≡ placed swb (now (mem .entry)) a (now (d .entry)) ⌝ }
+{
+    if d.len() == 0 {
+        return;
+    }
+    scatter(d, mem, a, swb);
+}
+
 // The bytes at these places fill b: the data's, the message's, the reel's, the table's.
 pub fn save(b: &mut [u8], t: Touched, mem: &[u8], reel: &[u8], table: &[u8])
     requires { ⌜ (length (now b) ≡ savedLength t) × TouchedIn t (length (now mem)) (length (now reel)) × PlacesIn t (length (now table)) ⌝ }
@@ -64,7 +87,7 @@ pub fn save(b: &mut [u8], t: Touched, mem: &[u8], reel: &[u8], table: &[u8])
     let message = t.data_length;
     let blocks = message + t.message_length;
     let places = blocks + Geometry::BLOCK * t.reel_blocks;
-    gather(&mut b[0..message], mem, t.data_at, t.swb);
+    save_data(&mut b[0..message], mem, t.data_at, t.swb);
     gather(&mut b[message..blocks], mem, t.message_at, false);
     gather(
         &mut b[blocks..places],
@@ -98,5 +121,5 @@ pub fn bring_back(b: &[u8], t: Touched, mem: &mut [u8], reel: &mut [u8], table: 
     );
     scatter(&b[blocks..places], reel, Geometry::BLOCK * t.reel_at, false);
     scatter(&b[message..blocks], mem, t.message_at, false);
-    scatter(&b[0..message], mem, t.data_at, t.swb);
+    bring_data(&b[0..message], mem, t.data_at, t.swb);
 }

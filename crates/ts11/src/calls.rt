@@ -91,7 +91,8 @@ pub extern "C" fn ts11_mount(
     let answer = o.answer;
     *block = block_in(answer);
     *fault = fault_in(answer);
-    close(state, o)
+    close(state, answer, o.session);
+    number_in(answer)
 }
 
 #[no_mangle]
@@ -108,10 +109,10 @@ pub extern "C" fn ts11_write_tsdb(
     if !block_right(state) {
         return 1;
     }
-    close(
-        state,
-        journal::write_tsdb(session_in(state), memory, reel, table, journal, word),
-    )
+    let o = journal::write_tsdb(session_in(state), memory, reel, table, journal, word);
+    let answer = o.answer;
+    close(state, answer, o.session);
+    number_in(answer)
 }
 
 #[no_mangle]
@@ -128,10 +129,10 @@ pub extern "C" fn ts11_write_tssr(
     if !block_right(state) {
         return 1;
     }
-    close(
-        state,
-        journal::write_tssr(session_in(state), memory, reel, table, journal),
-    )
+    let o = journal::write_tssr(session_in(state), memory, reel, table, journal);
+    let answer = o.answer;
+    close(state, answer, o.session);
+    number_in(answer)
 }
 
 fn act_of(write_lock: bool, on: bool) -> Act
@@ -159,17 +160,17 @@ pub extern "C" fn ts11_operate(
     if !block_right(state) {
         return 1;
     }
-    close(
-        state,
-        journal::operate(
-            session_in(state),
-            memory,
-            reel,
-            table,
-            journal,
-            act_of(write_lock, on),
-        ),
-    )
+    let o = journal::operate(
+        session_in(state),
+        memory,
+        reel,
+        table,
+        journal,
+        act_of(write_lock, on),
+    );
+    let answer = o.answer;
+    close(state, answer, o.session);
+    number_in(answer)
 }
 
 fn register_of(tssr: bool) -> Register
@@ -208,18 +209,18 @@ pub extern "C" fn ts11_host_store(
     if !block_right(state) {
         return 1;
     }
-    close(
-        state,
-        journal::host_store(
-            session_in(state),
-            memory,
-            reel,
-            table,
-            journal,
-            place,
-            bytes,
-        ),
-    )
+    let o = journal::host_store(
+        session_in(state),
+        memory,
+        reel,
+        table,
+        journal,
+        place,
+        bytes,
+    );
+    let answer = o.answer;
+    close(state, answer, o.session);
+    number_in(answer)
 }
 
 #[no_mangle]
@@ -251,7 +252,8 @@ pub extern "C" fn ts11_advance(
     *interrupt = interrupts(answer);
     *block = block_in(answer);
     *fault = fault_in(answer);
-    close(state, o)
+    close(state, answer, o.session);
+    number_in(answer)
 }
 
 #[no_mangle]
@@ -267,8 +269,8 @@ pub extern "C" fn ts11_step_back(
     if !block_right(state) {
         return 1;
     }
-    close(
-        state,
-        journal::step_back(session_in(state), memory, reel, table, journal),
-    )
+    let o = journal::step_back(session_in(state), memory, reel, table, journal);
+    let answer = o.answer;
+    close(state, answer, o.session);
+    number_in(answer)
 }

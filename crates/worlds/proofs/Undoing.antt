@@ -14,7 +14,7 @@ use Rattle.touched.specs.Touches.{TouchedIn, placeBelow, savedBytes}
 use Rattle.touched.proofs.PutBack.{memory-put-back, reel-put-back, table-put-back}
 use Rattle.unit.specs.Cores.{Core}
 use Rattle.unit.specs.Steps.{Sound, Step}
-use Rattle.unit.proofs.Rows.{enough-back}
+use Rattle.unit.proofs.Rows.{enough-back, enough-before}
 use Rattle.entries.specs.Entries.{entryBare, entryBytes, entryFits, entryLength, newestEntry, savedIn}
 use Rattle.entries.specs.Numbers.{Small}
 use Rattle.entries.specs.declared.Entry.{Entry}
@@ -97,26 +97,6 @@ module _ (n : ℕ) (w : World) (x : Step) (fit : Fit n w) (s : Sound (w .core) x
   unfolding entryFor
   its-objects = refl
 
-  small : Small entry
-  unfolding entryFor
-  small =
-      let l = was .legal in
-      let i = s .within in
-      record {
-        position = omega (arith, l .place, l .capacity, l .blocks-most);
-        end = omega (arith, l .capacity, l .blocks-most);
-        pointer = omega (arith, l .pointer);
-        class = omega (arith, l .class);
-        memory = omega (arith, l .memory-most);
-        blocks = omega (arith, l .blocks-most);
-        data-at = omega (arith, i .in-memory, was .memory-is, l .memory-most);
-        data-length = omega (arith, i .in-memory, was .memory-is, l .memory-most);
-        message-at = omega (arith, i .message-in-memory, was .memory-is, l .memory-most);
-        message-length = omega (arith, i .message-in-memory, was .memory-is, l .memory-most);
-        reel-at = omega (arith, i .in-reel, was .reel-is, l .blocks-most);
-        reel-blocks = omega (arith, i .in-reel, was .reel-is, l .blocks-most);
-      }
-
   module _ (room : w .ledger .used + entryLength entry ≤ w .ledger .length) where
     next-passes : Passed (sessionOf next) (length (x .after .memory)) (length (x .after .reel)) n
     next-passes =
@@ -155,6 +135,27 @@ module _ (n : ℕ) (w : World) (x : Step) (fit : Fit n w) (s : Sound (w .core) x
     module _ (large : noPlace (w .core) x ≡ false) where
       large-back : noPlaceBack (x .after) entry ≡ false
       large-back = rw (its-objects, s .only .long-table) (enough-back (length (w .core .table)) (w .core .objects) (x .after .objects) large)
+
+      small : Small entry
+      unfolding entryFor
+      small =
+          let l = was .legal in
+          let i = s .within in
+          record {
+            position = omega (arith, l .place, l .capacity, l .blocks-most);
+            end = omega (arith, l .capacity, l .blocks-most);
+            pointer = omega (arith, l .pointer);
+            class = omega (arith, l .class);
+            memory = omega (arith, l .memory-most);
+            blocks = omega (arith, l .blocks-most);
+            data-at = omega (arith, i .in-memory, was .memory-is, l .memory-most);
+            data-length = omega (arith, i .in-memory, was .memory-is, l .memory-most);
+            message-at = omega (arith, i .message-in-memory, was .memory-is, l .memory-most);
+            message-length = omega (arith, i .message-in-memory, was .memory-is, l .memory-most);
+            reel-at = omega (arith, i .in-reel, was .reel-is, l .blocks-most);
+            reel-blocks = omega (arith, i .in-reel, was .reel-is, l .blocks-most);
+            objects = omega (arith, enough-before (length (w .core .table)) (w .core .objects) (x .after .objects) large .few);
+          }
 
       undone-by : undoBy next entry ≡ answered (answer.Done false) w
       unfolding undoBy entryFor

@@ -11,7 +11,7 @@ use state::Unit;
 // The unit's state, the used places of the table, and the used journal and the mount's journal length, in bytes.
 pub struct Session {
     pub unit: Unit,
-    pub objects: u32,
+    pub objects: usize,
     pub used: usize,
     pub journal: usize,
 }

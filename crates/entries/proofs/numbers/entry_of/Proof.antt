@@ -13,9 +13,12 @@ touched-of-requires c κs = search needs
 array-read-t9 : tie.Need-array-read-t9
 array-read-t9 c = search needs
 
+cast-t10 : tie.Need-cast-t10
+cast-t10 c = search needs
+
 returns : tie.Need-returns
 unfolding entryOf
 returns c = rw (c .before .unit-of .ensures, c .touched-of .ensures)
 
 pub entry-of-spec : {M : Type 1} → statement M
-entry-of-spec = tie.close (tie.spec unit-of-requires touched-of-requires array-read-t9 returns)
+entry-of-spec = tie.close (tie.spec unit-of-requires touched-of-requires array-read-t9 cast-t10 returns)

@@ -83,10 +83,14 @@ low-requires-11 c κs = search needs
 low-requires-12 : tie.Need-low-requires-12
 low-requires-12 c κs = search needs
 
+low-requires-13 : tie.Need-low-requires-13
+low-requires-13 c κs = search needs
+
 returns : tie.Need-returns
 unfolding numbersOf
 returns c =
-    let c4 = c .before .before .before .before in
+    let c1 = c .before in
+    let c4 = c1 .before .before .before .before in
     let c8 = c4 .before .before .before .before in
     let c12 = c8 .before .before .before .before in
     let c16 = c12 .before .before .before .before in
@@ -100,8 +104,8 @@ returns c =
     ∷ (c12 .before .bit-of9 .ensures) i ∷ (c12 .bit-of10 .ensures) i ∷ start .args .e .unit .characteristics .address ∷ start .args .e .unit .characteristics .length
     ∷ (c8 .before .before .before .bit-of11 .ensures) i ∷ (c8 .before .before .bit-of12 .ensures) i ∷ (c8 .before .bit-of13 .ensures) i ∷ (c8 .low5 .ensures) i
     ∷ (c4 .before .before .before .low6 .ensures) i ∷ (c4 .before .before .low7 .ensures) i ∷ (c4 .before .low8 .ensures) i ∷ (c4 .bit-of14 .ensures) i
-    ∷ (c .before .before .before .low9 .ensures) i ∷ (c .before .before .low10 .ensures) i ∷ (c .before .low11 .ensures) i ∷ (c .low12 .ensures) i
-    ∷ start .args .e .objects ∷ start .args .e .touched .places ∷ 0 ∷ []
+    ∷ (c1 .before .before .before .low9 .ensures) i ∷ (c1 .before .before .low10 .ensures) i ∷ (c1 .before .low11 .ensures) i ∷ (c1 .low12 .ensures) i
+    ∷ (c .low13 .ensures) i ∷ start .args .e .touched .places ∷ 0 ∷ []
 
 pub numbers-of-spec : {M : Type 1} → statement M
 numbers-of-spec =
@@ -133,4 +137,5 @@ numbers-of-spec =
     low-requires-10
     low-requires-11
     low-requires-12
+    low-requires-13
     returns)

@@ -10,11 +10,8 @@ returns c = below-none (c .before .args .top) (c .before .args .f) (c .if1 .take
 sub-result : tie.Need-sub-result
 sub-result c = below-some (c .before .args .top) (c .before .args .f) (c .if1 .left) .0
 
-cast-result : tie.Need-cast-result
-cast-result c = search needs
-
 returns-2 : tie.Need-returns-2
 returns-2 c = below-some (c .before .args .top) (c .before .args .f) (c .if1 .left) .1
 
 pub place-below-spec : {M : Type 1} → statement M
-place-below-spec = tie.close (tie.spec returns sub-result cast-result returns-2)
+place-below-spec = tie.close (tie.spec returns sub-result returns-2)

@@ -10,6 +10,9 @@ use Rattle.entries.proofs.restoring.entry_fits.Tie as tie
 touched-fits-requires : tie.Need-touched-fits-requires
 touched-fits-requires c κs = search needs
 
+cast-if1 : tie.Need-cast-if1
+cast-if1 c = search needs
+
 returns : tie.Need-returns
 returns c = unfit _ _ _ _ _ _ _ _ refl (c .before .before .touched-fits .ensures) (c .if1 .taken)
 
@@ -30,4 +33,4 @@ returns-2 c = fit-by _ _ _ _ _ _ _ _ refl (c .before .before .before .touched-fi
 
 pub entry-fits-spec : {M : Type 1} → statement M
 entry-fits-spec =
-    tie.close (tie.spec touched-fits-requires returns saved-length-requires add-result returns-2)
+    tie.close (tie.spec touched-fits-requires cast-if1 returns saved-length-requires add-result returns-2)

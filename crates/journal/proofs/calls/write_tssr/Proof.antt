@@ -1,21 +1,20 @@
--- `write_tssr` meets its contract: refusals 1 to 4, else the change.
-use Rattle.steps.proofs.Outs.{guarded-goes, guarded-stops}
-use Rattle.steps.proofs.Called.{change-takes}
+-- `write_tssr` meets its contract: its refusals, else the change.
+use Rattle.steps.proofs.Changing.{change-goes, change-stops}
 use Rattle.unit.specs.Steps.{stepOf}
 use Rattle.worlds.specs.Calls.{stepOn}
 use borrow.Author.Needs.{needs}
 use Rattle.journal.proofs.calls.write_tssr.Statement.{statement}
 use Rattle.journal.proofs.calls.write_tssr.Tie as tie
 
-check-requires : tie.Need-check-requires
-check-requires c κs = search needs
+change-refusal-requires : tie.Need-change-refusal-requires
+change-refusal-requires c κs = search needs
 
 refused-requires : tie.Need-refused-requires
 refused-requires c κs = search needs
 
 returns : tie.Need-returns
-unfolding stepOn
-returns c = guarded-stops _ _ _ _ _ _ _ _ (c .before .before .check .ensures) (c .before .if1 .taken) (c .refused .ensures .0) (c .refused .ensures .1)
+unfolding stepOn stepOf
+returns c = change-stops _ _ _ _ _ _ _ (c .refused .ensures .1) _ (c .before .before .change-refusal .ensures) (c .before .if1 .taken) (c .refused .ensures .0)
 
 initialize-requires : tie.Need-initialize-requires
 initialize-requires c κs = search needs
@@ -34,13 +33,13 @@ same-length-3 c = search needs
 
 returns-2 : tie.Need-returns-2
 unfolding stepOn stepOf
-returns-2 c = guarded-goes _ _ _ _ _ _ _ _ _ _ _ _ (c .before .before .before .before .before .before .before .before .before .before .before .before .before .check .ensures) (c .before .before .before .before .before .before .before .before .before .before .before .before .if1 .left) (change-takes _ _ _ _ _ _ _ _ _ _ _ _ (c .before .before .before .before .before .before .before .before .before .before .initialize .ensures) (c .before .before .before .before .before .before .change .ensures))
+returns-2 c = change-goes _ _ _ _ _ _ _ _ _ _ _ _ _ (c .before .before .before .before .before .before .before .before .before .before .before .before .before .change-refusal .ensures) (c .before .before .before .before .before .before .before .before .before .before .before .before .if1 .left) (c .before .before .before .before .before .before .before .before .before .before .initialize .ensures) (c .before .before .before .before .before .before .change .ensures)
 
 pub write-tssr-spec : {M : Type 1} → statement M
 write-tssr-spec =
     tie.close
     (tie.spec
-    check-requires
+    change-refusal-requires
     refused-requires
     returns
     initialize-requires

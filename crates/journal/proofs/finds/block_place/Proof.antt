@@ -7,9 +7,6 @@ use Rattle.journal.proofs.finds.block_place.Tie as tie
 find-refusal-requires : tie.Need-find-refusal-requires
 find-refusal-requires c κs = search needs
 
-cast-find-block : tie.Need-cast-find-block
-cast-find-block c = search needs
-
 find-block-requires : tie.Need-find-block-requires
 find-block-requires c κs = search needs
 
@@ -18,8 +15,8 @@ finding-requires c κs = search needs
 
 returns : tie.Need-returns
 unfolding blockOn
-returns c = rw (← c .before .before .before .find-refusal .ensures, ← c .before .find-block .ensures) (c .finding .ensures)
+returns c = rw (← c .before .before .find-refusal .ensures, ← c .before .find-block .ensures) (c .finding .ensures)
 
 pub block-place-spec : {M : Type 1} → statement M
 block-place-spec =
-    tie.close (tie.spec find-refusal-requires cast-find-block find-block-requires finding-requires returns)
+    tie.close (tie.spec find-refusal-requires find-block-requires finding-requires returns)

@@ -7,9 +7,6 @@ use Rattle.journal.proofs.finds.file_place.Tie as tie
 find-refusal-requires : tie.Need-find-refusal-requires
 find-refusal-requires c κs = search needs
 
-cast-find-file : tie.Need-cast-find-file
-cast-find-file c = search needs
-
 find-file-requires : tie.Need-find-file-requires
 find-file-requires c κs = search needs
 
@@ -18,8 +15,8 @@ finding-requires c κs = search needs
 
 returns : tie.Need-returns
 unfolding fileOn
-returns c = rw (← c .before .before .before .find-refusal .ensures, ← c .before .find-file .ensures) (c .finding .ensures)
+returns c = rw (← c .before .before .find-refusal .ensures, ← c .before .find-file .ensures) (c .finding .ensures)
 
 pub file-place-spec : {M : Type 1} → statement M
 file-place-spec =
-    tie.close (tie.spec find-refusal-requires cast-find-file find-file-requires finding-requires returns)
+    tie.close (tie.spec find-refusal-requires find-file-requires finding-requires returns)

@@ -15,9 +15,6 @@ returns c = rw (← c .before .session-wrong .ensures, c .if1 .taken)
 places-requires : tie.Need-places-requires
 places-requires c κs = search needs
 
-cast-if2 : tie.Need-cast-if2
-cast-if2 c = search needs
-
 returns-2 : tie.Need-returns-2
 unfolding findRefusal
 returns-2 c = rw (← c .before .before .before .before .session-wrong .ensures, c .before .before .before .if1 .left, ← c .before .before .places .ensures, lt-ltb _ _ (c .if2 .taken))
@@ -28,4 +25,4 @@ returns-3 c = rw (← c .before .before .before .before .session-wrong .ensures,
 
 pub find-refusal-spec : {M : Type 1} → statement M
 find-refusal-spec =
-    tie.close (tie.spec session-wrong-requires returns places-requires cast-if2 returns-2 returns-3)
+    tie.close (tie.spec session-wrong-requires returns places-requires returns-2 returns-3)

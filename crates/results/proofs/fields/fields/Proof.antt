@@ -50,14 +50,10 @@ cast-t15 c = search needs
 flag-requires-13 : tie.Need-flag-requires-13
 flag-requires-13 c κs = search needs
 
-cast-t17 : tie.Need-cast-t17
-cast-t17 c = search needs
-
 returns : tie.Need-returns
 unfolding fieldsOf
 returns c =
-    let c1 = c .before in
-    let c3 = c1 .before .before .before in
+    let c3 = c .before .before .before in
     let c4 = c3 .before in
     let c5 = c4 .before in
     let c6 = c5 .before in
@@ -71,7 +67,7 @@ returns c =
     let c14 = c13 .before in
     let a = c14 .before .args .s in
     λ i.
-    a .unit .tape .position ∷ a .unit .tape .end ∷ a .unit .registers .pointer ∷ a .unit .registers .class ∷ (c14 .flag .ensures) i ∷ (c13 .flag2 .ensures) i ∷ (c12 .flag3 .ensures) i ∷ (c11 .flag4 .ensures) i ∷ (c10 .flag5 .ensures) i ∷ (c9 .flag6 .ensures) i ∷ (c8 .flag7 .ensures) i ∷ (c7 .flag8 .ensures) i ∷ (c6 .flag9 .ensures) i ∷ (c5 .flag10 .ensures) i ∷ (c4 .flag11 .ensures) i ∷ (c3 .flag12 .ensures) i ∷ a .unit .characteristics .address ∷ a .unit .characteristics .length ∷ (c1 .flag13 .ensures) i ∷ a .used ∷ a .objects ∷ a .unit .lengths .memory ∷ a .unit .lengths .blocks ∷ a .journal ∷ []
+    a .unit .tape .position ∷ a .unit .tape .end ∷ a .unit .registers .pointer ∷ a .unit .registers .class ∷ (c14 .flag .ensures) i ∷ (c13 .flag2 .ensures) i ∷ (c12 .flag3 .ensures) i ∷ (c11 .flag4 .ensures) i ∷ (c10 .flag5 .ensures) i ∷ (c9 .flag6 .ensures) i ∷ (c8 .flag7 .ensures) i ∷ (c7 .flag8 .ensures) i ∷ (c6 .flag9 .ensures) i ∷ (c5 .flag10 .ensures) i ∷ (c4 .flag11 .ensures) i ∷ (c3 .flag12 .ensures) i ∷ a .unit .characteristics .address ∷ a .unit .characteristics .length ∷ (c .flag13 .ensures) i ∷ a .used ∷ a .objects ∷ a .unit .lengths .memory ∷ a .unit .lengths .blocks ∷ a .journal ∷ []
 
 pub fields-spec : {M : Type 1} → statement M
 fields-spec =
@@ -92,5 +88,4 @@ fields-spec =
     cast-t14
     cast-t15
     flag-requires-13
-    cast-t17
     returns)

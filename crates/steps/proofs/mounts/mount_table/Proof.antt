@@ -19,9 +19,6 @@ returns c = table-lacks _ _ _ _ _ _ _ _ (c .before .before .before .count-object
 fill-table-requires : tie.Need-fill-table-requires
 fill-table-requires c κs = search needs
 
-cast-t16 : tie.Need-cast-t16
-cast-t16 c = search needs
-
 same-length : tie.Need-same-length
 same-length c = search needs
 
@@ -37,6 +34,5 @@ mount-table-spec =
     refused-requires
     returns
     fill-table-requires
-    cast-t16
     same-length
     returns-2)

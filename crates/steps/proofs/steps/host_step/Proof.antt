@@ -15,9 +15,6 @@ use borrow.Author.Needs.{needs}
 use Rattle.steps.proofs.steps.host_step.Statement.{statement}
 use Rattle.steps.proofs.steps.host_step.Tie as tie
 
-cast-objects : tie.Need-cast-objects
-cast-objects c = search needs
-
 too-small-requires : tie.Need-too-small-requires
 too-small-requires c κs = search needs
 
@@ -32,25 +29,25 @@ host-touched-requires c κs = search needs
 
 entry-length-requires : tie.Need-entry-length-requires
 entry-length-requires c κs =
-    let s = c .before .before .before .before .before .before .before .before .before .before in
+    let s = c .before .before .before .before .before .before .before .before .before in
     store-in (s .args .s) (s .args .mem .now) (s .args .reel .now) _ (s .pre .sound) _ (s .args .bytes .now) _ (c .host-touched .ensures) (s .pre .inside)
 
 sub-if2 : tie.Need-sub-if2
-sub-if2 c = omega (arith, passed _ _ _ _ (c .before .before .before .before .before .before .before .before .before .before .before .before .pre .sound .right) .used)
+sub-if2 c = omega (arith, passed _ _ _ _ (c .before .before .before .before .before .before .before .before .before .before .before .pre .sound .right) .used)
 
 refused-requires-2 : tie.Need-refused-requires-2
 refused-requires-2 c κs = search needs
 
 returns-2 : tie.Need-returns-2
 returns-2 c =
-    let s = c .before .before .before .before .before .before .before .before .before .before .before .before .before .before in
+    let s = c .before .before .before .before .before .before .before .before .before .before .before .before .before in
     let w = worldOf (s .args .s) (s .args .mem .now) (s .args .reel .now) (s .args .table .now) (s .args .jrnl .now) in
     let right = store-right _ _ _ (s .pre .short) (s .pre .inside) in
     taken-stops _ _ _ _ _ _ _ _ _ (store-entry (w .core) _ _ right _ (c .before .before .before .before .host-touched .ensures)) (c .before .before .before .entry-length .ensures) (ap (λ (d : Core). d .objects) (store-after (w .core) _ (s .args .bytes .now) right _ refl)) (sym (c .before .before .before .before .before .before .before .too-small .ensures) ∙ c .before .before .before .before .before .before .if1 .left) _ _ (c .before .if2 .taken) (c .refused2 .ensures .0) (c .refused2 .ensures .1)
 
 enter-run-requires : tie.Need-enter-run-requires
 enter-run-requires c κs =
-    let s = c .before .before .before .before .before .before .before .before .before .before .before .before .before .before .before in
+    let s = c .before .before .before .before .before .before .before .before .before .before .before .before .before .before in
     let w = worldOf (s .args .s) (s .args .mem .now) (s .args .reel .now) (s .args .table .now) (s .args .jrnl .now) in
     let touched = c .before .before .before .before .before .host-touched .ensures ∙ host-run _ _ in
     let sizes = sound-sizes (s .args .s) (s .args .mem .now) (s .args .reel .now) _ (s .pre .sound) in
@@ -64,11 +61,11 @@ enter-run-requires c κs =
 
 put-host-requires : tie.Need-put-host-requires
 put-host-requires c κs =
-    let s = c .before .before .before .before .before .before .before .before .before .before .before .before .before .before .before .before .before .before .before in
+    let s = c .before .before .before .before .before .before .before .before .before .before .before .before .before .before .before .before .before .before in
     (s .pre .inside, sound-sizes (s .args .s) (s .args .mem .now) (s .args .reel .now) _ (s .pre .sound) .even)
 
-add-t15 : tie.Need-add-t15
-add-t15 c = search needs
+add-t14 : tie.Need-add-t14
+add-t14 c = search needs
 
 same-length : tie.Need-same-length
 same-length c = search needs
@@ -79,7 +76,7 @@ same-length-2 c = search needs
 returns-3 : tie.Need-returns-3
 unfolding isStep
 returns-3 c =
-    let s = c .before .before .before .before .before .before .before .before .before .before .before .before .before .before .before .before .before .before .before .before .before .before .before .before in
+    let s = c .before .before .before .before .before .before .before .before .before .before .before .before .before .before .before .before .before .before .before .before .before .before .before in
     let w = worldOf (s .args .s) (s .args .mem .now) (s .args .reel .now) (s .args .table .now) (s .args .jrnl .now) in
     let right = store-right _ _ _ (s .pre .short) (s .pre .inside) in
     let touched = c .before .before .before .before .before .before .before .before .before .before .before .before .before .before .host-touched .ensures in
@@ -92,7 +89,6 @@ pub host-step-spec : {M : Type 1} → statement M
 host-step-spec =
     tie.close
     (tie.spec
-    cast-objects
     too-small-requires
     refused-requires
     returns
@@ -103,7 +99,7 @@ host-step-spec =
     returns-2
     enter-run-requires
     put-host-requires
-    add-t15
+    add-t14
     same-length
     same-length-2
     returns-3)

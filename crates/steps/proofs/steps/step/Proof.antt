@@ -10,9 +10,6 @@ use borrow.Author.Needs.{needs}
 use Rattle.steps.proofs.steps.step.Statement.{statement}
 use Rattle.steps.proofs.steps.step.Tie as tie
 
-cast-objects : tie.Need-cast-objects
-cast-objects c = search needs
-
 too-small-requires : tie.Need-too-small-requires
 too-small-requires c κs = search needs
 
@@ -27,7 +24,7 @@ cut-for-requires c κs = enough-before _ _ _ (sym (c .before .before .before .be
 
 objects-after-requires : tie.Need-objects-after-requires
 objects-after-requires c κs =
-    let s = c .before .before .before .before .before .before .before .before .before .before .before in
+    let s = c .before .before .before .before .before .before .before .before .before .before in
     cut-counted _ (s .args .table .now) _ (s .args .reel .now) _ (c .cut-for .ensures) (sym (c .before .before .before .before .before .too-small .ensures) ∙ c .before .before .before .before .if1 .left)
 
 too-small-requires-2 : tie.Need-too-small-requires-2
@@ -44,7 +41,7 @@ same-length-2 c = search needs
 
 returns-2 : tie.Need-returns-2
 returns-2 c =
-    let s = c .before .before .before .before .before .before .before .before .before .before .before .before .before .before .before in
+    let s = c .before .before .before .before .before .before .before .before .before .before .before .before .before .before in
     let w = worldOf (s .args .s) (s .args .mem .now) (s .args .reel .now) (s .args .table .now) (s .args .jrnl .now) in
     let top = step-objects (w .core) (s .args .p) _ (c .before .before .before .before .cut-for .ensures) _ (c .before .before .before .objects-after .ensures) in
     small-stops _ _ _ _ _ _ _ _ (sym (ap (tooSmall _ _) top) ∙ sym (c .before .before .too-small2 .ensures) ∙ c .before .if2 .taken) (c .refused2 .ensures .0) (c .refused2 .ensures .1)
@@ -52,7 +49,7 @@ returns-2 c =
 take-step-requires : tie.Need-take-step-requires
 take-step-requires c κs =
     record {
-      ready = c .before .before .before .before .before .before .before .before .before .before .before .before .before .before .before .before .before .before .pre;
+      ready = c .before .before .before .before .before .before .before .before .before .before .before .before .before .before .before .before .before .pre;
       cut = c .before .before .before .before .before .before .before .cut-for .ensures;
       after = c .before .before .before .before .before .before .objects-after .ensures;
       large = sym (c .before .before .before .before .before .too-small2 .ensures) ∙ c .before .before .before .before .if2 .left;
@@ -77,7 +74,6 @@ pub step-spec : {M : Type 1} → statement M
 step-spec =
     tie.close
     (tie.spec
-    cast-objects
     too-small-requires
     refused-requires
     returns

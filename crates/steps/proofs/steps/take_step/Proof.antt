@@ -49,11 +49,6 @@ fill-places-requires c κs =
     let sizes = sound-sizes (s .args .s) (s .args .mem .now) (s .args .reel .now) _ (s .pre .ready .sound) in
     (fills _ _ _ _ (s .args .reel .now) (s .args .table .now) _ _ (s .pre), omega (arith, s .pre .ready .storable .laid .room, sizes .reel-small))
 
-cast-t34 : tie.Need-cast-t34
-cast-t34 c =
-    let s = c .before .before .before .before .before .before .before .before .before .before .before .before .before .before .before .before .before .before .before .before .before .before .before .before .before .before .before .before .before in
-    omega (arith, top-room _ _ _ _ (s .args .reel .now) (s .args .table .now) _ _ (s .pre) .few)
-
 add-t17 : tie.Need-add-t17
 add-t17 c = search needs
 
@@ -89,7 +84,6 @@ take-step-spec =
     enter-requires
     store-requires
     fill-places-requires
-    cast-t34
     add-t17
     same-length
     same-length-2

@@ -26,12 +26,6 @@ refused-requires c κs = search needs
 returns : tie.Need-returns
 returns c = undo-stops _ _ _ _ _ _ _ _ (c .before .before .before .before .before .before .newest-entry .ensures) (c .before .before .before .entry-fits .ensures) (c .before .before .state-wrong .ensures) _ (c .before .if1 .taken) (c .refused .ensures .0) (c .refused .ensures .1)
 
-cast-too-small : tie.Need-cast-too-small
-cast-too-small c = search needs
-
-cast-too-small-2 : tie.Need-cast-too-small-2
-cast-too-small-2 c = search needs
-
 too-small-requires : tie.Need-too-small-requires
 too-small-requires c κs = search needs
 
@@ -39,31 +33,31 @@ refused-requires-2 : tie.Need-refused-requires-2
 refused-requires-2 c κs = search needs
 
 returns-2 : tie.Need-returns-2
-returns-2 c = undo-lacks _ _ _ _ _ _ _ _ (c .before .before .before .before .before .before .before .before .before .before .newest-entry .ensures) (c .before .before .before .before .before .before .before .entry-fits .ensures) (c .before .before .before .before .before .before .state-wrong .ensures) (c .before .before .before .before .before .if1 .left) _ (c .before .before .too-small .ensures) _ (c .before .if2 .taken) (c .refused2 .ensures .0) (c .refused2 .ensures .1)
+returns-2 c = undo-lacks _ _ _ _ _ _ _ _ (c .before .before .before .before .before .before .before .before .newest-entry .ensures) (c .before .before .before .before .before .entry-fits .ensures) (c .before .before .before .before .state-wrong .ensures) (c .before .before .before .if1 .left) _ (c .before .before .too-small .ensures) _ (c .before .if2 .taken) (c .refused2 .ensures .0) (c .refused2 .ensures .1)
 
 entry-length-requires : tie.Need-entry-length-requires
 entry-length-requires c κs =
-    let s = c .before .before .before .before .before .before .before .before .before .before .before .before .before .before in
+    let s = c .before .before .before .before .before .before .before .before .before .before .before .before in
     let z = sound-sizes (s .args .s) (s .args .mem .now) (s .args .reel .now) _ (s .pre .sound) in
-    undo-fits (s .args .s) (s .args .mem .now) (s .args .reel .now) (s .args .table .now) (s .args .jrnl .now) _ _ _ (c .before .before .before .before .before .before .before .before .before .newest-entry .ensures) (c .before .before .before .before .before .before .entry-fits .ensures) (c .before .before .before .before .before .state-wrong .ensures) z (c .before .before .before .before .if1 .left) .places
+    undo-fits (s .args .s) (s .args .mem .now) (s .args .reel .now) (s .args .table .now) (s .args .jrnl .now) _ _ _ (c .before .before .before .before .before .before .before .newest-entry .ensures) (c .before .before .before .before .entry-fits .ensures) (c .before .before .before .state-wrong .ensures) z (c .before .before .if1 .left) .places
 
 bring-entry-back-requires : tie.Need-bring-entry-back-requires
 bring-entry-back-requires c κs =
-    let s = c .before .before .before .before .before .before .before .before .before .before .before .before .before .before .before .before .before .before in
+    let s = c .before .before .before .before .before .before .before .before .before .before .before .before .before .before .before .before in
     let z = sound-sizes (s .args .s) (s .args .mem .now) (s .args .reel .now) _ (s .pre .sound) in
-    let f = undo-fits (s .args .s) (s .args .mem .now) (s .args .reel .now) (s .args .table .now) (s .args .jrnl .now) _ _ _ (c .before .before .before .before .before .before .before .before .before .before .before .before .before .newest-entry .ensures) (c .before .before .before .before .before .before .before .before .before .before .entry-fits .ensures) (c .before .before .before .before .before .before .before .before .before .state-wrong .ensures) z (c .before .before .before .before .before .before .before .before .if1 .left) in
+    let f = undo-fits (s .args .s) (s .args .mem .now) (s .args .reel .now) (s .args .table .now) (s .args .jrnl .now) _ _ _ (c .before .before .before .before .before .before .before .before .before .before .before .newest-entry .ensures) (c .before .before .before .before .before .before .before .before .entry-fits .ensures) (c .before .before .before .before .before .before .before .state-wrong .ensures) z (c .before .before .before .before .before .before .if1 .left) in
     let p = passed _ _ _ _ (s .pre .sound .right) in (
       omega (arith, p .used, p .journal-is),
       f .inside,
       f .places,
-      undo-places (s .args .s) (s .args .mem .now) (s .args .reel .now) (s .args .table .now) (s .args .jrnl .now) _ _ _ (c .before .before .before .before .before .before .before .before .before .before .before .before .before .newest-entry .ensures) (c .before .before .before .before .before .before .before .before .before .before .entry-fits .ensures) (c .before .before .before .before .before .before .before .before .before .state-wrong .ensures) (c .before .before .before .before .before .before .before .before .if1 .left) _ (c .before .before .before .before .before .too-small .ensures) z (c .before .before .before .before .if2 .left),
+      undo-places (s .args .s) (s .args .mem .now) (s .args .reel .now) (s .args .table .now) (s .args .jrnl .now) _ _ _ (c .before .before .before .before .before .before .before .before .before .before .before .newest-entry .ensures) (c .before .before .before .before .before .before .before .before .entry-fits .ensures) (c .before .before .before .before .before .before .before .state-wrong .ensures) (c .before .before .before .before .before .before .if1 .left) _ (c .before .before .before .before .before .too-small .ensures) z (c .before .before .before .before .if2 .left),
     )
 
 sub-t12 : tie.Need-sub-t12
 sub-t12 c =
-    let s = c .before .before .before .before .before .before .before .before .before .before .before .before .before .before .before .before .before .before .before .before .before .before .before .before .before .before in
+    let s = c .before .before .before .before .before .before .before .before .before .before .before .before .before .before .before .before .before .before .before .before .before .before .before .before in
     let z = sound-sizes (s .args .s) (s .args .mem .now) (s .args .reel .now) _ (s .pre .sound) in
-    let f = undo-fits (s .args .s) (s .args .mem .now) (s .args .reel .now) (s .args .table .now) (s .args .jrnl .now) _ _ _ (c .before .before .before .before .before .before .before .before .before .before .before .before .before .before .before .before .before .before .before .before .before .newest-entry .ensures) (c .before .before .before .before .before .before .before .before .before .before .before .before .before .before .before .before .before .before .entry-fits .ensures) (c .before .before .before .before .before .before .before .before .before .before .before .before .before .before .before .before .before .state-wrong .ensures) z (c .before .before .before .before .before .before .before .before .before .before .before .before .before .before .before .before .if1 .left) in
+    let f = undo-fits (s .args .s) (s .args .mem .now) (s .args .reel .now) (s .args .table .now) (s .args .jrnl .now) _ _ _ (c .before .before .before .before .before .before .before .before .before .before .before .before .before .before .before .before .before .before .before .newest-entry .ensures) (c .before .before .before .before .before .before .before .before .before .before .before .before .before .before .before .before .entry-fits .ensures) (c .before .before .before .before .before .before .before .before .before .before .before .before .before .before .before .state-wrong .ensures) z (c .before .before .before .before .before .before .before .before .before .before .before .before .before .before .if1 .left) in
     omega (arith, f .inside, c .before .before .before .before .before .before .before .before .before .before .before .entry-length .ensures)
 
 same-length : tie.Need-same-length
@@ -76,7 +70,7 @@ same-length-3 : tie.Need-same-length-3
 same-length-3 c = search needs
 
 returns-3 : tie.Need-returns-3
-returns-3 c = undo-goes _ _ _ _ _ _ _ _ (c .before .before .before .before .before .before .before .before .before .before .before .before .before .before .before .before .before .before .before .before .before .newest-entry .ensures) (c .before .before .before .before .before .before .before .before .before .before .before .before .before .before .before .before .before .before .entry-fits .ensures) (c .before .before .before .before .before .before .before .before .before .before .before .before .before .before .before .before .before .state-wrong .ensures) (c .before .before .before .before .before .before .before .before .before .before .before .before .before .before .before .before .if1 .left) _ (c .before .before .before .before .before .before .before .before .before .before .before .before .before .too-small .ensures) _ _ _ _ (c .before .before .before .before .before .before .before .before .before .before .before .before .if2 .left) (c .before .before .before .before .before .before .before .before .before .before .before .entry-length .ensures) (c .before .before .before .before .before .before .before .bring-entry-back .ensures)
+returns-3 c = undo-goes _ _ _ _ _ _ _ _ (c .before .before .before .before .before .before .before .before .before .before .before .before .before .before .before .before .before .before .before .newest-entry .ensures) (c .before .before .before .before .before .before .before .before .before .before .before .before .before .before .before .before .entry-fits .ensures) (c .before .before .before .before .before .before .before .before .before .before .before .before .before .before .before .state-wrong .ensures) (c .before .before .before .before .before .before .before .before .before .before .before .before .before .before .if1 .left) _ (c .before .before .before .before .before .before .before .before .before .before .before .before .before .too-small .ensures) _ _ _ _ (c .before .before .before .before .before .before .before .before .before .before .before .before .if2 .left) (c .before .before .before .before .before .before .before .before .before .before .before .entry-length .ensures) (c .before .before .before .before .before .before .before .bring-entry-back .ensures)
 
 pub undo-spec : {M : Type 1} → statement M
 undo-spec =
@@ -87,8 +81,6 @@ undo-spec =
     state-wrong-requires
     refused-requires
     returns
-    cast-too-small
-    cast-too-small-2
     too-small-requires
     refused-requires-2
     returns-2

@@ -1,4 +1,4 @@
--- `bring_back` meets its contract: a copy and three scatters put the saved bytes back. What it requires lies far back, so it is named.
+-- `bring_back` meets its contract: a copy, two scatters and the data put the saved bytes back. What it requires lies far back, so it is named.
 use borrow.Author.Needs.{needs}
 use Rattle.touched.proofs.Joins.{parts-brought}
 use Rattle.touched.proofs.saving.bring_back.Statement.{statement}
@@ -58,19 +58,19 @@ scatter-requires-2 c κs =
     let p = c .before .before .before .before .before .before .before .before .before .before .before .before .before .before .before .before .before .before .before .before .pre in
     search needs
 
-sub-scatter-3 : tie.Need-sub-scatter-3
-sub-scatter-3 c = search needs
+sub-bring-data : tie.Need-sub-bring-data
+sub-bring-data c = search needs
 
-part-scatter-start-3 : tie.Need-part-scatter-start-3
-part-scatter-start-3 c = search needs
+part-bring-data-start : tie.Need-part-bring-data-start
+part-bring-data-start c = search needs
 
-part-scatter-end-3 : tie.Need-part-scatter-end-3
-part-scatter-end-3 c =
+part-bring-data-end : tie.Need-part-bring-data-end
+part-bring-data-end c =
     let p = c .before .before .before .before .before .before .before .before .before .before .before .before .before .before .before .before .before .before .before .before .before .before .before .pre in
     search needs
 
-scatter-requires-3 : tie.Need-scatter-requires-3
-scatter-requires-3 c κs =
+bring-data-requires : tie.Need-bring-data-requires
+bring-data-requires c κs =
     let p = c .before .before .before .before .before .before .before .before .before .before .before .before .before .before .before .before .before .before .before .before .before .before .before .before .before .pre in
     search needs
 
@@ -86,7 +86,7 @@ same-length-3 c = search needs
 returns : tie.Need-returns
 returns c =
     let s = c .before .before .before .before .before .before .before .before .before .before .before .before .before .before .before .before .before .before .before .before .before .before .before .before .before .before .before .before in
-    parts-brought (s .args .t) (s .args .b .now) (s .args .mem .now) (s .args .reel .now) (s .args .table .now) _ _ _ _ (s .pre .0) (c .before .before .before .before .before .before .before .before .before .before .before .before .before .before .before .before .before .before .copy .ensures) (c .before .before .before .before .before .before .before .before .before .before .before .before .scatter .ensures) (c .before .before .before .before .before .before .before .scatter2 .ensures) (c .before .before .scatter3 .ensures)
+    parts-brought (s .args .t) (s .args .b .now) (s .args .mem .now) (s .args .reel .now) (s .args .table .now) _ _ _ _ (s .pre .0) (c .before .before .before .before .before .before .before .before .before .before .before .before .before .before .before .before .before .before .copy .ensures) (c .before .before .before .before .before .before .before .before .before .before .before .before .scatter .ensures) (c .before .before .before .before .before .before .before .scatter2 .ensures) (c .before .before .bring-data .ensures)
 
 pub bring-back-spec : {M : Type 1} → statement M
 bring-back-spec =
@@ -108,10 +108,10 @@ bring-back-spec =
     part-scatter-start-2
     part-scatter-end-2
     scatter-requires-2
-    sub-scatter-3
-    part-scatter-start-3
-    part-scatter-end-3
-    scatter-requires-3
+    sub-bring-data
+    part-bring-data-start
+    part-bring-data-end
+    bring-data-requires
     same-length
     same-length-2
     same-length-3

@@ -1,4 +1,4 @@
--- `save` meets its contract: three gathers and a copy fill the lent slice. What it requires lies far back, so it is named.
+-- `save` meets its contract: the data, two gathers and a copy fill the lent slice. What it requires lies far back, so it is named.
 use borrow.Author.Needs.{needs}
 use Rattle.touched.proofs.Joins.{parts-saved}
 use Rattle.touched.proofs.saving.save.Statement.{statement}
@@ -12,6 +12,18 @@ mul-places c = search needs
 
 add-places : tie.Need-add-places
 add-places c = search needs
+
+sub-save-data : tie.Need-sub-save-data
+sub-save-data c = search needs
+
+part-save-data-start : tie.Need-part-save-data-start
+part-save-data-start c = search needs
+
+part-save-data-end : tie.Need-part-save-data-end
+part-save-data-end c = search needs
+
+save-data-requires : tie.Need-save-data-requires
+save-data-requires c κs = search needs
 
 sub-gather : tie.Need-sub-gather
 sub-gather c = search needs
@@ -34,23 +46,11 @@ part-gather-start-2 c = search needs
 part-gather-end-2 : tie.Need-part-gather-end-2
 part-gather-end-2 c = search needs
 
-gather-requires-2 : tie.Need-gather-requires-2
-gather-requires-2 c κs = search needs
-
-sub-gather-3 : tie.Need-sub-gather-3
-sub-gather-3 c = search needs
-
-part-gather-start-3 : tie.Need-part-gather-start-3
-part-gather-start-3 c = search needs
-
-part-gather-end-3 : tie.Need-part-gather-end-3
-part-gather-end-3 c = search needs
-
 mul-gather : tie.Need-mul-gather
 mul-gather c = search needs
 
-gather-requires-3 : tie.Need-gather-requires-3
-gather-requires-3 c κs = search needs
+gather-requires-2 : tie.Need-gather-requires-2
+gather-requires-2 c κs = search needs
 
 mul-copy : tie.Need-mul-copy
 mul-copy c =
@@ -74,7 +74,7 @@ same-length c = search needs
 returns : tie.Need-returns
 returns c =
     let s = c .before .before .before .before .before .before .before .before .before .before .before .before .before .before .before .before .before .before .before .before .before .before .before .before .before in
-    parts-saved (s .args .t) (s .args .mem .now) (s .args .reel .now) (s .args .table .now) (s .args .b .now) _ _ _ _ (s .pre .0) (s .pre .2) (c .before .before .before .before .before .before .before .before .before .before .before .before .before .before .before .before .before .gather .ensures) (c .before .before .before .before .before .before .before .before .before .before .before .before .before .gather2 .ensures) (c .before .before .before .before .before .before .before .before .gather3 .ensures) (c .before .before .copy .ensures)
+    parts-saved (s .args .t) (s .args .mem .now) (s .args .reel .now) (s .args .table .now) (s .args .b .now) _ _ _ _ (s .pre .0) (s .pre .2) (c .before .before .before .before .before .before .before .before .before .before .before .before .before .before .before .before .before .save-data .ensures) (c .before .before .before .before .before .before .before .before .before .before .before .before .before .gather .ensures) (c .before .before .before .before .before .before .before .before .gather2 .ensures) (c .before .before .copy .ensures)
 
 pub save-spec : {M : Type 1} → statement M
 save-spec =
@@ -83,6 +83,10 @@ save-spec =
     add-blocks
     mul-places
     add-places
+    sub-save-data
+    part-save-data-start
+    part-save-data-end
+    save-data-requires
     sub-gather
     part-gather-start
     part-gather-end
@@ -90,12 +94,8 @@ save-spec =
     sub-gather-2
     part-gather-start-2
     part-gather-end-2
-    gather-requires-2
-    sub-gather-3
-    part-gather-start-3
-    part-gather-end-3
     mul-gather
-    gather-requires-3
+    gather-requires-2
     mul-copy
     cast-copy
     mul-copy-2

@@ -31,6 +31,9 @@ fault-in-requires c κs = search needs
 close-requires : tie.Need-close-requires
 close-requires c κs = search needs
 
+number-in-requires : tie.Need-number-in-requires
+number-in-requires c κs = search needs
+
 same-length : tie.Need-same-length
 same-length c = search needs
 
@@ -45,11 +48,11 @@ same-length-4 c = search needs
 
 returns-2 : tie.Need-returns-2
 returns-2 c =
-    let right = c .before .before .before .before .before .before .before .before .before .before .before .before .before .before .before .before .before .before .before .before .before .before .block-right .ensures in
-    let opens = c .before .before .before .before .before .before .before .before .before .before .before .before .before .before .before .before .before .before .before .before .before .if1 .left in
-    let read = c .before .before .before .before .before .before .before .before .before .before .before .before .before .before .before .before .before .before .before .session-in .ensures in
-    let does = c .before .before .before .before .before .before .before .before .before .before .before .before .before .before .advance .ensures in
-    (step-goes _ _ right _ _ _ _ _ _ opens read _ does (c .close .ensures .0) (c .close .ensures .1), step-told _ _ right _ _ _ _ _ _ opens read _ does (c .before .before .before .before .before .is-step .ensures) (c .before .before .before .before .interrupts .ensures) (c .before .before .before .block-in .ensures) (c .before .before .fault-in .ensures))
+    let right = c .before .before .before .before .before .before .before .before .before .before .before .before .before .before .before .before .before .before .before .before .before .before .before .block-right .ensures in
+    let opens = c .before .before .before .before .before .before .before .before .before .before .before .before .before .before .before .before .before .before .before .before .before .before .if1 .left in
+    let read = c .before .before .before .before .before .before .before .before .before .before .before .before .before .before .before .before .before .before .before .before .session-in .ensures in
+    let does = c .before .before .before .before .before .before .before .before .before .before .before .before .before .before .before .advance .ensures in
+    (step-goes _ _ right _ _ _ _ _ _ opens read _ does (c .number-in .ensures) (c .before .close .ensures), step-told _ _ right _ _ _ _ _ _ opens read _ does (c .before .before .before .before .before .before .is-step .ensures) (c .before .before .before .before .before .interrupts .ensures) (c .before .before .before .before .block-in .ensures) (c .before .before .before .fault-in .ensures))
 
 pub ts11-advance-spec : {M : Type 1} → statement M
 ts11-advance-spec =
@@ -64,6 +67,7 @@ ts11-advance-spec =
     block-in-requires
     fault-in-requires
     close-requires
+    number-in-requires
     same-length
     same-length-2
     same-length-3

@@ -19,6 +19,9 @@ host-store-requires c κs = search needs
 close-requires : tie.Need-close-requires
 close-requires c κs = search needs
 
+number-in-requires : tie.Need-number-in-requires
+number-in-requires c κs = search needs
+
 same-length : tie.Need-same-length
 same-length c = search needs
 
@@ -26,7 +29,7 @@ same-length-2 : tie.Need-same-length-2
 same-length-2 c = search needs
 
 returns-2 : tie.Need-returns-2
-returns-2 c = step-goes _ _ (c .before .before .before .before .before .before .before .before .before .before .before .before .block-right .ensures) _ _ _ _ _ _ (c .before .before .before .before .before .before .before .before .before .before .before .if1 .left) (c .before .before .before .before .before .before .before .before .session-in .ensures) _ (c .before .before .before .before .before .host-store .ensures) (c .close .ensures .0) (c .close .ensures .1)
+returns-2 c = step-goes _ _ (c .before .before .before .before .before .before .before .before .before .before .before .before .before .block-right .ensures) _ _ _ _ _ _ (c .before .before .before .before .before .before .before .before .before .before .before .before .if1 .left) (c .before .before .before .before .before .before .before .before .before .before .session-in .ensures) _ (c .before .before .before .before .before .before .before .host-store .ensures) (c .number-in .ensures) (c .before .close .ensures)
 
 pub ts11-host-store-spec : {M : Type 1} → statement M
 ts11-host-store-spec =
@@ -37,6 +40,7 @@ ts11-host-store-spec =
     session-in-requires
     host-store-requires
     close-requires
+    number-in-requires
     same-length
     same-length-2
     returns-2)

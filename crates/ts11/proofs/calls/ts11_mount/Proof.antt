@@ -23,14 +23,17 @@ fault-in-requires c κs = search needs
 close-requires : tie.Need-close-requires
 close-requires c κs = search needs
 
+number-in-requires : tie.Need-number-in-requires
+number-in-requires c κs = search needs
+
 same-length : tie.Need-same-length
 same-length c = search needs
 
 returns : tie.Need-returns
 returns c =
-    let a = c .before .before .before .before .before .before .before .before .before .before .before .before .args in
-    mounts (λ (s : Session). mountOn s (a .memory-length) (now (a .reel)) (length (now (a .table))) (a .journal-length) (a .end) (a .online) (a .locked)) _ _ _ _ _ _ _ _ _ _ (c .before .before .before .before .before .before .before .before .session-in .ensures) (c .before .before .before .before .before .before .mount .ensures .0) (c .before .before .before .before .before .before .mount .ensures .1) (c .close .ensures .0) (c .close .ensures .1) (c .before .before .before .block-in .ensures) (c .before .before .fault-in .ensures)
+    let a = c .before .before .before .before .before .before .before .before .before .before .before .before .before .args in
+    mounts (λ (s : Session). mountOn s (a .memory-length) (now (a .reel)) (length (now (a .table))) (a .journal-length) (a .end) (a .online) (a .locked)) _ _ _ _ _ _ _ _ _ _ (c .before .before .before .before .before .before .before .before .before .session-in .ensures) (c .before .before .before .before .before .before .before .mount .ensures .0) (c .before .before .before .before .before .before .before .mount .ensures .1) (c .number-in .ensures) (c .before .close .ensures) (c .before .before .before .before .block-in .ensures) (c .before .before .before .fault-in .ensures)
 
 pub ts11-mount-spec : {M : Type 1} → statement M
 ts11-mount-spec =
-    tie.close (tie.spec session-in-requires mount-requires block-in-requires fault-in-requires close-requires same-length returns)
+    tie.close (tie.spec session-in-requires mount-requires block-in-requires fault-in-requires close-requires number-in-requires same-length returns)

@@ -24,6 +24,9 @@ operate-requires c κs = search needs
 close-requires : tie.Need-close-requires
 close-requires c κs = search needs
 
+number-in-requires : tie.Need-number-in-requires
+number-in-requires c κs = search needs
+
 same-length : tie.Need-same-length
 same-length c = search needs
 
@@ -34,7 +37,7 @@ same-length-3 : tie.Need-same-length-3
 same-length-3 c = search needs
 
 returns-2 : tie.Need-returns-2
-returns-2 c = step-goes _ _ (c .before .before .before .before .before .before .before .before .before .before .before .before .before .before .before .before .block-right .ensures) _ _ _ _ _ _ (c .before .before .before .before .before .before .before .before .before .before .before .before .before .before .before .if1 .left) (c .before .before .before .before .before .before .before .before .before .before .before .before .session-in .ensures) _ (asked _ _ _ _ _ _ _ _ _ _ (ap Ask.operate (c .before .before .before .before .before .before .before .before .act-of .ensures)) (c .before .before .before .before .before .before .before .operate .ensures)) (c .close .ensures .0) (c .close .ensures .1)
+returns-2 c = step-goes _ _ (c .before .before .before .before .before .before .before .before .before .before .before .before .before .before .before .before .before .block-right .ensures) _ _ _ _ _ _ (c .before .before .before .before .before .before .before .before .before .before .before .before .before .before .before .before .if1 .left) (c .before .before .before .before .before .before .before .before .before .before .before .before .before .before .session-in .ensures) _ (asked _ _ _ _ _ _ _ _ _ _ (ap Ask.operate (c .before .before .before .before .before .before .before .before .before .before .act-of .ensures)) (c .before .before .before .before .before .before .before .before .before .operate .ensures)) (c .number-in .ensures) (c .before .close .ensures)
 
 pub ts11-operate-spec : {M : Type 1} → statement M
 ts11-operate-spec =
@@ -46,6 +49,7 @@ ts11-operate-spec =
     act-of-requires
     operate-requires
     close-requires
+    number-in-requires
     same-length
     same-length-2
     same-length-3

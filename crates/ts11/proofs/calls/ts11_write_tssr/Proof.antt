@@ -19,6 +19,9 @@ write-tssr-requires c κs = search needs
 close-requires : tie.Need-close-requires
 close-requires c κs = search needs
 
+number-in-requires : tie.Need-number-in-requires
+number-in-requires c κs = search needs
+
 same-length : tie.Need-same-length
 same-length c = search needs
 
@@ -29,7 +32,7 @@ same-length-3 : tie.Need-same-length-3
 same-length-3 c = search needs
 
 returns-2 : tie.Need-returns-2
-returns-2 c = step-goes _ _ (c .before .before .before .before .before .before .before .before .before .before .before .before .before .before .before .block-right .ensures) _ _ _ _ _ _ (c .before .before .before .before .before .before .before .before .before .before .before .before .before .before .if1 .left) (c .before .before .before .before .before .before .before .before .before .before .before .session-in .ensures) _ (c .before .before .before .before .before .before .before .write-tssr .ensures) (c .close .ensures .0) (c .close .ensures .1)
+returns-2 c = step-goes _ _ (c .before .before .before .before .before .before .before .before .before .before .before .before .before .before .before .before .block-right .ensures) _ _ _ _ _ _ (c .before .before .before .before .before .before .before .before .before .before .before .before .before .before .before .if1 .left) (c .before .before .before .before .before .before .before .before .before .before .before .before .before .session-in .ensures) _ (c .before .before .before .before .before .before .before .before .before .write-tssr .ensures) (c .number-in .ensures) (c .before .close .ensures)
 
 pub ts11-write-tssr-spec : {M : Type 1} → statement M
 ts11-write-tssr-spec =
@@ -40,6 +43,7 @@ ts11-write-tssr-spec =
     session-in-requires
     write-tssr-requires
     close-requires
+    number-in-requires
     same-length
     same-length-2
     same-length-3
