@@ -1,10 +1,8 @@
 #!/usr/bin/env python3
 """unproved.py: the crates with their contracts left out, compiled as Rust into target/unproved/.
 
-For running a change on the vectors before it is proved: `target/unproved/replay < SCRIPT`, or a host test linked with
-target/unproved/libts11.a (-lpthread -ldl -lm). It proves nothing, and no test of the gate uses it. Wants rustc. C can't hand that
-archive a slice whose pointer is in the last register: rustc puts such a slice on the stack whole, and the toolchain's compiler does not.
-`unproved.py ts11` compiles that crate and those below it alone.
+For running a change on the vectors before it is proved: `target/unproved/replay < SCRIPT`. It proves nothing, and no test of the gate uses it. Wants rustc.
+`unproved.py replay` compiles that program and the crates below it alone. The library, for host tests and for counting, is draft.py's.
 """
 import os
 import re
@@ -63,7 +61,7 @@ def stripped(text):
 
 
 def compile_rust(source, name, kind, uses):
-    made = os.path.join(OUT, name if kind == "bin" else f"lib{name}.{'a' if kind == 'staticlib' else 'rlib'}")
+    made = os.path.join(OUT, name if kind == "bin" else f"lib{name}.rlib")
     words = ["rustc", "--edition", "2021", "-A", "warnings", "-O", "-C", "overflow-checks=on"]
     words += ["--crate-type", kind, "--crate-name", name, source, "-L", OUT, "-o", made]
     for used in uses:
@@ -92,8 +90,6 @@ def build_crate(name, uses):
         compile_rust(main, name, "bin", uses)
         return
     compile_rust(library, name, "rlib", uses)
-    if "extern \"C\"" in "".join(open(os.path.join(folder, f)).read() for f in os.listdir(folder)):
-        compile_rust(library, name, "staticlib", uses)
 
 
 compile_rust(write(os.path.join(OUT, "src", "libc.rs"), LIBC), "libc", "rlib", [])

@@ -15,7 +15,7 @@ use Rattle.lists.proofs.Cases.{by-test, past}
 use Rattle.tape.specs.Objects.{Object, blocksIn, blocksOf, gap, mark, record-of}
 use Rattle.tape.proofs.Accepted.{clash}
 use Rattle.tape.proofs.Fronts.{blocks-low, blocks-more, nth}
-use Rattle.index.specs.Finding.{Begins, Filed, HoldsBlock, blockFound, fileFound, files, no-file}
+use Rattle.index.specs.Finding.{FileBegins, Filed, HoldsBlock, blockFound, fileFound, files, no-file}
 use Rattle.index.specs.Halving.{halved, numberIn, ofBlocks, ofMarks}
 use Rattle.index.specs.Table.{marksIn, marksOf, placeLength, placesIn, placesLimit}
 use Rattle.index.specs.declared.Found.the-variants as found
@@ -120,7 +120,7 @@ module _ {tb : List ℕ} {n : ℕ} {os : List Object} (w : Worked tb n os) (room
   large = omega arith
 
   -- every place before the file's first has fewer marks, and none from there on
-  pub file-found : {f i : ℕ} → Begins os f i → fileFound tb n f ≡ found.At i
+  pub file-found : {f i : ℕ} → FileBegins os f i → fileFound tb n f ≡ found.At i
   file-found {f} {i} x =
       let long : length os ≡ length (x .before) + suc (length (x .after)) = ap length (x .whole) ∙ length-append (x .before) (x .object ∷ x .after) in
       let below : i < n = omega (arith, w .count, x .place) in
@@ -131,7 +131,7 @@ module _ {tb : List ℕ} {n : ℕ} {os : List Object} (w : Worked tb n os) (room
       (λ j l k. omega (arith, marks-nth w j k, marks-low os i j l, ap marksOf front, x .marks)) in
       sym (file-at tb n f (placesIn (length tb)) refl large i (sym at) below)
 
-  pub file-begins : {f i : ℕ} → fileFound tb n f ≡ found.At i → Begins os f i
+  pub file-begins : {f i : ℕ} → fileFound tb n f ≡ found.At i → FileBegins os f i
   file-begins {f} {i} e =
       let t = file-told tb n i f e in
       let l : i < length os = omega (arith, t .1, w .count) in

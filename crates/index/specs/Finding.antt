@@ -1,5 +1,4 @@
 -- What is found in a table of n places, of whatever bytes. A table too small for its count has no answer.
-use mathlib.Core.Bool.{Bool, true, false}
 use mathlib.Core.List.{List, [], _∷_, _++_}
 use mathlib.Core.Path.{_≡_}
 use Prim.Native.Nat.{ℕ, _+_, _-_, _≤_, _<_}
@@ -31,7 +30,7 @@ pub data Filed : List Object → Type 0 where
   files : (os : List Object) → Filed (os ++ mark ∷ [])
 
 -- "the place where file n begins (the object after the n-th mark)": file f of the objects os begins with the one of number i
-pub record Begins (os : List Object) (f i : ℕ) : Type 0 where
+pub record FileBegins (os : List Object) (f i : ℕ) : Type 0 where
   pub before : List Object
   pub object : Object
   pub after : List Object

@@ -1,6 +1,6 @@
 -- Where the checks let pass, what a step touches lies inside memory and reel, and what an advance planned can be carried out.
-use mathlib.Core.Path.{_≡_, refl, sym, ap, subst, _∙_}
-use mathlib.Core.Bool.{Bool, true, false, _||_, true≢false}
+use mathlib.Core.Path.{_≡_, sym, ap, subst, _∙_}
+use mathlib.Core.Bool.{Bool, false}
 use mathlib.Core.List.{List}
 use Prim.Native.Nat.{ℕ, _+_, _*_, _≤_}
 use native.Mathlib.Omega.{arith}
@@ -8,7 +8,7 @@ use borrow.Author.Tests.{ltb-false}
 use lib.Dec.{ltb}
 use lib.ListN.{length}
 use Rattle.state.proofs.Tests.{neither}
-use Rattle.index.specs.Table.{placeLength, placesIn, placesLimit}
+use Rattle.index.specs.Table.{placeLength, placesLimit}
 use Rattle.index.specs.declared.Cut.{Cut}
 use Rattle.motions.specs.declared.parts.Laid.{Laid}
 use Rattle.commands.specs.Answers.{isStep}
@@ -61,15 +61,6 @@ host-ready s memory reel journal place n k t e f dt h =
       short = ltb-false hostLimit n (q .0);
       inside = ltb-false memory (place + n) (q .1);
     }
-
--- a table that is too small for the objects now is so whatever comes after
-pub small-now : (table n n′ : ℕ) → tooSmall table n n ≡ true → tooSmall table n n′ ≡ true
-unfolding tooSmall
-small-now table n n′ h = by-part (ltb (placesIn table) n) (ltb (placesIn table) n′) h
-  where
-    by-part : (a b : Bool) → (a || a) ≡ true → (a || b) ≡ true
-    by-part true b h = refl
-    by-part false b h = absurd (true≢false (sym h))
 
 pub cut-counted : (l : Laid) (tb : List ℕ) (n : ℕ) (r : List ℕ) (x : Cut) → x ≡ cutFor l tb n r → tooSmall (length tb) n n ≡ false → x .place ≤ placesLimit
 cut-counted l tb n r x e h =

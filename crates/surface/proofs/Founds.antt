@@ -12,7 +12,7 @@ use Rattle.tape.specs.Objects.{Holds, Object, blocksOf}
 use Rattle.tape.proofs.Afresh.{objects-are}
 use Rattle.tape.proofs.Fronts.{objects-few}
 use Rattle.index.specs.Finding.{HoldsBlock, blockFound, fileFound}
-use Rattle.index.specs.Finding.{Begins as FileBegins}
+use Rattle.index.specs.Finding.{FileBegins}
 use Rattle.index.specs.Table.{placeLength, placesIn, placesLimit, usedPlaces}
 use Rattle.index.specs.declared.Found.{Found}
 use Rattle.index.specs.declared.Found.the-variants as found

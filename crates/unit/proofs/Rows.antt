@@ -1,6 +1,6 @@
 -- The table's places that a step fills: as many as the objects that it lays, at the end of the used part, and inside a table that is large enough.
-use mathlib.Core.Path.{_≡_, refl, _∙_}
-use mathlib.Core.Bool.{Bool, true, false}
+use mathlib.Core.Path.{_≡_, refl, sym, _∙_}
+use mathlib.Core.Bool.{Bool, true, false, _||_, true≢false}
 use mathlib.Core.List.{List, _∷_}
 use Prim.Native.Nat.{ℕ, _+_, _-_, _*_, _/_, _≤_}
 use native.Mathlib.Nat.{min-le-left, min-le-right}
@@ -128,6 +128,15 @@ module _ (table n n′ : ℕ) (h : tooSmall table n n′ ≡ false) where
   pub enough-back : tooSmall table n′ n ≡ false
   unfolding tooSmall
   enough-back = rw (both .1, both .0)
+
+-- a table that is too small for the objects now is so whatever comes after
+pub small-now : (table n n′ : ℕ) → tooSmall table n n ≡ true → tooSmall table n n′ ≡ true
+unfolding tooSmall
+small-now table n n′ h = by-part (ltb (placesIn table) n) (ltb (placesIn table) n′) h
+  where
+    by-part : (a b : Bool) → (a || a) ≡ true → (a || b) ≡ true
+    by-part true b h = refl
+    by-part false b h = absurd (true≢false (sym h))
 
 -- the places that a step fills lie inside a table that is large enough
 inside : (at f top table : ℕ) → at ≡ placeBelow top f → f ≤ top → placeLength * top ≤ table → placeLength * (at + f) ≤ table

@@ -1,6 +1,5 @@
 -- `place_below`: a difference, with a test before it.
 use Rattle.touched.proofs.Fits.{below-none, below-some}
-use borrow.Author.Needs.{needs}
 use Rattle.entries.proofs.numbers.place_below.Statement.{statement}
 use Rattle.entries.proofs.numbers.place_below.Tie as tie
 

@@ -7,7 +7,8 @@ use Rattle.unit.specs.Cores.{Core}
 use Rattle.unit.proofs.Touches.{host-run}
 use Rattle.steps.proofs.Outs.{small-stops, taken-goes, taken-stops}
 use Rattle.steps.proofs.Entered.{store-after, store-entry, store-right}
-use Rattle.steps.proofs.Readies.{small-now, sound-sizes, store-in}
+use Rattle.steps.proofs.Readies.{sound-sizes, store-in}
+use Rattle.unit.proofs.Rows.{small-now}
 use Rattle.worlds.specs.Worlds.{worldOf}
 use Rattle.worlds.proofs.Passing.{passed, room}
 use native.Mathlib.Omega.{arith}

@@ -3,7 +3,8 @@ use mathlib.Core.Path.{ap, sym, _∙_}
 use Rattle.unit.specs.Steps.{tooSmall}
 use Rattle.steps.proofs.Outs.{small-stops}
 use Rattle.steps.proofs.Entered.{step-objects}
-use Rattle.steps.proofs.Readies.{cut-counted, small-now}
+use Rattle.steps.proofs.Readies.{cut-counted}
+use Rattle.unit.proofs.Rows.{small-now}
 use Rattle.unit.proofs.Rows.{enough-before}
 use Rattle.worlds.specs.Worlds.{worldOf}
 use borrow.Author.Needs.{needs}

@@ -1,7 +1,7 @@
 -- `take_step` meets its contract: refusal 9, or the entry first and then the stores, the table's behind the reel's.
 use Rattle.steps.proofs.Outs.{taken-goes, taken-stops}
 use Rattle.steps.proofs.Entered.{step-after, step-entry, step-objects}
-use Rattle.steps.proofs.Readies.{filled-in, fills, sound-sizes, step-in, top-room}
+use Rattle.steps.proofs.Readies.{filled-in, fills, sound-sizes, step-in}
 use Rattle.worlds.specs.Worlds.{worldOf}
 use Rattle.worlds.proofs.Passing.{passed, room}
 use native.Mathlib.Omega.{arith}
