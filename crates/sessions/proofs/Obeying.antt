@@ -1,18 +1,24 @@
 -- Demand 2 of an advance that is a step: from the laws over its plan.
 use mathlib.Core.Bool.{Bool, true, false}
 use mathlib.Core.List.{List}
-use mathlib.Core.Logic.{⊎-elim}
+use mathlib.Core.Logic.{_⊎_, ⊎-elim}
 use mathlib.Core.Path.{_≡_, refl}
-use Prim.Native.Nat.{ℕ}
+use Prim.Native.Nat.{ℕ, _+_, _*_, _<_, _≤_}
 use borrow.Author.Tests.{eqb-true}
 use lib.Dec.{eqb}
+use lib.ListN.{getD}
 use Rattle.lists.proofs.Cases.{by-test}
 use Rattle.tape.specs.Objects.{Holds, Object}
+use Rattle.index.specs.Cutting.{extended}
+use Rattle.index.specs.Table.{placeLength, tableFrom}
+use Rattle.index.proofs.Cuts.{extended-other}
 use Rattle.signals.specs.declared.packet.Header.{Header}
 use Rattle.moves.specs.Between.{Bound}
+use Rattle.motions.specs.Parts.{noLay}
+use Rattle.motions.specs.declared.parts.Laid.{Laid}
 use Rattle.commands.specs.declared.plans.Answer.the-variants as answer
 use Rattle.commands.specs.declared.plans.Plan.{Plan}
-use Rattle.storing.specs.Stored.{memoryAfter, reelAfter}
+use Rattle.storing.specs.Stored.{laidObject, laidObjects, memoryAfter, reelAfter}
 use Rattle.advance.specs.Rules.{writes}
 use Rattle.advance.specs.Steps.{advanced}
 use Rattle.demands.specs.Done.{Sent}
@@ -30,7 +36,9 @@ use Rattle.kept.proofs.NoRoom.{no-room-retry, no-room-told, none-found}
 use Rattle.kept.proofs.Telling.{room-told, room-told-retry}
 use Rattle.kept.proofs.Unwritten.{writes-or-stays}
 use Rattle.unit.specs.Cores.{Admitted, Core}
-use Rattle.unit.specs.Steps.{cutOf, objectsAfter, tableAfter}
+use Rattle.unit.specs.Steps.{cutFor, cutOf, objectsAfter, tableAfter}
+use Rattle.unit.specs.Touching.{laidPlaces, objectPlaces}
+use Rattle.unit.proofs.Rows.{places-laid}
 use Rattle.unit.proofs.Stepping.{advanced-fits}
 use Rattle.sessions.specs.Rules.{Obeys, Short, again, at-once, headerIn, objectIn, packetIn}
 
@@ -59,6 +67,20 @@ module _ (c : Core) (a : Admitted c) (i : Bool) where
         reel = reelAfter plan (c .memory) (c .reel);
         table = tableAfter c (plan .laid);
       }
+
+  -- the table off the places of what is laid
+  table-off : (l : Laid) (j : ℕ) → (j < placeLength * cutOf c l .place) ⊎ (placeLength * (cutOf c l .place + laidPlaces l) ≤ j) → getD (tableAfter c l) j 0 ≡ getD (c .table) j 0
+  unfolding tableAfter
+  table-off l j f = extended-other (c .table) (cutOf c l) (l .at) (laidObjects (c .memory) l) j (rw (places-laid (c .memory) l) f)
+
+  -- where nothing is laid, no place is filled
+  none-filled : tableAfter c noLay ≡ c .table
+  unfolding tableAfter extended cutFor laidPlaces objectPlaces laidObjects laidObject tableFrom
+  none-filled = refl
+
+  none-counted : objectsAfter noLay (cutOf c noLay) (c .objects) ≡ c .objects
+  unfolding objectsAfter laidPlaces objectPlaces
+  none-counted = refl
 
   module _ (done : plan .answer ≡ answer.Done i) where
     sent : Fetched (c .unit) (c .memory) (c .reel) → Tells (headerIn c) → Sent (c .unit) (c .memory) (c .reel)
@@ -94,8 +116,11 @@ module _ (c : Core) (a : Admitted c) (i : Bool) where
                 state = refl;
                 memory = refl;
                 reel = refl;
+                objects = refl;
+                places = refl;
                 memory-stays = memory-stays (c .unit) (c .memory) (c .reel) (advanced-fits c a);
                 reel-stays = reel-stays (c .unit) (c .memory) (c .reel);
+                table-stays = λ j f. table-off (plan .laid) j f;
               };
           table = carried-as (started (c .unit) (c .memory) (c .reel)) (c .memory) (c .reel) (headerIn c) (packetIn c);
           read = λ f code. read-done (c .unit) (c .memory) (c .reel) (a .legal .place) f code (sent f (code-tells (headerIn c) 1 code (refl, refl)));
@@ -106,5 +131,5 @@ module _ (c : Core) (a : Admitted c) (i : Bool) where
           told = told-as;
           no-room = full-as;
           none-found = λ w e none. none-found (c .unit) (c .memory) (c .reel) w (write-sent w) e (a .legal .place) none;
-          unwritten = λ n. ⊎-elim (λ w. absurd (n w)) (λ y. (rw (y .0) (none-laid (c .reel) (c .memory)), y .1)) (writes-or-stays (c .unit) (c .memory) (c .reel) (a .legal .place));
+          unwritten = λ n. ⊎-elim (λ w. absurd (n w)) (λ y. (rw (y .0) (none-laid (c .reel) (c .memory)), y .1, rw (y .0) none-filled, rw (y .0) none-counted)) (writes-or-stays (c .unit) (c .memory) (c .reel) (a .legal .place));
         }

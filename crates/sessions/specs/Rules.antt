@@ -1,7 +1,7 @@
 -- Demand 2, whole: "Registers, message packet, moved bytes, termination class, reel and position are those of document 01, reading forward and in
 -- reverse and writing. Done plus residual equals the count asked. Memory outside the named bytes stays." Request [2] changes step 7: "Demand 2 then means
 -- this rule." What holds of an advance that is a step,
--- between the state, memory and reel that the call was handed and those that it left. No well formed reel is asked, but where objects are spoken of.
+-- between the state, memory, reel and table ([8]) that the call was handed and those that it left. No well formed reel is asked, but where objects are spoken of.
 use mathlib.Core.Bool.{Bool, true, false}
 use mathlib.Core.List.{List}
 use mathlib.Core.Logic.{_⊎_}
@@ -11,6 +11,7 @@ use lib.Dec.{eqb, ltb}
 use lib.ListN.{getD}
 use Rattle.tape.specs.Numbers.{blockBytes}
 use Rattle.tape.specs.Objects.{Holds, Object, blocksIn}
+use Rattle.index.specs.Table.{placeLength}
 use Rattle.signals.specs.declared.packet.Header.{Header}
 use Rattle.signals.specs.declared.packet.Packet.{Packet}
 use Rattle.moves.specs.Between.{Bound}
@@ -28,6 +29,8 @@ use Rattle.demands.specs.Ways.{Fetched, Way, header, packet, started}
 use Rattle.kept.specs.Leaving.{WriteRuns, WriteTold, Wrote, objectFor}
 use Rattle.kept.specs.NoRoom.{Found, NoRoom, NoneFound}
 use Rattle.unit.specs.Cores.{Core}
+use Rattle.unit.specs.Steps.{cutOf, objectsAfter, tableAfter}
+use Rattle.unit.specs.Touching.{laidPlaces}
 
 -- the header and the packet of the command that waits, and the object that it lays if it is a Write or Format
 abbrev pub headerIn : Core → Header
@@ -48,14 +51,18 @@ pub data Short (c : Core) (short : Bool) : Type 0 where
 
 -- from c to c′, and whether it interrupts
 module _ (c : Core) (interrupts : Bool) (c′ : Core) where
-  -- the step is what the plan q says, and nothing else: memory off q's data and message, and the reel off the blocks that q lays, stay
+  -- the step is what the plan q says, and nothing else: memory off q's data and message, the reel off the blocks that q lays, and the table off their places, stay
   pub record Follows (q : Plan) : Type 0 where
     pub answer : q .answer ≡ answer.Done interrupts
     pub state : c′ .unit ≡ q .unit
     pub memory : c′ .memory ≡ memoryAfter q (c .memory) (c .reel)
     pub reel : c′ .reel ≡ reelAfter q (c .memory) (c .reel)
+    pub objects : c′ .objects ≡ objectsAfter (q .laid) (cutOf c (q .laid)) (c .objects)
+    pub places : c′ .table ≡ tableAfter c (q .laid)
     pub memory-stays : (j : ℕ) → OffData (q .moved) j → OffMessage q j → getD (c′ .memory) j 0 ≡ getD (c .memory) j 0
     pub reel-stays : (j : ℕ) → (j < blockBytes * q .laid .at) ⊎ (blockBytes * (q .laid .at + laidBlocks (q .laid)) ≤ j) → getD (c′ .reel) j 0 ≡ getD (c .reel) j 0
+    pub table-stays : (j : ℕ) → (j < placeLength * cutOf c (q .laid) .place) ⊎ (placeLength * (cutOf c (q .laid) .place + laidPlaces (q .laid)) ≤ j)
+        → getD (c′ .table) j 0 ≡ getD (c .table) j 0
 
   pub record Obeys : Type 0 where
     -- "Advance, in order": the case that it was, under that case's condition
@@ -81,4 +88,4 @@ module _ (c : Core) (interrupts : Bool) (c′ : Core) where
     pub none-found : WriteRuns (c .unit) (c .memory) (c .reel) → headerIn c .mode ≡ 2 → {at : ℕ} → sought (c .reel) true (c .unit .tape .position) (c .unit .tape .end) ≡ sought-as.Nothing at
         → NoneFound (c .unit .tape) (c .reel) (c′ .unit) (c′ .memory) (c′ .reel)
     -- nothing else writes
-    pub unwritten : (WriteRuns (c .unit) (c .memory) (c .reel) → ⊥) → (c′ .reel ≡ c .reel) × (c′ .unit .tape .end ≡ c .unit .tape .end)
+    pub unwritten : (WriteRuns (c .unit) (c .memory) (c .reel) → ⊥) → (c′ .reel ≡ c .reel) × (c′ .unit .tape .end ≡ c .unit .tape .end) × (c′ .table ≡ c .table) × (c′ .objects ≡ c .objects)
