@@ -1,10 +1,10 @@
 #!/usr/bin/env python3
 """chains.py CRATE FUNCTION..: sets the `.before` chains of the functions' proofs anew, after their code has changed.
 
-A proof says `c .before .before .put-bytes .ensures`; a line more or less in the code moves every such place. This takes the places' names from what the
-toolchain generates (`rt dev CRATE --generated`), and counts again: a chain ends at the nearest record that has its field, one of `.args`, `.pre`, `.good` or
-with no field behind it at the start. What a need is called is printed where the proof has it not, or has one too many. FUNCTION is its path below proofs/, as
-`steps/undo`.
+A proof says `c .before .before .put-bytes .ensures`; a line more or less in the code moves every such place. This takes the records from what the toolchain
+generates (`rt dev CRATE --generated`) and counts again: a chain leads to the nearest record that has the field behind it; `.args`, `.pre`, `.good`, and the chain of
+`let s = c .before .. in`, to the start. Any other chain with no field behind it is left alone. Needs that the proof lacks, and those that are no longer asked, are
+printed. FUNCTION is its path below proofs/, as `steps/undo`. A chain may be written with too few steps: `c .before .undo .ensures` will do.
 """
 import os
 import re
@@ -12,19 +12,21 @@ import subprocess
 import sys
 import tempfile
 
+TOP = os.path.dirname(os.path.dirname(os.path.abspath(__file__)))
 crate, functions = sys.argv[1], sys.argv[2:]
+FIELD = r"[^\s).,;]+"
 AT_START = {"args", "pre", "good", "κs", "blocks"}
 
 
 def records(text):
-    """Each record's fields; and the record of each need's `c`."""
+    """Each record's fields with their types, and for each need the record of its `c`."""
     fields = {}
-    for m in re.finditer(r"pub record (\S+) : Type 0 where\n((?:.*\S.*\n)*)", text):
-        fields[m[1]] = dict(re.findall(r"pub (\S+) : (\S+)", m[2]))
-    return fields, dict(re.findall(r"Need-(\S+) =\s+\(c : (\S+)\)", text))
+    for name, body in re.findall(r"pub record (\S+) : Type 0 where\n((?:.*\S.*\n)*)", text):
+        fields[name] = dict(re.findall(r"pub (\S+) : (\S+)", body))
+    return fields, dict(re.findall(r"Need-(\S+)(?: \S+)* =\s+\(c : (\S+?)(?: [^)]*)?\)", text))
 
 
-def counted(record, field, fields):
+def steps_to(field, record, fields):
     """How many `.before` lead from the record to the nearest one with the field."""
     n = 0
     while field not in fields[record]:
@@ -34,44 +36,42 @@ def counted(record, field, fields):
     return n
 
 
-def again(block, record, fields):
+def set_anew(proof, record, fields):
     def chain(m):
-        field = m[2] or "args"
-        n = counted(record, "args" if field in AT_START else field, fields)
+        field = m[1]
+        if field is None and not m.string[: m.start()].endswith("let s = "):
+            return m[0]
+        n = steps_to("args" if field is None or field in AT_START else field, record, fields)
         if n is None:
             print(f"  no record before {record} has {field}")
             return m[0]
-        return "c" + " .before" * n + (f" .{m[2]}" if m[2] else "")
+        return "c" + " .before" * n + (f" .{field}" if field else "")
 
-    return re.sub(r"\bc((?: \.before)+)(?: \.([^\s).,;]+))?", chain, re.sub(r"\bc \.(?!before\b)([^\s).,;]+)", r"c .before .\1", block))
+    return re.sub(rf"\bc(?= \.)(?: \.before\b)*(?: \.(?!before\b)({FIELD}))?", chain, proof)
 
 
 with tempfile.TemporaryDirectory() as made:
-    subprocess.run(["rt", "dev", crate, "--generated", made], capture_output=True)
+    said = subprocess.run(["rt", "dev", crate, "--generated", made], cwd=TOP, capture_output=True, text=True)
+    if not os.listdir(made):
+        sys.exit(said.stdout + said.stderr)
     for function in functions:
-        path = f"crates/{crate}/proofs/{function}/Proof.antt"
-        with open(os.path.join(made, f"Rattle.{crate}.proofs/proofs/{function}/Lts.antt")) as f:
-            lts = f.read()
-        with open(path) as f:
-            proof = f.read()
-        fields, needs = records(lts)
         print(function)
-        order = re.search(r"pub spec :(.*?)Lts?\.?Closed|\Z", lts, re.S)
-        wanted = [n for n in re.findall(r"\n *abbrev pub Need-(\S+) : Type 0", lts)]
-        blocks = proof.split("\n\n")
+        with open(os.path.join(made, f"Rattle.{crate}.proofs/proofs/{function}/Lts.antt")) as f:
+            generated = f.read()
+        fields, starts = records(generated)
+        path = os.path.join(TOP, "crates", crate, "proofs", function, "Proof.antt")
+        with open(path) as f:
+            parts = f.read().split("\n\n")
         had = []
-        for i, block in enumerate(blocks):
-            m = re.match(r"(?:--.*\n)*\S+ : tie\.Need-(\S+)", block)
-            if not m:
-                continue
-            had.append(m[1])
-            if m[1] in needs:
-                blocks[i] = again(block, needs[m[1]], fields)
-        for n in wanted:
-            if n not in had:
-                print(f"  not in the proof: {n}")
-        for n in had:
-            if n not in wanted:
-                print(f"  no longer asked: {n}")
+        for i, part in enumerate(parts):
+            need = re.search(r"^\S+ : tie\.Need-(\S+)", part, re.M)
+            if need:
+                had.append(need[1])
+                if need[1] in starts:
+                    parts[i] = set_anew(part, starts[need[1]], fields)
         with open(path, "w") as f:
-            f.write("\n\n".join(blocks))
+            f.write("\n\n".join(parts))
+        asked = re.findall(r"^ *abbrev pub Need-(\S+) : Type 0", generated, re.M)
+        for word, names in (("lacking", [n for n in asked if n not in had]), ("no longer asked", [n for n in had if n not in asked])):
+            if names:
+                print(f"  {word}: {' '.join(names)}")

@@ -77,9 +77,9 @@ typedef size_t ts11_answer;
  *    journal, message buffer not allowed), or the bytes are no state's at all.
  * 7: the number of the first block at fault goes to *block, and what is wrong with it, one of the faults below, to
  *    *fault. A command goes on waiting: mend the reel, and advance again.
- * 11: the table has fewer places (its length / 8, rounded down) than there are objects, in the state handed in or in
- *     the one that the call would leave. Every step and step back asks it, after 8 and before 9; an idle advance does
- *     not. As many places as the reel has blocks are always enough.
+ * 11: the table has fewer places (its length / 8, rounded down, and no more than 2^32 - 1) than there are objects, in
+ *     the state handed in or in the one that the call would leave. Every mount, step and step back asks it, after 8 and
+ *     before 9, and the look-ups do; an idle advance does not. As many places as the reel has blocks are always enough.
  */
 #define TS11_DONE 0
 #define TS11_BAD_STATE 1    /* the state: see above */

@@ -29,7 +29,7 @@ pub data Filed : List Object → Type 0 where
   no-file : Filed []
   files : (os : List Object) → Filed (os ++ mark ∷ [])
 
--- "the place where file n begins (the object after the n-th mark)": file f of the objects os begins with the one of number i
+-- file f of the objects os begins with the one of number i: file 0 with the first, another with the one after mark f
 pub record FileBegins (os : List Object) (f i : ℕ) : Type 0 where
   pub before : List Object
   pub object : Object

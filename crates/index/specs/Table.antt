@@ -46,7 +46,7 @@ firstBlock tb i = numberAt tb (placeLength * i)
 abbrev pub marksBefore : List ℕ → ℕ → ℕ
 marksBefore tb i = numberAt tb (placeLength * i + 4)
 
--- how many places a slice of n bytes has: whole ones, and no more than a count of four bytes can say (DECISIONS, a table's places)
+-- how many places a slice of n bytes has: whole ones, and no more than a count of four bytes can say (docs/DECISIONS.md, "A count of places has four bytes")
 abbrev pub placesLimit : ℕ
 placesLimit = 4294967295
 

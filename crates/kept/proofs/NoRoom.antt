@@ -21,7 +21,7 @@ use Rattle.moves.specs.Seeking.{sought}
 use Rattle.moves.specs.declared.seeking.Sought.{Sought}
 use Rattle.moves.specs.declared.seeking.Sought.the-variants as sought-as
 use Rattle.moves.proofs.Within.{SoughtIn, sought-in}
-use Rattle.motions.specs.Parts.{end, laidBlocks, objectBlocks, resting, standing}
+use Rattle.motions.specs.Parts.{end, laidBlocks, noLay, objectBlocks, resting, standing}
 use Rattle.motions.specs.Writes.{behindGap, noRoom, retriedUnder, retriedByUnder, writtenAt, writtenAtUnder}
 use Rattle.motions.specs.declared.parts.Ending.{Ending}
 use Rattle.motions.specs.declared.parts.Laid.{Laid}
@@ -96,6 +96,10 @@ module _ (m s : List ℕ) (v : Unit) (ie : Bool) where
       let is : q ≡ ends v ie 3 NEF residual.Nothing = rw (e, f) in
       subst (λ (x : Plan). Sends v m s x → After m s v NoRoom x) (sym is) (told-no-room m s v ie l short below f)
 
+  full-unlaid : (l : Laid) (mark : Bool) {q : Plan} → q ≡ motionPlan v ie (writtenAt (v .tape) (v .lengths .blocks) l mark) → ltb (v .lengths .blocks) (l .at + laidBlocks l) ≡ true → q .laid ≡ noLay
+  unfolding motionPlanUnder writtenAtUnder noRoom toldUnder
+  full-unlaid l mark e f = rw (e, f)
+
   -- a retry that found nothing, from inside the recorded part
   told-none : {at : ℕ} → v .tape .position ≤ v .tape .end → sought s true (v .tape .position) (v .tape .end) ≡ sought-as.Nothing at → Sends v m s (told v ie (nothingFound v at)) → After m s v NoneFound (told v ie (nothingFound v at))
   unfolding toldUnder toldUnit ended reelAfter
@@ -120,6 +124,18 @@ module _ (v : Unit) (m s : List ℕ) (h : Header) (p : Packet) {q : Plan} (y : L
   none-again {at} e below none =
       let is : q ≡ told v (h .ie) (nothingFound v at) = rw (y .plan, e, none) in
       subst (λ (x : Plan). Sends v m s x → After m s v NoneFound x) (sym is) (told-none m s v (h .ie) below none)
+
+  -- neither lays anything
+  unlaid-here : eqb (h .mode) 2 ≡ false → ltb (v .lengths .blocks) (v .tape .position + blocksIn (objectFor m h p)) ≡ true → q .laid ≡ noLay
+  unlaid-here e f = full-unlaid m s v (h .ie) (Here v m s h p y) (y .mark) (here-plan v m s h p y e) (rw (here-blocks v m s h p y) f)
+
+  unlaid-none : {at : ℕ} → h .mode ≡ 2 → sought s true (v .tape .position) (v .tape .end) ≡ sought-as.Nothing at → q .laid ≡ noLay
+  unfolding retriedUnder retriedByUnder motionPlanUnder toldUnder
+  unlaid-none e none = rw (y .plan, e, none)
+
+  unlaid-again : {at : ℕ} → h .mode ≡ 2 → Found at (sought s true (v .tape .position) (v .tape .end)) → ltb (v .lengths .blocks) (at + (blocksIn (objectFor m h p) + 1)) ≡ true → q .laid ≡ noLay
+  unfolding behindGap
+  unlaid-again {at} e found f = full-unlaid m s v (h .ie) (behindGap (Here v m s h p y) at) (y .mark) (again-plan v m s h p y e found) (rw (again-blocks v m s h p y at) f)
 
   full-again : {at : ℕ} → h .mode ≡ 2 → v .tape .position ≤ v .tape .end → Found at (sought s true (v .tape .position) (v .tape .end)) → ltb (v .lengths .blocks) (at + (blocksIn (objectFor m h p) + 1)) ≡ true → Sends v m s q → After m s v NoRoom q
   unfolding behindGap
@@ -147,3 +163,17 @@ module _ (u : Unit) (m s : List ℕ) (w : WriteRuns u m s) (sent : Sent u m s) w
   -- "None found: RIB, class 2, nothing written."
   pub none-found : {at : ℕ} → header u m s .mode ≡ 2 → u .tape .position ≤ u .tape .end → sought s true (u .tape .position) (u .tape .end) ≡ sought-as.Nothing at → Left NoneFound
   none-found e below none = none-again (started u m s) m s (header u m s) (packet u m s) lay e below none (sent .sends, sent .inside)
+
+-- of these three ends none lays anything, whether its message goes out or not
+module _ (u : Unit) (m s : List ℕ) (w : WriteRuns u m s) where
+  abbrev laying : Lay (started u m s) m s (header u m s) (packet u m s) (advanced u m s)
+  laying = advance-lays u m s w
+
+  pub no-room-unlaid : eqb (header u m s .mode) 2 ≡ false → ltb (u .lengths .blocks) (u .tape .position + blocksIn (objectFor m (header u m s) (packet u m s))) ≡ true → advanced u m s .laid ≡ noLay
+  no-room-unlaid e f = unlaid-here (started u m s) m s (header u m s) (packet u m s) laying e f
+
+  pub retry-unlaid : {at : ℕ} → header u m s .mode ≡ 2 → Found at (sought s true (u .tape .position) (u .tape .end)) → ltb (u .lengths .blocks) (at + (blocksIn (objectFor m (header u m s) (packet u m s)) + 1)) ≡ true → advanced u m s .laid ≡ noLay
+  retry-unlaid e found f = unlaid-again (started u m s) m s (header u m s) (packet u m s) laying e found f
+
+  pub none-unlaid : {at : ℕ} → header u m s .mode ≡ 2 → sought s true (u .tape .position) (u .tape .end) ≡ sought-as.Nothing at → advanced u m s .laid ≡ noLay
+  none-unlaid e none = unlaid-none (started u m s) m s (header u m s) (packet u m s) laying e none

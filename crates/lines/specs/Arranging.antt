@@ -49,9 +49,9 @@ fieldWords = 112 ∷ 111 ∷ 115 ∷ 32 ∷ 101 ∷ 110 ∷ 100 ∷ 32 ∷ 112 �
 unfoldable pub fieldOf : List ℕ → ℕ
 fieldOf t = placeOf fieldWords (wordFrom t 1)
 
--- fields 16, 17 and 20, `msgaddr`, `msglen` and `objects`, have 32 bits
+-- fields 16 and 17, `msgaddr` and `msglen`, have 32 bits
 abbrev pub tooWide : ℕ → ℕ → Bool
-tooWide k v = ((eqb k 16 || eqb k 17) || eqb k 20) && ltb 4294967295 v
+tooWide k v = (eqb k 16 || eqb k 17) && ltb 4294967295 v
 
 unfoldable pub setTo : ℕ → ℕ → Line
 setTo k v =

@@ -93,11 +93,11 @@ fn field_in(text: &[u8]) -> usize
     )
 }
 
-// Is v more than field k of the state can hold? The message buffer's address and length have 32 bits, and so has the count of objects.
+// Is v more than field k of the state can hold? The message buffer's address and length have 32 bits.
 fn too_wide(k: usize, v: usize) -> bool
     ensures { λ r. ⌜ r ≡ tooWide k v ⌝ }
 {
-    ((k == 16) | (k == 17) | (k == 20)) & (4294967295 < v)
+    ((k == 16) | (k == 17)) & (4294967295 < v)
 }
 
 fn set_to(k: usize, v: usize) -> Line

@@ -11,6 +11,7 @@ use script::last;
 use script::nth;
 use script::write_out;
 ghost use mathlib.Core.Path.{_≡_};
+ghost use Prim.Native.Nat.{_*_, min};
 ghost use lib.ListN.{length};
 
 // A line with no blanks around it.
@@ -43,7 +44,9 @@ fn crc_of(b: &[u8], n: usize, sums: &[usize; 256]) -> usize {
 }
 
 // The used part of a table of n bytes: eight for each object, or all of it.
-fn used_bytes(objects: usize, n: usize) -> usize {
+fn used_bytes(objects: usize, n: usize) -> usize
+    ensures { λ r. ⌜ r ≡ min (8 * objects) n ⌝ }
+{
     if n / 8 < objects {
         return n;
     }

@@ -1,7 +1,7 @@
 -- Demand 2 at the call: what is proved of an advance, and of the sweep, holds of the calls `advance` and `mount`.
 use mathlib.Core.Bool.{Bool, true, false, _||_, _&&_, not, true≢false}
 use mathlib.Core.List.{List}
-use mathlib.Core.Path.{_≡_, refl, sym, _∙_}
+use mathlib.Core.Path.{_≡_, refl, sym, ap, _∙_}
 use Prim.Native.Nat.{ℕ, _*_, _/_, _%_, _-_, _≤_}
 use native.Mathlib.Omega.{arith}
 use borrow.Author.Tests.{eqb-false, eqb-true, ltb-false, ltb-true}
@@ -18,7 +18,7 @@ use Rattle.state.specs.Changes.{mountedAs}
 use Rattle.state.specs.Checks.{blocksRight, memoryRight, refusalOf, stateWrong}
 use Rattle.state.specs.declared.Unit.{Unit}
 use Rattle.state.proofs.Tests.{either}
-use Rattle.commands.specs.Answers.{numberOf}
+use Rattle.commands.specs.Answers.{isStep, numberOf}
 use Rattle.commands.specs.Ends.{still}
 use Rattle.commands.specs.declared.plans.Answer.{Answer}
 use Rattle.commands.specs.declared.plans.Answer.the-variants as answer
@@ -32,7 +32,6 @@ use Rattle.demands.proofs.Reached.{advanced-must, must-first}
 use Rattle.demands.proofs.Ways.{advanced-is}
 use Rattle.unit.specs.Asks.{advance}
 use Rattle.unit.specs.Cores.{Admitted, Core}
-use Rattle.unit.proofs.Accepted.{accepts}
 use Rattle.unit.specs.Mounts.{mountCallUnder, mountRefusal, mountSwept}
 use Rattle.unit.specs.Steps.{Step, carried, stepOf}
 use Rattle.unit.proofs.Accepted.{accepts}
@@ -85,15 +84,15 @@ module _ (n : ℕ) (w : World) where
     comes-idle h = idle sound h (rw (advanced-is (w .core .unit) (w .core .memory) (w .core .reel) (idle-way (h .0) (h .1))))
 
     comes-by : (a : Answer) → plan .answer ≡ a → DoneOrBad a → (Idle (w .core .unit) → ⊥) → Comes n w (takenBy w (carried (w .core) plan) a)
-    unfolding takenBy takenAs carried stepOf doing
+    unfolding takenBy takenAs carried stepOf doing isStep
     comes-by (answer.Done i) e d busy =
         let free : ℕ = w .ledger .length - w .ledger .used in
         let x : Step = carried (w .core) plan in
         let long : ℕ = entryLength (entryFor (w .core) x) in
         by-test (noPlace (w .core) x)
-        (λ s. no-place sound busy (crowded (w .core) x s) (rw s))
+        (λ s. no-place sound busy (ap isStep e) (crowded (w .core) x s) (rw s))
         (λ s. by-test (tooFull (w .ledger) (entryFor (w .core) x))
-        (λ t. no-room sound busy (never-crowded (w .core) x s) (ltb-true free long t) (rw (s, t)))
+        (λ t. no-room sound busy (ap isStep e) (never-crowded (w .core) x s) (ltb-true free long t) (rw (s, t)))
         (λ t. rw (s, t) (a-step sound busy (never-crowded (w .core) x s) (λ f. absurd (omega (arith, f, ltb-false free long t))) refl (advanced-obeys (w .core) admitted i e))))
     comes-by answer.Idle e d busy = absurd d
     comes-by (answer.Refused k) e d busy = absurd d

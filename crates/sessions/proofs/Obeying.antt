@@ -32,7 +32,7 @@ use Rattle.demands.proofs.Ways.{advanced-way}
 use Rattle.kept.specs.Leaving.{WriteRuns, WriteTold, Wrote}
 use Rattle.kept.specs.NoRoom.{NoRoom}
 use Rattle.kept.proofs.Leaving.{room-wrote, room-wrote-retry}
-use Rattle.kept.proofs.NoRoom.{no-room-retry, no-room-told, none-found}
+use Rattle.kept.proofs.NoRoom.{no-room-retry, no-room-told, no-room-unlaid, none-found, none-unlaid, retry-unlaid}
 use Rattle.kept.proofs.Telling.{room-told, room-told-retry}
 use Rattle.kept.proofs.Unwritten.{writes-or-stays}
 use Rattle.unit.specs.Cores.{Admitted, Core}
@@ -40,7 +40,7 @@ use Rattle.unit.specs.Steps.{cutFor, cutOf, objectsAfter, tableAfter}
 use Rattle.unit.specs.Touching.{laidPlaces, objectPlaces}
 use Rattle.unit.proofs.Rows.{places-laid}
 use Rattle.unit.proofs.Stepping.{advanced-fits}
-use Rattle.sessions.specs.Rules.{Obeys, Short, again, at-once, headerIn, objectIn, packetIn}
+use Rattle.sessions.specs.Rules.{Obeys, Short, Unfilled, again, at-once, headerIn, objectIn, packetIn}
 
 -- codes of commands that tell how they ended
 abbrev Tells : Header → Type 0
@@ -82,6 +82,9 @@ module _ (c : Core) (a : Admitted c) (i : Bool) where
   unfolding objectsAfter laidPlaces objectPlaces
   none-counted = refl
 
+  unfilled : plan .laid ≡ noLay → Unfilled c i after
+  unfilled e = (rw e none-filled, rw e none-counted)
+
   module _ (done : plan .answer ≡ answer.Done i) where
     sent : Fetched (c .unit) (c .memory) (c .reel) → Tells (headerIn c) → Sent (c .unit) (c .memory) (c .reel)
     sent f t =
@@ -100,9 +103,9 @@ module _ (c : Core) (a : Admitted c) (i : Bool) where
     told-as w (at-once e f) = room-told (c .unit) (c .memory) (c .reel) w (write-sent w) e f
     told-as w (again e g f) = room-told-retry (c .unit) (c .memory) (c .reel) w (write-sent w) e g f
 
-    full-as : WriteRuns (c .unit) (c .memory) (c .reel) → Short c true → NoRoom (c .unit .tape) (c .reel) (after .unit) (after .memory) (after .reel)
-    full-as w (at-once e f) = no-room-told (c .unit) (c .memory) (c .reel) w (write-sent w) e f
-    full-as w (again e g f) = no-room-retry (c .unit) (c .memory) (c .reel) w (write-sent w) e (a .legal .place) g f
+    full-as : WriteRuns (c .unit) (c .memory) (c .reel) → Short c true → NoRoom (c .unit .tape) (c .reel) (after .unit) (after .memory) (after .reel) × Unfilled c i after
+    full-as w (at-once e f) = (no-room-told (c .unit) (c .memory) (c .reel) w (write-sent w) e f, unfilled (no-room-unlaid (c .unit) (c .memory) (c .reel) w e f))
+    full-as w (again e g f) = (no-room-retry (c .unit) (c .memory) (c .reel) w (write-sent w) e (a .legal .place) g f, unfilled (retry-unlaid (c .unit) (c .memory) (c .reel) w e g f))
 
     pub advanced-obeys : Obeys c i after
     unfolding reelAfter
@@ -130,6 +133,6 @@ module _ (c : Core) (a : Admitted c) (i : Bool) where
           wrote = wrote-as;
           told = told-as;
           no-room = full-as;
-          none-found = λ w e none. none-found (c .unit) (c .memory) (c .reel) w (write-sent w) e (a .legal .place) none;
-          unwritten = λ n. ⊎-elim (λ w. absurd (n w)) (λ y. (rw (y .0) (none-laid (c .reel) (c .memory)), y .1, rw (y .0) none-filled, rw (y .0) none-counted)) (writes-or-stays (c .unit) (c .memory) (c .reel) (a .legal .place));
+          none-found = λ w e none. (none-found (c .unit) (c .memory) (c .reel) w (write-sent w) e (a .legal .place) none, unfilled (none-unlaid (c .unit) (c .memory) (c .reel) w e none));
+          unwritten = λ n. ⊎-elim (λ w. absurd (n w)) (λ y. (rw (y .0) (none-laid (c .reel) (c .memory)), y .1, unfilled (y .0))) (writes-or-stays (c .unit) (c .memory) (c .reel) (a .legal .place));
         }

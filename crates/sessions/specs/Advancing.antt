@@ -8,6 +8,7 @@ use lib.ListN.{length}
 use Rattle.tape.specs.Numbers.{blockBytes}
 use Rattle.tape.specs.declared.BlockFault.{BlockFault}
 use Rattle.state.specs.declared.Unit.{Unit}
+use Rattle.commands.specs.Answers.{isStep}
 use Rattle.commands.specs.declared.plans.Answer.{Answer}
 use Rattle.commands.specs.declared.plans.Answer.the-variants as answer
 use Rattle.advance.specs.Rules.{reverseFirst}
@@ -39,6 +40,10 @@ pub record FaultAhead (c : Core) (why : BlockFault) (k : ℕ) : Type 0 where
 abbrev pub Names : List ℕ → ℕ → Answer → Type 0
 Names r e a = (why : BlockFault) × (k : ℕ) × (a ≡ answer.BadBlock why k) × (k < length r / blockBytes) × FirstFault r e false 0 why k
 
+-- the command comes to an end, or an attention goes out: nothing is left to ask but for places and room, and 7 is not due
+abbrev pub Ends : World → Type 0
+Ends w = isStep (stepOf advance (w .core) .answer) ≡ true
+
 -- "9 free journal less than the entry"
 abbrev pub Full : World → Type 0
 Full w = w .ledger .length - w .ledger .used < entryLength (entryAt (step advance tt) (w .core))
@@ -56,6 +61,6 @@ pub data Comes (n : ℕ) (w : World) (x : Answered) : Type 0 where
   refused : (checkedWith n w ≡ 0 → ⊥) → x ≡ refusedAs (checkedWith n w) w → Comes n w x
   idle : checkedWith n w ≡ 0 → Idle (w .core .unit) → x ≡ answered answer.Idle w → Comes n w x
   at-fault : {why : BlockFault} {k : ℕ} → checkedWith n w ≡ 0 → (Idle (w .core .unit) → ⊥) → FaultAhead (w .core) why k → x ≡ answered (answer.BadBlock why k) w → Comes n w x
-  no-place : checkedWith n w ≡ 0 → (Idle (w .core .unit) → ⊥) → Crowded w → x ≡ refusedAs 11 w → Comes n w x
-  no-room : checkedWith n w ≡ 0 → (Idle (w .core .unit) → ⊥) → (Crowded w → ⊥) → Full w → x ≡ refusedAs 9 w → Comes n w x
+  no-place : checkedWith n w ≡ 0 → (Idle (w .core .unit) → ⊥) → Ends w → Crowded w → x ≡ refusedAs 11 w → Comes n w x
+  no-room : checkedWith n w ≡ 0 → (Idle (w .core .unit) → ⊥) → Ends w → (Crowded w → ⊥) → Full w → x ≡ refusedAs 9 w → Comes n w x
   a-step : {i : Bool} → checkedWith n w ≡ 0 → (Idle (w .core .unit) → ⊥) → (Crowded w → ⊥) → (Full w → ⊥) → x .answer ≡ answer.Done i → Obeys (w .core) i (x .world .core) → Comes n w x

@@ -64,6 +64,10 @@ module _ (c : Core) (interrupts : Bool) (c′ : Core) where
     pub table-stays : (j : ℕ) → (j < placeLength * cutOf c (q .laid) .place) ⊎ (placeLength * (cutOf c (q .laid) .place + laidPlaces (q .laid)) ≤ j)
         → getD (c′ .table) j 0 ≡ getD (c .table) j 0
 
+  -- the table and its count are as they were
+  abbrev pub Unfilled : Type 0
+  Unfilled = (c′ .table ≡ c .table) × (c′ .objects ≡ c .objects)
+
   pub record Obeys : Type 0 where
     -- "Advance, in order": the case that it was, under that case's condition
     pub plan : Plan
@@ -84,8 +88,8 @@ module _ (c : Core) (interrupts : Bool) (c′ : Core) where
         → Wrote (c .unit) (c .memory) (c .reel) os (c′ .unit) (c′ .reel)
     pub told : WriteRuns (c .unit) (c .memory) (c .reel) → Short c false → WriteTold (objectIn c) (c′ .unit) (c′ .memory)
     -- with none; and a retry that found nothing to go over
-    pub no-room : WriteRuns (c .unit) (c .memory) (c .reel) → Short c true → NoRoom (c .unit .tape) (c .reel) (c′ .unit) (c′ .memory) (c′ .reel)
+    pub no-room : WriteRuns (c .unit) (c .memory) (c .reel) → Short c true → NoRoom (c .unit .tape) (c .reel) (c′ .unit) (c′ .memory) (c′ .reel) × Unfilled
     pub none-found : WriteRuns (c .unit) (c .memory) (c .reel) → headerIn c .mode ≡ 2 → {at : ℕ} → sought (c .reel) true (c .unit .tape .position) (c .unit .tape .end) ≡ sought-as.Nothing at
-        → NoneFound (c .unit .tape) (c .reel) (c′ .unit) (c′ .memory) (c′ .reel)
+        → NoneFound (c .unit .tape) (c .reel) (c′ .unit) (c′ .memory) (c′ .reel) × Unfilled
     -- nothing else writes
-    pub unwritten : (WriteRuns (c .unit) (c .memory) (c .reel) → ⊥) → (c′ .reel ≡ c .reel) × (c′ .unit .tape .end ≡ c .unit .tape .end) × (c′ .table ≡ c .table) × (c′ .objects ≡ c .objects)
+    pub unwritten : (WriteRuns (c .unit) (c .memory) (c .reel) → ⊥) → (c′ .reel ≡ c .reel) × (c′ .unit .tape .end ≡ c .unit .tape .end) × Unfilled

@@ -50,6 +50,10 @@ module _ (h : Host) (long : length (h .block) ≡ stateLength) (bytes : Bytes (h
   faulted : {a : Answer} → given call h .answer ≡ a → fault ≡ faultIn a
   faulted e = t .fault ∙ ap faultIn e
 
+  -- and whether it interrupts
+  unsaid : {a : Answer} → given call h .answer ≡ a → interrupts ≡ interruptIn a
+  unsaid e = t .interrupt ∙ ap interruptIn e
+
   abbrev Here : Type 0
   Here = HostComes h number steps interrupts block fault h′
 
@@ -69,13 +73,13 @@ module _ (h : Host) (long : length (h .block) ≡ stateLength) (bytes : Bytes (h
     comes-as (refused n e) =
         let y = reads-as e in
         let few = checked-few (sessionOf (worldIn h)) (length (h .memory)) (length (h .reel)) (length (h .journal)) in
-        refused-first (λ z. n (sym (numbered y) ∙ z)) (subst (λ (k : ℕ). k ≤ 4) (sym (numbered y)) few) (numbered y) (nothing y refl .0) (blocked y) (faulted y) (nothing y refl .1)
-    comes-as (idle c i e) = let y = reads-as e in host-idle i (numbered y) (nothing y refl .0) (blocked y) (faulted y) (nothing y refl .1)
+        refused-first (λ z. n (sym (numbered y) ∙ z)) (subst (λ (k : ℕ). k ≤ 4) (sym (numbered y)) few) (numbered y) (nothing y refl .0) (unsaid y) (blocked y) (faulted y) (nothing y refl .1)
+    comes-as (idle c i e) = let y = reads-as e in host-idle i (numbered y) (nothing y refl .0) (unsaid y) (blocked y) (faulted y) (nothing y refl .1)
     comes-as (at-fault c busy f e) =
         let y = reads-as e in
-        host-fault busy (subst (FaultAhead (worldIn h .core) _) (sym (blocked y)) f) (faulted y) (numbered y) (nothing y refl .0) (nothing y refl .1)
-    comes-as (no-place c busy f e) = let y = reads-as e in host-crowded busy f (numbered y) (nothing y refl .0) (blocked y) (faulted y) (nothing y refl .1)
-    comes-as (no-room c busy places f e) = let y = reads-as e in host-full busy places f (numbered y) (nothing y refl .0) (blocked y) (faulted y) (nothing y refl .1)
+        host-fault busy (subst (FaultAhead (worldIn h .core) _) (sym (blocked y)) f) (faulted y) (numbered y) (nothing y refl .0) (unsaid y) (nothing y refl .1)
+    comes-as (no-place c busy ends f e) = let y = reads-as e in host-crowded busy ends f (numbered y) (nothing y refl .0) (unsaid y) (blocked y) (faulted y) (nothing y refl .1)
+    comes-as (no-room c busy ends places f e) = let y = reads-as e in host-full busy ends places f (numbered y) (nothing y refl .0) (unsaid y) (blocked y) (faulted y) (nothing y refl .1)
     comes-as (a-step {i} c busy places room e o) =
         let y : given call h .answer ≡ answer.Done i = ap (λ (x : Answered). x .answer) is ∙ e in
         let after = subst (λ (w : World). Obeys (worldIn h .core) i (w .core)) (sym (runs-as call h b g .1)) o in
@@ -83,11 +87,11 @@ module _ (h : Host) (long : length (h .block) ≡ stateLength) (bytes : Bytes (h
 
   -- demand 2 of every exported advance
   pub host-comes : Here
-  unfolding given opened isStep numberOf blockIn faultIn
+  unfolding given opened isStep numberOf blockIn faultIn interruptIn
   host-comes =
       by-test (isBlock (h .block))
       (λ r. comes-as (record { long = long; bytes = bytes; right = r }) (advance-comes (length (h .journal)) (worldIn h)))
-      (λ r. let y : given call h .answer ≡ answer.Refused 1 = rw r in no-state r (g .gives .answer ∙ ap numberOf y) (nothing y refl .0) (blocked y) (faulted y) (nothing y refl .1))
+      (λ r. let y : given call h .answer ≡ answer.Refused 1 = rw r in no-state r (g .gives .answer ∙ ap numberOf y) (nothing y refl .0) (unsaid y) (blocked y) (faulted y) (nothing y refl .1))
 
 -- a mount that returns 7 names the first block at fault from block 0 on, and tells what is wrong with it
 pub host-mount-names : {b b′ t t′ : List ℕ} {number block fault : ℕ} (memory : ℕ) (r : List ℕ) (table journal e : ℕ) (online locked : Bool)

@@ -17,7 +17,7 @@ use Rattle.worlds.specs.Passes.{Fit}
 use Rattle.sessions.specs.Session.{Kind, Standing, entryOf, looked, refused, stepped}
 use Rattle.sessions.specs.Calling.{Call, Here, Noted, callKind, calls, journalOf, lengthOf, onCall, worldFrom}
 use Rattle.kept.specs.Formed.{Formed}
-use Rattle.sessions.specs.Advancing.{Crowded, FaultAhead, Full, Idle, checkedWith}
+use Rattle.sessions.specs.Advancing.{Crowded, Ends, FaultAhead, Full, Idle, checkedWith}
 use Rattle.sessions.specs.Good.{Fresh}
 use Rattle.sessions.specs.Rules.{Obeys}
 use Rattle.stateblock.specs.Block.{Block, isBlock, sessionIn}
@@ -52,8 +52,8 @@ mountGiven h memory journal end online locked = mountOn (sessionIn (h .block)) m
 abbrev pub tableGiven : Host → ℕ → ℕ → ℕ → Bool → Bool → List ℕ
 tableGiven h memory journal end online locked = tableMounted (h .table) (objectsIn (h .reel) end) (mountGiven h memory journal end online locked .answer)
 
--- any exported call on h returned k, and then the host holds h′: a step or a reading, a step back, or a mount, which is handed no memory and no
--- journal
+-- any exported call on h that is lent something to change returned k, and then the host holds h′: a step or a reading, a step back, or a mount, which is handed no
+-- memory and no journal. The look-ups are lent the state and the table for reading alone.
 pub data Exported (h : Host) (k : ℕ) : Host → Type 0 where
   a-call : {h′ : Host} (c : Call) → Returned h (given c h) k h′ → Exported h k h′
   a-step-back : {h′ : Host} → Returned h (backGiven h) k h′ → Exported h k h′
@@ -129,12 +129,12 @@ pub record Entries (h : Host) (n : ℕ) (steps : List (Standing (calls n))) : Ty
 -- what an exported advance on h returned and told, and that it left h′: bytes that are no state's, refusals 1 to 4, idle, 7 with the block and its
 -- fault's letter, 11, 9, or a step
 pub data HostComes (h : Host) (number : ℕ) (steps interrupts : Bool) (block fault : ℕ) (h′ : Host) : Type 0 where
-  no-state : isBlock (h .block) ≡ false → number ≡ 1 → steps ≡ false → block ≡ 0 → fault ≡ 0 → h′ ≡ h → HostComes h number steps interrupts block fault h′
-  refused-first : (number ≡ 0 → ⊥) → number ≤ 4 → number ≡ checkedWith (length (h .journal)) (worldIn h) → steps ≡ false → block ≡ 0 → fault ≡ 0 → h′ ≡ h → HostComes h number steps interrupts block fault h′
-  idle : Idle (worldIn h .core .unit) → number ≡ 0 → steps ≡ false → block ≡ 0 → fault ≡ 0 → h′ ≡ h → HostComes h number steps interrupts block fault h′
-  at-fault : {why : BlockFault} → (Idle (worldIn h .core .unit) → ⊥) → FaultAhead (worldIn h .core) why block → fault ≡ letterOf why → number ≡ 7 → steps ≡ false → h′ ≡ h → HostComes h number steps interrupts block fault h′
-  no-place : (Idle (worldIn h .core .unit) → ⊥) → Crowded (worldIn h) → number ≡ 11 → steps ≡ false → block ≡ 0 → fault ≡ 0 → h′ ≡ h → HostComes h number steps interrupts block fault h′
-  no-room : (Idle (worldIn h .core .unit) → ⊥) → (Crowded (worldIn h) → ⊥) → Full (worldIn h) → number ≡ 9 → steps ≡ false → block ≡ 0 → fault ≡ 0 → h′ ≡ h → HostComes h number steps interrupts block fault h′
+  no-state : isBlock (h .block) ≡ false → number ≡ 1 → steps ≡ false → interrupts ≡ false → block ≡ 0 → fault ≡ 0 → h′ ≡ h → HostComes h number steps interrupts block fault h′
+  refused-first : (number ≡ 0 → ⊥) → number ≤ 4 → number ≡ checkedWith (length (h .journal)) (worldIn h) → steps ≡ false → interrupts ≡ false → block ≡ 0 → fault ≡ 0 → h′ ≡ h → HostComes h number steps interrupts block fault h′
+  idle : Idle (worldIn h .core .unit) → number ≡ 0 → steps ≡ false → interrupts ≡ false → block ≡ 0 → fault ≡ 0 → h′ ≡ h → HostComes h number steps interrupts block fault h′
+  at-fault : {why : BlockFault} → (Idle (worldIn h .core .unit) → ⊥) → FaultAhead (worldIn h .core) why block → fault ≡ letterOf why → number ≡ 7 → steps ≡ false → interrupts ≡ false → h′ ≡ h → HostComes h number steps interrupts block fault h′
+  no-place : (Idle (worldIn h .core .unit) → ⊥) → Ends (worldIn h) → Crowded (worldIn h) → number ≡ 11 → steps ≡ false → interrupts ≡ false → block ≡ 0 → fault ≡ 0 → h′ ≡ h → HostComes h number steps interrupts block fault h′
+  no-room : (Idle (worldIn h .core .unit) → ⊥) → Ends (worldIn h) → (Crowded (worldIn h) → ⊥) → Full (worldIn h) → number ≡ 9 → steps ≡ false → interrupts ≡ false → block ≡ 0 → fault ≡ 0 → h′ ≡ h → HostComes h number steps interrupts block fault h′
   a-step : (Idle (worldIn h .core .unit) → ⊥) → (Crowded (worldIn h) → ⊥) → (Full (worldIn h) → ⊥) → number ≡ 0 → steps ≡ true → block ≡ 0 → fault ≡ 0 → Obeys (worldIn h .core) interrupts (worldIn h′ .core)
       → HostComes h number steps interrupts block fault h′
 

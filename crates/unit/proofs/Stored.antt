@@ -12,6 +12,9 @@ use Rattle.lists.proofs.Placed.{placed-plain}
 use Rattle.tape.specs.Bytes.{movedBytes, recordBytes}
 use Rattle.tape.specs.Numbers.{blockBytes}
 use Rattle.tape.specs.Objects.{imagesOf}
+use Rattle.index.specs.Cutting.{extended}
+use Rattle.index.specs.Table.{placeLength, tableFrom}
+use Rattle.index.proofs.Tables.{length-table}
 use Rattle.tape.proofs.Accepted.{clash}
 use Rattle.signals.specs.Message.{messageBytes, messaged, wordsBytes}
 use Rattle.signals.proofs.Messages.{length-words}
@@ -30,7 +33,7 @@ use Rattle.advance.specs.Steps.{advanced}
 use Rattle.advance.proofs.Planned.{advanced-seven}
 use Rattle.unit.specs.Asks.{Ask, advance, host-store, operate, write-tsdb, write-tssr}
 use Rattle.unit.specs.Cores.{Admitted, Core}
-use Rattle.unit.specs.Steps.{Step, carried, changed, stepOf, storeWrong, stored}
+use Rattle.unit.specs.Steps.{Step, carried, changed, cutOf, stepOf, storeWrong, stored, tableAfter}
 use Rattle.unit.specs.Stores.{Stores, bytesOf, noBytes, planBytes}
 use Rattle.unit.specs.Touching.{hostTouched, movedPlace, touchedBy}
 use Rattle.unit.proofs.Rows.{places-laid}
@@ -68,35 +71,39 @@ module _ (c : Core) (p : Plan) (fits : Storable p (length (c .memory)) (length (
       ∙ ap (λ (l : List ℕ). placed false l (pick (p .sends) (messageTo p) 0) (pick (p .sends) (wordsBytes (p .message)) [])) (moved-places reeled (p .moved) (c .memory) moved-fits)
 
   plan-stores : length (p .message) ≡ 7 → Stores c (carried c p) (planBytes c p)
-  unfolding carried touchedBy reelAfter planBytes
+  unfolding carried touchedBy reelAfter planBytes tableAfter extended
   plan-stores seven =
       record {
         memory = memory-placed;
         reel = laid-placed (c .memory) (c .reel) (p .laid);
+        table = sym (placed-plain (c .table) (placeLength * cutOf c (p .laid) .place) (tableFrom (p .laid .at) (cutOf c (p .laid) .marks) (laidObjects (c .memory) (p .laid))));
         data-long = length-data reeled (p .moved) (c .memory) moved-fits;
         message-long = message-counted (p .sends) (p .message) seven;
         reel-long = length-laid (c .memory) (p .laid);
+        table-long = length-table (p .laid .at) (cutOf c (p .laid) .marks) (laidObjects (c .memory) (p .laid)) ∙ ap (λ (n : ℕ). placeLength * n) (places-laid (c .memory) (p .laid));
         places = places-laid (c .memory) (p .laid);
       }
 
 -- a change of the state alone stores nothing
 change-stores : (c : Core) → Admitted c → (u : Unit) → Stores c (carried c (changed u)) noBytes
-unfolding planBytes still movedBytes recordBytes laidObjects laidObject imagesOf
+unfolding planBytes still movedBytes recordBytes laidObjects laidObject imagesOf tableFrom
 change-stores c a u =
     plan-stores c (changed u) (still-storable u (answer.Done false) (length (c .memory)) (length (c .reel)) (core-sizes c a .even)) (still-seven c a u)
 
 -- a host store that is answered "done" stores its bytes
-store-stores : (c : Core) (place : ℕ) (bytes : List ℕ) (i : Bool) → stored c place bytes .answer ≡ answer.Done i → Stores c (stored c place bytes) (record { data-bytes = bytes; message-bytes = []; reel-bytes = []; objects = [] })
+store-stores : (c : Core) (place : ℕ) (bytes : List ℕ) (i : Bool) → stored c place bytes .answer ≡ answer.Done i → Stores c (stored c place bytes) (record { data-bytes = bytes; message-bytes = []; reel-bytes = []; table-bytes = []; objects = [] })
 unfolding stored hostTouched placed
 store-stores c place bytes i =
-    pick-told (λ (x : Step). x .answer ≡ answer.Done i → Stores c x (record { data-bytes = bytes; message-bytes = []; reel-bytes = []; objects = [] })) (storeWrong (length (c .memory)) place (length bytes)) _ _
+    pick-told (λ (x : Step). x .answer ≡ answer.Done i → Stores c x (record { data-bytes = bytes; message-bytes = []; reel-bytes = []; table-bytes = []; objects = [] })) (storeWrong (length (c .memory)) place (length bytes)) _ _
     (λ t e. absurd (clash cc))
     (λ t e. record {
       memory = sym (placed-plain (c .memory) place bytes);
       reel = refl;
+      table = refl;
       data-long = refl;
       message-long = refl;
       reel-long = refl;
+      table-long = refl;
       places = refl;
     })
 
