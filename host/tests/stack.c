@@ -133,7 +133,7 @@ static struct use calls[] = {
 	[READ_REGISTER] = USE("ts11_read_register", 64),
 	[HOST_STORE] = USE("ts11_host_store", 200),
 	[ADVANCE] = USE("ts11_advance", 1320),
-	[STEP_BACK] = USE("ts11_step_back", 320),
+	[STEP_BACK] = USE("ts11_step_back", 336),
 	[FIND_FILE] = USE("ts11_find_file", 72),
 	[FIND_BLOCK] = USE("ts11_find_block", 88),
 };
