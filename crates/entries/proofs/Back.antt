@@ -61,6 +61,7 @@ entry-back e top h at =
       low _ (h .reel-at),
       low _ (h .reel-blocks),
       low _ (h .objects),
+      low _ (h .transport),
     )
 
 pub entry-places : (n : List ℕ) (top : ℕ) → entryOf n top .touched .«place_at» ≡ placeBelow top (entryOf n top .touched .places)

@@ -12,6 +12,10 @@ use Rattle.entries.specs.Bytes.{frontLength, numbersBytes, headCount, he
 use Rattle.entries.specs.Numbers.{entryOf, numbersOf}
 use Rattle.entries.specs.declared.Entry.{Entry}
 
+-- "units 0 to 3" (02, [9]); an entry with this number names none: "Host stores belong to no unit"
+abbrev pub transports : ℕ
+transports = 4
+
 -- an entry that saves no bytes
 abbrev pub entryBare : ℕ
 entryBare = 128

@@ -1,5 +1,5 @@
 -- The head of an entry is 31 numbers; every field of the state has its place. (01: "Undoing registers but not VCK, owners or pending
--- attention" is what this must rule out: see the law `entry-back`.)
+-- attention" is what this must rule out: see the law `entry-back`.) The last is the transport's: "The entry names its unit within the 128 bytes" (02, [9]).
 use mathlib.Core.Bool.{Bool, not}
 use mathlib.Core.List.{List, [], _∷_}
 use Prim.Native.Nat.{ℕ, _%_, _<_}
@@ -45,7 +45,7 @@ numbersOf e =
     ∷ e .touched .«reel_blocks» % numberLimit
     ∷ e .objects % numberLimit
     ∷ e .touched .places
-    ∷ 0
+    ∷ e .transport % numberLimit
     ∷ []
 
 -- number i, and whether it is not 0
@@ -91,10 +91,11 @@ touchedOf n top =
     }
 
 unfoldable pub entryOf : List ℕ → ℕ → Entry
-entryOf n top = record { unit = unitOf n; objects = nth n 28; touched = touchedOf n top }
+entryOf n top = record { unit = unitOf n; objects = nth n 28; touched = touchedOf n top; transport = nth n 30 }
 
 -- every number of the entry that its type lets be larger has at most four bytes; so has each that the journal writes
 pub record Small (e : Entry) : Type 0 where
+  pub transport : e .transport < numberLimit
   pub position : e .unit .tape .position < numberLimit
   pub end : e .unit .tape .end < numberLimit
   pub pointer : e .unit .registers .pointer < numberLimit

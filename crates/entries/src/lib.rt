@@ -19,12 +19,16 @@ pub use restoring::newest_entry;
 use state::Unit;
 use touched::Touched;
 
-// The state before a step with the used places of the table, and what the step touches.
+// Which transport took a step, its state before it with the used places of the table, and what the step touches. A host store's names none.
 pub struct Entry {
     pub unit: Unit,
     pub objects: usize,
     pub touched: Touched,
+    pub transport: usize,
 }
+
+// "Document 002 allows units 0 to 3": a transport's number is below this, and an entry with this number names none.
+pub const TRANSPORTS: usize = 4;
 
 // The entry's length, at its front.
 pub const FRONT: usize = 4;

@@ -61,7 +61,7 @@ pub fn numbers_of(e: Entry) -> [u32; 31]
         low(t.reel_blocks),
         low(e.objects),
         t.places,
-        0,
+        low(e.transport),
     ]
 }
 
@@ -148,5 +148,6 @@ pub fn entry_of(n: [u32; 31], top: usize) -> Entry
         unit,
         objects: n[28] as usize,
         touched,
+        transport: n[30] as usize,
     }
 }

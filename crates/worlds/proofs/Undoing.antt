@@ -28,9 +28,9 @@ use Rattle.worlds.specs.Calls.{backOn, entryFor, entryWrong, guarded, no
 use Rattle.worlds.proofs.Passing.{let-pass, passed}
 
 -- the core: whatever a step did to it, its entry undoes it
-pub core-undone : (c : Core) (x : Step) → Sound c x → undone (entryFor c x) (savedBytes (x .touched) (c .memory) (c .reel) (c .table)) (x .after) ≡ c
+pub core-undone : (k : ℕ) (c : Core) (x : Step) → Sound c x → undone (entryFor k c x) (savedBytes (x .touched) (c .memory) (c .reel) (c .table)) (x .after) ≡ c
 unfolding undone entryFor
-core-undone c x s =
+core-undone k c x s =
     rw (
       memory-put-back (x .touched) (c .memory) (c .reel) (c .table) (x .after .memory) (x .after .reel) (x .after .table) (s .only),
       reel-put-back (x .touched) (c .memory) (c .reel) (c .table) (x .after .memory) (x .after .reel) (x .after .table) (s .only),
@@ -69,10 +69,10 @@ module _ (l : Ledger) (e : Entry) (c : Core) where
 -- the world: a step x from w whose entry fits, taken
 module _ (n : ℕ) (w : World) (x : Step) (fit : Fit n w) (s : Sound (w .core) x) where
   abbrev entry : Entry
-  entry = entryFor (w .core) x
+  entry = entryFor (w .number) (w .core) x
 
   abbrev next : World
-  next = record { core = x .after; ledger = noted (w .ledger) entry (w .core) }
+  next = record { number = w .number; core = x .after; ledger = noted (w .ledger) entry (w .core) }
 
   was : Passed (sessionOf w) (length (w .core .memory)) (length (w .core .reel)) n
   was = passed (sessionOf w) (length (w .core .memory)) (length (w .core .reel)) n (fit .sound)
@@ -113,7 +113,7 @@ module _ (n : ℕ) (w : World) (x : Step) (fit : Fit n w) (s : Sound (w .core) x
     passes-after = let-pass (sessionOf next) (length (x .after .memory)) (length (x .after .reel)) n next-passes
 
     pub fit-after : Fit n next
-    fit-after = record { sound = passes-after; whole = noted-long (w .ledger) entry (w .core) (fit .whole) }
+    fit-after = record { sound = passes-after; whole = noted-long (w .ledger) entry (w .core) (fit .whole); named = fit .named }
 
     right-entry : entryWrong next entry ≡ false
     unfolding entryWrong
@@ -154,12 +154,13 @@ module _ (n : ℕ) (w : World) (x : Step) (fit : Fit n w) (s : Sound (w .core) x
             message-length = omega (arith, i .message-in-memory, was .memory-is, l .memory-most);
             reel-at = omega (arith, i .in-reel, was .reel-is, l .blocks-most);
             reel-blocks = omega (arith, i .in-reel, was .reel-is, l .blocks-most);
+            transport = omega (arith, fit .named);
             objects = omega (arith, enough-before (length (w .core .table)) (w .core .objects) (x .after .objects) large .few);
           }
 
       undone-by : undoBy next entry ≡ answered (answer.Done false) w
       unfolding undoBy entryFor
-      undone-by = rw (right-entry, large-back, noted-saved (w .ledger) entry (w .core), core-undone (w .core) x s, noted-gone (w .ledger) entry (w .core) (fit .whole))
+      undone-by = rw (right-entry, large-back, noted-saved (w .ledger) entry (w .core), core-undone (w .number) (w .core) x s, noted-gone (w .ledger) entry (w .core) (fit .whole))
 
       pub taken-undone : backOn next n ≡ answered (answer.Done false) w
       unfolding backOn guarded undoOn
@@ -177,12 +178,12 @@ pub refused-eleven : (w : World) (x : Step) (a : Answer) → noPlace (w .core) x
 unfolding takenAs
 refused-eleven w x a t = rw t
 
-pub refused-nine : (w : World) (x : Step) (a : Answer) → noPlace (w .core) x ≡ false → tooFull (w .ledger) (entryFor (w .core) x) ≡ true → takenAs w x a ≡ answered (answer.Refused 9) w
+pub refused-nine : (w : World) (x : Step) (a : Answer) → noPlace (w .core) x ≡ false → tooFull (w .ledger) (entryFor (w .number) (w .core) x) ≡ true → takenAs w x a ≡ answered (answer.Refused 9) w
 unfolding takenAs
 refused-nine w x a large t = rw (large, t)
 
 -- and one that is taken is undone by the step back
-pub step-back-undoes : (n : ℕ) (w : World) (x : Step) (a : Answer) → Fit n w → Sound (w .core) x → noPlace (w .core) x ≡ false → w .ledger .used + entryLength (entryFor (w .core) x) ≤ w .ledger .length → tooFull (w .ledger) (entryFor (w .core) x) ≡ false
+pub step-back-undoes : (n : ℕ) (w : World) (x : Step) (a : Answer) → Fit n w → Sound (w .core) x → noPlace (w .core) x ≡ false → w .ledger .used + entryLength (entryFor (w .number) (w .core) x) ≤ w .ledger .length → tooFull (w .ledger) (entryFor (w .number) (w .core) x) ≡ false
     → backOn (takenAs w x a .world) n ≡ answered (answer.Done false) w
 unfolding takenAs
 step-back-undoes n w x a fit s large room t = rw (large, t) (taken-undone n w x fit s room large)

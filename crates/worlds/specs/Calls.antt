@@ -43,9 +43,9 @@ guarded w n x =
     pick (eqb (checked (sessionOf w) (length (w .core .memory)) (length (w .core .reel)) n) 0) x
     (refusedAs (checked (sessionOf w) (length (w .core .memory)) (length (w .core .reel)) n) w)
 
--- the entry of a step x from the core c
-unfoldable pub entryFor : Core → Step → Entry
-entryFor c x = record { unit = c .unit; objects = c .objects; touched = x .touched }
+-- the entry of a step x of transport k, from the core c: "The entry names its unit within the 128 bytes" (02, [9])
+unfoldable pub entryFor : ℕ → Core → Step → Entry
+entryFor k c x = record { unit = c .unit; objects = c .objects; touched = x .touched; transport = k }
 
 -- "9 free journal less than the entry"
 abbrev pub tooFull : Ledger → Entry → Bool
@@ -68,8 +68,8 @@ noPlace c x = tooSmall (length (c .table)) (c .objects) (x .after .objects)
 unfoldable pub takenAs : World → Step → Answer → Answered
 takenAs w x a =
     pick (noPlace (w .core) x) (refusedAs 11 w)
-    (pick (tooFull (w .ledger) (entryFor (w .core) x)) (refusedAs 9 w)
-    (answered a (record { core = x .after; ledger = noted (w .ledger) (entryFor (w .core) x) (w .core) })))
+    (pick (tooFull (w .ledger) (entryFor (w .number) (w .core) x)) (refusedAs 9 w)
+    (answered a (record { number = w .number; core = x .after; ledger = noted (w .ledger) (entryFor (w .number) (w .core) x) (w .core) })))
 
 -- "Advance .. answers Idle .., changes nothing, adds no entry"; 5 and 7 change nothing either
 unfoldable pub takenBy : World → Step → Answer → Answered
@@ -138,7 +138,7 @@ undoBy w e =
     pick (entryWrong w e) (refusedAs 8 w)
     (pick (noPlaceBack (w .core) e) (refusedAs 11 w)
     (answered (answer.Done false)
-    (record { core = undone e (savedIn e (w .ledger .bytes)) (w .core); ledger = without (w .ledger) e })))
+    (record { number = w .number; core = undone e (savedIn e (w .ledger .bytes)) (w .core); ledger = without (w .ledger) e })))
 
 unfoldable pub undoOn : World → Answered
 undoOn w = undoBy w (newestEntry (w .core .objects) (w .ledger .bytes))

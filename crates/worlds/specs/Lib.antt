@@ -3,3 +3,5 @@ pub mod Worlds
 pub mod Refusals
 pub mod Calls
 pub mod Passes
+pub mod Rows
+pub mod Coupled

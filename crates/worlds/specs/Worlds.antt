@@ -16,7 +16,9 @@ pub record Ledger : Type 0 where
   pub length : ℕ
   pub bytes : List ℕ
 
+-- of the transport with this number
 pub record World : Type 0 where
+  pub number : ℕ
   pub core : Core
   pub ledger : Ledger
 
@@ -29,9 +31,10 @@ abbrev pub answered : Answer → World → Answered
 answered a w = record { answer = a; world = w }
 
 -- the world of a call: of the lent journal only the used part. "Journal bytes outside the used part are not promised." (01)
-abbrev pub worldOf : Session → List ℕ → List ℕ → List ℕ → List ℕ → World
-worldOf s m r tb j =
+abbrev pub worldOf : ℕ → Session → List ℕ → List ℕ → List ℕ → List ℕ → World
+worldOf k s m r tb j =
     record {
+      number = k;
       core = record { unit = s .unit; objects = s .objects; memory = m; reel = r; table = tb };
       ledger = record { used = s .used; length = s .journal; bytes = usedIn (s .used) j };
     }
@@ -44,5 +47,5 @@ sessionOf w = record { unit = w .core .unit; objects = w .core .objects; used = 
 -- it leaves every byte of the journal, the unused ones too
 pub record Leaves (x : Answered) (j : List ℕ) (o : Outcome) (m r tb j′ : List ℕ) : Type 0 where
   pub answer : o .answer ≡ x .answer
-  pub world : worldOf (o .session) m r tb j′ ≡ x .world
+  pub world : worldOf (x .world .number) (o .session) m r tb j′ ≡ x .world
   pub unless-step : isStep (x .answer) ≡ false → j′ ≡ j

@@ -16,9 +16,15 @@ array-read-t9 c = search needs
 cast-t10 : tie.Need-cast-t10
 cast-t10 c = search needs
 
+array-read-t13 : tie.Need-array-read-t13
+array-read-t13 c = search needs
+
+cast-t14 : tie.Need-cast-t14
+cast-t14 c = search needs
+
 returns : tie.Need-returns
 unfolding entryOf
 returns c = rw (c .before .unit-of .ensures, c .touched-of .ensures)
 
 pub entry-of-spec : {M : Type 1} → statement M
-entry-of-spec = tie.close (tie.spec unit-of-requires touched-of-requires array-read-t9 cast-t10 returns)
+entry-of-spec = tie.close (tie.spec unit-of-requires touched-of-requires array-read-t9 cast-t10 array-read-t13 cast-t14 returns)

@@ -86,10 +86,14 @@ low-requires-12 c κs = search needs
 low-requires-13 : tie.Need-low-requires-13
 low-requires-13 c κs = search needs
 
+low-requires-14 : tie.Need-low-requires-14
+low-requires-14 c κs = search needs
+
 returns : tie.Need-returns
 unfolding numbersOf
 returns c =
-    let c1 = c .before in
+    let d = c .before in
+    let c1 = d .before in
     let c4 = c1 .before .before .before .before in
     let c8 = c4 .before .before .before .before in
     let c12 = c8 .before .before .before .before in
@@ -105,7 +109,7 @@ returns c =
     ∷ (c8 .before .before .before .bit-of11 .ensures) i ∷ (c8 .before .before .bit-of12 .ensures) i ∷ (c8 .before .bit-of13 .ensures) i ∷ (c8 .low5 .ensures) i
     ∷ (c4 .before .before .before .low6 .ensures) i ∷ (c4 .before .before .low7 .ensures) i ∷ (c4 .before .low8 .ensures) i ∷ (c4 .bit-of14 .ensures) i
     ∷ (c1 .before .before .before .low9 .ensures) i ∷ (c1 .before .before .low10 .ensures) i ∷ (c1 .before .low11 .ensures) i ∷ (c1 .low12 .ensures) i
-    ∷ (c .low13 .ensures) i ∷ start .args .e .touched .places ∷ 0 ∷ []
+    ∷ (d .low13 .ensures) i ∷ start .args .e .touched .places ∷ (c .low14 .ensures) i ∷ []
 
 pub numbers-of-spec : {M : Type 1} → statement M
 numbers-of-spec =
@@ -138,4 +142,5 @@ numbers-of-spec =
     low-requires-11
     low-requires-12
     low-requires-13
+    low-requires-14
     returns)

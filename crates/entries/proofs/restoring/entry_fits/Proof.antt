@@ -11,7 +11,10 @@ touched-fits-requires : tie.Need-touched-fits-requires
 touched-fits-requires c κs = search needs
 
 cast-if1 : tie.Need-cast-if1
-cast-if1 c = search needs
+cast-if1 c =
+    let s = c .before .before .before .before .before .before .before in
+    let small : s .args .e .touched .places < 4294967296 = s .good .0 .1 .1 .1 .1 .0 .1 .1 .1 .1 .1 .1 .1 .1 .1 .1 .0 .1 in
+    record { fits = omega (arith, small) }
 
 returns : tie.Need-returns
 returns c = unfit _ _ _ _ _ _ _ _ refl (c .before .before .touched-fits .ensures) (c .if1 .taken)
