@@ -26,56 +26,59 @@ ghost use Rattle.worlds.specs.Calls.{backOn, mountOn, registerOn, stepOn, table
 
 pub fn write_tsdb(
     s: Session,
+    k: usize,
     mem: &mut [u8],
     reel: &mut [u8],
     table: &[u8],
     jrnl: &mut [u8],
     word: u16,
 ) -> Outcome
-    ensures { λ r. ⌜ Leaves (stepOn (worldOf s (now (mem .entry)) (now (reel .entry)) (now (table .entry)) (now (jrnl .entry))) (length (now (jrnl .entry))) (Ask.write-tsdb word)) (now (jrnl .entry)) r (now (mem .exit)) (now (reel .exit)) (now (table .entry)) (now (jrnl .exit)) ⌝ }
+    ensures { λ r. ⌜ Leaves (stepOn (worldOf k s (now (mem .entry)) (now (reel .entry)) (now (table .entry)) (now (jrnl .entry))) (length (now (jrnl .entry))) (Ask.write-tsdb word)) (now (jrnl .entry)) r (now (mem .exit)) (now (reel .exit)) (now (table .entry)) (now (jrnl .exit)) ⌝ }
 {
     let n = change_refusal(s, mem.len(), reel.len(), table.len(), jrnl.len());
     if n != 0 {
         return refused(s, n);
     }
     let u = s.unit;
-    change(s, u.write_tsdb(word), mem, reel, table, jrnl)
+    change(s, k, u.write_tsdb(word), mem, reel, table, jrnl)
 }
 
 // Any value initializes.
 pub fn write_tssr(
     s: Session,
+    k: usize,
     mem: &mut [u8],
     reel: &mut [u8],
     table: &[u8],
     jrnl: &mut [u8],
 ) -> Outcome
-    ensures { λ r. ⌜ Leaves (stepOn (worldOf s (now (mem .entry)) (now (reel .entry)) (now (table .entry)) (now (jrnl .entry))) (length (now (jrnl .entry))) Ask.write-tssr) (now (jrnl .entry)) r (now (mem .exit)) (now (reel .exit)) (now (table .entry)) (now (jrnl .exit)) ⌝ }
+    ensures { λ r. ⌜ Leaves (stepOn (worldOf k s (now (mem .entry)) (now (reel .entry)) (now (table .entry)) (now (jrnl .entry))) (length (now (jrnl .entry))) Ask.write-tssr) (now (jrnl .entry)) r (now (mem .exit)) (now (reel .exit)) (now (table .entry)) (now (jrnl .exit)) ⌝ }
 {
     let n = change_refusal(s, mem.len(), reel.len(), table.len(), jrnl.len());
     if n != 0 {
         return refused(s, n);
     }
     let u = s.unit;
-    change(s, u.initialize(), mem, reel, table, jrnl)
+    change(s, k, u.initialize(), mem, reel, table, jrnl)
 }
 
 pub fn operate(
     s: Session,
+    k: usize,
     mem: &mut [u8],
     reel: &mut [u8],
     table: &[u8],
     jrnl: &mut [u8],
     act: Act,
 ) -> Outcome
-    ensures { λ r. ⌜ Leaves (stepOn (worldOf s (now (mem .entry)) (now (reel .entry)) (now (table .entry)) (now (jrnl .entry))) (length (now (jrnl .entry))) (Ask.operate act)) (now (jrnl .entry)) r (now (mem .exit)) (now (reel .exit)) (now (table .entry)) (now (jrnl .exit)) ⌝ }
+    ensures { λ r. ⌜ Leaves (stepOn (worldOf k s (now (mem .entry)) (now (reel .entry)) (now (table .entry)) (now (jrnl .entry))) (length (now (jrnl .entry))) (Ask.operate act)) (now (jrnl .entry)) r (now (mem .exit)) (now (reel .exit)) (now (table .entry)) (now (jrnl .exit)) ⌝ }
 {
     let n = change_refusal(s, mem.len(), reel.len(), table.len(), jrnl.len());
     if n != 0 {
         return refused(s, n);
     }
     let u = s.unit;
-    change(s, u.operate(act), mem, reel, table, jrnl)
+    change(s, k, u.operate(act), mem, reel, table, jrnl)
 }
 
 // 0 and the word, or refusal 1 and word 0.
@@ -104,7 +107,7 @@ pub fn host_store(
     place: usize,
     bytes: &[u8],
 ) -> Outcome
-    ensures { λ r. ⌜ Leaves (stepOn (worldOf s (now (mem .entry)) (now (reel .entry)) (now (table .entry)) (now (jrnl .entry))) (length (now (jrnl .entry))) (Ask.host-store place (now (bytes .entry)))) (now (jrnl .entry)) r (now (mem .exit)) (now (reel .entry)) (now (table .entry)) (now (jrnl .exit)) ⌝ }
+    ensures { λ r. ⌜ Leaves (stepOn (worldOf 0 s (now (mem .entry)) (now (reel .entry)) (now (table .entry)) (now (jrnl .entry))) (length (now (jrnl .entry))) (Ask.host-store place (now (bytes .entry)))) (now (jrnl .entry)) r (now (mem .exit)) (now (reel .entry)) (now (table .entry)) (now (jrnl .exit)) ⌝ }
 {
     let n = check(s, mem.len(), reel.len(), jrnl.len());
     if n != 0 {
@@ -118,12 +121,13 @@ pub fn host_store(
 
 pub fn advance(
     s: Session,
+    k: usize,
     mem: &mut [u8],
     reel: &mut [u8],
     table: &mut [u8],
     jrnl: &mut [u8],
 ) -> Outcome
-    ensures { λ r. ⌜ Leaves (stepOn (worldOf s (now (mem .entry)) (now (reel .entry)) (now (table .entry)) (now (jrnl .entry))) (length (now (jrnl .entry))) Ask.advance) (now (jrnl .entry)) r (now (mem .exit)) (now (reel .exit)) (now (table .exit)) (now (jrnl .exit)) ⌝ }
+    ensures { λ r. ⌜ Leaves (stepOn (worldOf k s (now (mem .entry)) (now (reel .entry)) (now (table .entry)) (now (jrnl .entry))) (length (now (jrnl .entry))) Ask.advance) (now (jrnl .entry)) r (now (mem .exit)) (now (reel .exit)) (now (table .exit)) (now (jrnl .exit)) ⌝ }
 {
     let n = check(s, mem.len(), reel.len(), jrnl.len());
     if n != 0 {
@@ -133,7 +137,7 @@ pub fn advance(
     let p = unit::plan_advance(u, mem, reel);
     let answer = p.answer;
     match answer {
-        Answer::Done(_) => step(s, p, mem, reel, table, jrnl),
+        Answer::Done(_) => step(s, k, p, mem, reel, table, jrnl),
         Answer::Idle => Outcome { answer, session: s },
         Answer::Refused(_) => Outcome { answer, session: s },
         Answer::BadBlock(_, _) => Outcome { answer, session: s },
@@ -147,7 +151,7 @@ pub fn step_back(
     table: &mut [u8],
     jrnl: &[u8],
 ) -> Outcome
-    ensures { λ r. ⌜ Leaves (backOn (worldOf s (now (mem .entry)) (now (reel .entry)) (now (table .entry)) (now (jrnl .entry))) (length (now (jrnl .entry)))) (now (jrnl .entry)) r (now (mem .exit)) (now (reel .exit)) (now (table .exit)) (now (jrnl .entry)) ⌝ }
+    ensures { λ r. ⌜ Leaves (backOn (worldOf 0 s (now (mem .entry)) (now (reel .entry)) (now (table .entry)) (now (jrnl .entry))) (length (now (jrnl .entry)))) (now (jrnl .entry)) r (now (mem .exit)) (now (reel .exit)) (now (table .exit)) (now (jrnl .entry)) ⌝ }
 {
     let n = check(s, mem.len(), reel.len(), jrnl.len());
     if n != 0 {

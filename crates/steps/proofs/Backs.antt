@@ -27,14 +27,14 @@ module _ (s : Session) (m r tb j : List ℕ) (e : Entry) (f w : Bool) (de : e �
   pub undo-fits : Sizes (length m) (length r) → not (f && not w) ≡ false → Fitting e (s .used) (s .unit .lengths) (length m) (length r) (s .objects)
   undo-fits z t = fitting e (s .used) (s .unit .lengths) (length m) (length r) (s .objects) z (sym df ∙ and-eq-true-iff f (not w) .0 (not-false (f && not w) t) .0)
 
-  pub undo-stops : (o : Outcome) → not (f && not w) ≡ true → o .answer ≡ answer.Refused 8 → o .session ≡ s → Leaves (undoOn (worldOf s m r tb j)) j o m r tb j
+  pub undo-stops : (number : ℕ) (o : Outcome) → not (f && not w) ≡ true → o .answer ≡ answer.Refused 8 → o .session ≡ s → Leaves (undoOn (worldOf number s m r tb j)) j o m r tb j
   unfolding undoOn undoBy entryWrong
-  undo-stops o t k l = rw (← de, ← df, ← dw, not-true (f && not w) t) (left-alone s m r tb j (answer.Refused 8) o k l)
+  undo-stops number number o t k l = rw (← de, ← df, ← dw, not-true (f && not w) t) (left-alone s m r tb j (answer.Refused 8) o k l)
 
   module _ (t : not (f && not w) ≡ false) (g : Bool) (dg : g ≡ tooSmall (length tb) (s .objects) (e .objects)) where
-    pub undo-lacks : (o : Outcome) → g ≡ true → o .answer ≡ answer.Refused 11 → o .session ≡ s → Leaves (undoOn (worldOf s m r tb j)) j o m r tb j
+    pub undo-lacks : (number : ℕ) (o : Outcome) → g ≡ true → o .answer ≡ answer.Refused 11 → o .session ≡ s → Leaves (undoOn (worldOf number s m r tb j)) j o m r tb j
     unfolding undoOn undoBy entryWrong
-    undo-lacks o v k l = rw (← de, ← df, ← dw, not-false (f && not w) t, ← dg, v) (left-alone s m r tb j (answer.Refused 11) o k l)
+    undo-lacks number number o v k l = rw (← de, ← df, ← dw, not-false (f && not w) t, ← dg, v) (left-alone s m r tb j (answer.Refused 11) o k l)
 
     -- the places that it filled are the last of those that are used
     pub undo-places : Sizes (length m) (length r) → g ≡ false → PlacesIn (e .touched) (length tb)
@@ -43,23 +43,23 @@ module _ (s : Session) (m r tb j : List ℕ) (e : Entry) (f w : Bool) (de : e �
         let room = enough-before (length tb) (s .objects) (e .objects) (sym dg ∙ v) .room in
         rw de (newest-inside (s .objects) (length tb) (usedIn (s .used) j) (rw de at top) room)
 
-    pub undo-goes : (n : ℕ) (m′ r′ tb′ : List ℕ) → g ≡ false → n ≡ entryLength e → Restored (e .touched) (savedIn e (usedIn (s .used) j)) m r tb m′ r′ tb′ → Leaves (undoOn (worldOf s m r tb j)) j (outcome (answer.Done false) (session (e .unit) (e .objects) (s .used - n) (s .journal))) m′ r′ tb′ j
+    pub undo-goes : (number : ℕ) (n : ℕ) (m′ r′ tb′ : List ℕ) → g ≡ false → n ≡ entryLength e → Restored (e .touched) (savedIn e (usedIn (s .used) j)) m r tb m′ r′ tb′ → Leaves (undoOn (worldOf number s m r tb j)) j (outcome (answer.Done false) (session (e .unit) (e .objects) (s .used - n) (s .journal))) m′ r′ tb′ j
     unfolding undoOn undoBy entryWrong undone without
-    undo-goes n m′ r′ tb′ v dn b =
+    undo-goes number n m′ r′ tb′ v dn b =
         let less : usedIn (s .used - n) (usedIn (s .used) j) ≡ usedIn (s .used - n) j = used-less (s .used - n) (s .used) j (omega arith) in
         rw (← de, ← df, ← dw, not-false (f && not w) t, ← dg, v, ← dn)
         (record { answer = refl; world = rw (b .memory, b .reel, b .table, less); unless-step = λ t. refl })
 
 -- the step back's own refusals, 6 and the 8 of a used journal too short for an entry
-module _ (s : Session) (m r tb j : List ℕ) (n : ℕ) (e : n ≡ checked s (length m) (length r) (length j)) (f : n ≡ 0) (o : Outcome) where
-  pub back-none : s .used ≡ 0 → o .answer ≡ answer.Refused 6 → o .session ≡ s → Leaves (backOn (worldOf s m r tb j) (length j)) j o m r tb j
+module _ {number : ℕ} (s : Session) (m r tb j : List ℕ) (n : ℕ) (e : n ≡ checked s (length m) (length r) (length j)) (f : n ≡ 0) (o : Outcome) where
+  pub back-none : s .used ≡ 0 → o .answer ≡ answer.Refused 6 → o .session ≡ s → Leaves (backOn (worldOf number s m r tb j) (length j)) j o m r tb j
   unfolding backOn
   back-none h p q = guarded-goes s m r tb j n _ o m r tb j e f (rw (eq-eqb (s .used) 0 h) (left-alone s m r tb j (answer.Refused 6) o p q))
 
-  pub back-short : (s .used ≡ 0 → ⊥) → s .used < entryBare → o .answer ≡ answer.Refused 8 → o .session ≡ s → Leaves (backOn (worldOf s m r tb j) (length j)) j o m r tb j
+  pub back-short : (s .used ≡ 0 → ⊥) → s .used < entryBare → o .answer ≡ answer.Refused 8 → o .session ≡ s → Leaves (backOn (worldOf number s m r tb j) (length j)) j o m r tb j
   unfolding backOn
   back-short g h p q = guarded-goes s m r tb j n _ o m r tb j e f (rw (ne-eqb (s .used) 0 g, lt-ltb (s .used) entryBare h) (left-alone s m r tb j (answer.Refused 8) o p q))
 
-  pub back-goes : (m′ r′ tb′ j′ : List ℕ) → (s .used ≡ 0 → ⊥) → entryBare ≤ s .used → Leaves (undoOn (worldOf s m r tb j)) j o m′ r′ tb′ j′ → Leaves (backOn (worldOf s m r tb j) (length j)) j o m′ r′ tb′ j′
+  pub back-goes : (m′ r′ tb′ j′ : List ℕ) → (s .used ≡ 0 → ⊥) → entryBare ≤ s .used → Leaves (undoOn (worldOf number s m r tb j)) j o m′ r′ tb′ j′ → Leaves (backOn (worldOf number s m r tb j) (length j)) j o m′ r′ tb′ j′
   unfolding backOn
   back-goes m′ r′ tb′ j′ g h k = guarded-goes s m r tb j n _ o m′ r′ tb′ j′ e f (rw (ne-eqb (s .used) 0 g, le-ltb (s .used) entryBare h) k)

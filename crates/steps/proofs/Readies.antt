@@ -32,7 +32,7 @@ use Rattle.steps.specs.Readiness.{CutReady, HostReady, Ready, Unrefused}
 
 module _ (s : Session) (m r : List ℕ) (journal : ℕ) (k : Unrefused s (length m) (length r) journal) where
   pub sound-sizes : Sizes (length m) (length r)
-  sound-sizes = sizes (worldOf s m r m m) journal (passed s (length m) (length r) journal (k .right))
+  sound-sizes = sizes (worldOf 0 s m r m m) journal (passed s (length m) (length r) journal (k .right))
 
   pub step-in : (p : Plan) (k : ℕ) (t : Touched) → t ≡ touchedBy p k → Storable p (length m) (length r) → TouchedIn t (length m) (length r)
   step-in p k t h f = subst (λ (x : Touched). TouchedIn x (length m) (length r)) (sym h) (plan-in p m r f k sound-sizes)
@@ -45,10 +45,10 @@ pub advance-ready : (s : Session) (p : Plan) (m r : List ℕ) (journal n : ℕ) 
 unfolding isStep
 advance-ready s p m r journal n e f q i d =
     let right = sym e ∙ f in
-    let a = core-accepted (worldOf s m r m m) journal (passed s (length m) (length r) journal right) in
+    let a = core-accepted (worldOf 0 s m r m m) journal (passed s (length m) (length r) journal right) in
     record {
       sound = record { right = right };
-      storable = subst (λ (x : Plan). Storable x (length m) (length r)) (sym q) (advanced-fits (worldOf s m r m m .core) a);
+      storable = subst (λ (x : Plan). Storable x (length m) (length r)) (sym q) (advanced-fits (worldOf 0 s m r m m .core) a);
       done = ap isStep d;
     }
 

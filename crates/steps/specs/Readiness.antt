@@ -13,6 +13,8 @@ use Rattle.index.specs.declared.Cut.{Cut}
 use Rattle.unit.specs.Steps.{cutFor, hostLimit, objectsAfter, tooSmall}
 use Rattle.entries.specs.Entries.{entryBare}
 use Rattle.worlds.specs.Refusals.{checked}
+use Rattle.worlds.specs.Rows.{couplerChecked}
+use Rattle.worlds.specs.declared.Coupler.{Coupler}
 use Rattle.worlds.specs.declared.Session.{Session}
 
 pub record Unrefused (s : Session) (memory reel journal : ℕ) : Type 0 where
@@ -45,3 +47,13 @@ changeRefusal s memory reel table journal =
     pick (eqb (checked s memory reel journal) 0)
     (pick (tooSmall table (s .objects) (s .objects)) 11 (pick (ltb (s .journal - s .used) entryBare) 9 0))
     (checked s memory reel journal)
+
+-- a host store that 1, 2, 4 and 5 let pass, and a step back over one that 1 to 4 and 6 do
+pub record StoreReady (c : Coupler) (memory journal place n : ℕ) : Type 0 where
+  pub right : couplerChecked c memory journal ≡ 0
+  pub short : n ≤ hostLimit
+  pub inside : place + n ≤ memory
+
+pub record NoneUndoable (c : Coupler) (memory journal : ℕ) : Type 0 where
+  pub right : couplerChecked c memory journal ≡ 0
+  pub long : entryBare ≤ c .used

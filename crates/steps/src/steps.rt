@@ -26,6 +26,7 @@ use worlds::Session;
 use worlds::check;
 ghost use mathlib.Core.Bool.{false};
 ghost use mathlib.Core.Path.{_≡_};
+ghost use Prim.Native.Nat.{ℕ};
 ghost use lib.ListN.{length};
 ghost use Rattle.unit.specs.Steps.{carried, changed, stored};
 ghost use Rattle.worlds.specs.Worlds.{Leaves, worldOf};
@@ -42,10 +43,11 @@ pub fn refused(s: Session, n: usize) -> Outcome
     }
 }
 
-// A step with plan p, for which the table is large enough: refused with 9 where its entry doesn't fit, else entered and then carried out. It cuts the table at
+// A step of transport k with plan p, for which the table is large enough: refused with 9 where its entry doesn't fit, else entered and then carried out. It cuts the table at
 // c, and leaves so many places used.
 fn take_step(
     s: Session,
+    k: usize,
     p: Plan,
     c: Cut,
     top: usize,
@@ -55,7 +57,7 @@ fn take_step(
     jrnl: &mut [u8],
 ) -> Outcome
     requires { ⌜ CutReady s p c top (now reel) (now table) (length (now mem)) (length (now jrnl)) ⌝ }
-    ensures { λ r. ⌜ Leaves (takenAs (worldOf s (now (mem .entry)) (now (reel .entry)) (now (table .entry)) (now (jrnl .entry))) (carried (record { unit = s .unit; objects = s .objects; memory = now (mem .entry); reel = now (reel .entry); table = now (table .entry) }) p) (p .answer)) (now (jrnl .entry)) r (now (mem .exit)) (now (reel .exit)) (now (table .exit)) (now (jrnl .exit)) ⌝ }
+    ensures { λ r. ⌜ Leaves (takenAs (worldOf k s (now (mem .entry)) (now (reel .entry)) (now (table .entry)) (now (jrnl .entry))) (carried (record { unit = s .unit; objects = s .objects; memory = now (mem .entry); reel = now (reel .entry); table = now (table .entry) }) p) (p .answer)) (now (jrnl .entry)) r (now (mem .exit)) (now (reel .exit)) (now (table .exit)) (now (jrnl .exit)) ⌝ }
 {
     let unit = s.unit;
     let touched = touched_by(p, c.place);
@@ -63,6 +65,7 @@ fn take_step(
         unit,
         objects: s.objects,
         touched,
+        transport: k,
     };
     let n = entry_length(e, mem.len(), reel.len());
     if s.journal - s.used < n {
@@ -85,9 +88,10 @@ fn take_step(
     }
 }
 
-// A step with plan p: 11 where the table is too small for the objects before it or after it; then 9.
+// A step of transport k with plan p: 11 where the table is too small for the objects before it or after it; then 9.
 pub fn step(
     s: Session,
+    k: usize,
     p: Plan,
     mem: &mut [u8],
     reel: &mut [u8],
@@ -95,7 +99,7 @@ pub fn step(
     jrnl: &mut [u8],
 ) -> Outcome
     requires { ⌜ Ready s p (length (now mem)) (length (now reel)) (length (now jrnl)) ⌝ }
-    ensures { λ r. ⌜ Leaves (takenAs (worldOf s (now (mem .entry)) (now (reel .entry)) (now (table .entry)) (now (jrnl .entry))) (carried (record { unit = s .unit; objects = s .objects; memory = now (mem .entry); reel = now (reel .entry); table = now (table .entry) }) p) (p .answer)) (now (jrnl .entry)) r (now (mem .exit)) (now (reel .exit)) (now (table .exit)) (now (jrnl .exit)) ⌝ }
+    ensures { λ r. ⌜ Leaves (takenAs (worldOf k s (now (mem .entry)) (now (reel .entry)) (now (table .entry)) (now (jrnl .entry))) (carried (record { unit = s .unit; objects = s .objects; memory = now (mem .entry); reel = now (reel .entry); table = now (table .entry) }) p) (p .answer)) (now (jrnl .entry)) r (now (mem .exit)) (now (reel .exit)) (now (table .exit)) (now (jrnl .exit)) ⌝ }
 {
     if too_small(table.len(), s.objects, s.objects) {
         return refused(s, 11);
@@ -106,7 +110,7 @@ pub fn step(
     if too_small(table.len(), s.objects, top) {
         return refused(s, 11);
     }
-    take_step(s, p, c, top, mem, reel, table, jrnl)
+    take_step(s, k, p, c, top, mem, reel, table, jrnl)
 }
 
 // The first of refusals 1 to 4, 11 and 9 of a step that changes the state alone, or 0.
@@ -126,9 +130,10 @@ pub fn change_refusal(s: Session, memory: usize, reel: usize, table: usize, jour
     0
 }
 
-// A change of the state alone, which is not refused: its entry saves no bytes, and nothing is stored.
+// A change of the state of transport k alone, which is not refused: its entry saves no bytes, and nothing is stored.
 pub fn change(
     s: Session,
+    k: usize,
     next: Unit,
     mem: &mut [u8],
     reel: &mut [u8],
@@ -136,7 +141,7 @@ pub fn change(
     jrnl: &mut [u8],
 ) -> Outcome
     requires { ⌜ changeRefusal s (length (now mem)) (length (now reel)) (length (now table)) (length (now jrnl)) ≡ 0 ⌝ }
-    ensures { λ r. ⌜ Leaves (takenAs (worldOf s (now (mem .entry)) (now (reel .entry)) (now (table .entry)) (now (jrnl .entry))) (carried (record { unit = s .unit; objects = s .objects; memory = now (mem .entry); reel = now (reel .entry); table = now (table .entry) }) (changed next)) (Answer.Done false)) (now (jrnl .entry)) r (now (mem .exit)) (now (reel .exit)) (now (table .entry)) (now (jrnl .exit)) ⌝ }
+    ensures { λ r. ⌜ Leaves (takenAs (worldOf k s (now (mem .entry)) (now (reel .entry)) (now (table .entry)) (now (jrnl .entry))) (carried (record { unit = s .unit; objects = s .objects; memory = now (mem .entry); reel = now (reel .entry); table = now (table .entry) }) (changed next)) (Answer.Done false)) (now (jrnl .entry)) r (now (mem .exit)) (now (reel .exit)) (now (table .entry)) (now (jrnl .exit)) ⌝ }
 {
     let unit = s.unit;
     let touched = nothing();
@@ -144,6 +149,7 @@ pub fn change(
         unit,
         objects: s.objects,
         touched,
+        transport: k,
     };
     enter_bare(jrnl, s.used, e);
     Outcome {
@@ -168,7 +174,7 @@ pub fn host_step(
     bytes: &[u8],
 ) -> Outcome
     requires { ⌜ HostReady s (length (now mem)) (length (now reel)) (length (now jrnl)) place (length (now bytes)) ⌝ }
-    ensures { λ r. ⌜ Leaves (takenAs (worldOf s (now (mem .entry)) (now (reel .entry)) (now (table .entry)) (now (jrnl .entry))) (stored (record { unit = s .unit; objects = s .objects; memory = now (mem .entry); reel = now (reel .entry); table = now (table .entry) }) place (now (bytes .entry))) (Answer.Done false)) (now (jrnl .entry)) r (now (mem .exit)) (now (reel .entry)) (now (table .entry)) (now (jrnl .exit)) ⌝ }
+    ensures { λ r. ⌜ Leaves (takenAs (worldOf 0 s (now (mem .entry)) (now (reel .entry)) (now (table .entry)) (now (jrnl .entry))) (stored (record { unit = s .unit; objects = s .objects; memory = now (mem .entry); reel = now (reel .entry); table = now (table .entry) }) place (now (bytes .entry))) (Answer.Done false)) (now (jrnl .entry)) r (now (mem .exit)) (now (reel .entry)) (now (table .entry)) (now (jrnl .exit)) ⌝ }
 {
     if too_small(table.len(), s.objects, s.objects) {
         return refused(s, 11);
@@ -179,6 +185,7 @@ pub fn host_step(
         unit,
         objects: s.objects,
         touched,
+        transport: 0,
     };
     let n = entry_length(e, mem.len(), reel.len());
     if s.journal - s.used < n {
@@ -202,7 +209,7 @@ pub fn host_step(
 // for those that come back.
 pub fn undo(s: Session, mem: &mut [u8], reel: &mut [u8], table: &mut [u8], jrnl: &[u8]) -> Outcome
     requires { ⌜ Undoable s (length (now mem)) (length (now reel)) (length (now jrnl)) ⌝ }
-    ensures { λ r. ⌜ Leaves (undoOn (worldOf s (now (mem .entry)) (now (reel .entry)) (now (table .entry)) (now (jrnl .entry)))) (now (jrnl .entry)) r (now (mem .exit)) (now (reel .exit)) (now (table .exit)) (now (jrnl .entry)) ⌝ }
+    ensures { λ r. ⌜ (k : ℕ) → Leaves (undoOn (worldOf k s (now (mem .entry)) (now (reel .entry)) (now (table .entry)) (now (jrnl .entry)))) (now (jrnl .entry)) r (now (mem .exit)) (now (reel .exit)) (now (table .exit)) (now (jrnl .entry)) ⌝ }
 {
     let e = newest_entry(jrnl, s.used, s.objects);
     let unit = e.unit;

@@ -100,6 +100,10 @@ viewOf k w = record { number = k; core = coreOf k (w .rig); ledger = w .ledger }
 abbrev pub viewOfNone : Coupled → World
 viewOfNone w = record { number = transports; core = coreOfNone (w .rig); ledger = w .ledger }
 
+-- the world of none that a call of no transport is handed
+abbrev pub worldOfNone : Coupler → List ℕ → List ℕ → World
+worldOfNone c m j = worldOf transports (sessionOver c noTransport) m [] [] j
+
 -- what a call of transport k, or of none, answered and left
 unfoldable pub lifted : ℕ → Coupled → Answered → CoupledAnswer
 lifted k w x = told (x .answer) (record { rig = withCore k (x .world .core) (w .rig); ledger = x .world .ledger })

@@ -23,7 +23,7 @@ returns c = guarded-stops _ _ _ _ _ _ _ _ (c .before .before .check .ensures) (c
 plan-advance-requires : tie.Need-plan-advance-requires
 plan-advance-requires c κs =
     let s = c .before .before .before .before .before .before .before .before .before in
-    plannable (worldOf (s .args .s) (s .args .mem .now) (s .args .reel .now) (s .args .table .now) (s .args .jrnl .now)) _ (passed _ _ _ _ (sym (c .before .before .before .before .check .ensures) ∙ c .before .before .before .if1 .left))
+    plannable (worldOf (s .args .k) (s .args .s) (s .args .mem .now) (s .args .reel .now) (s .args .table .now) (s .args .jrnl .now)) _ (passed _ _ _ _ (sym (c .before .before .before .before .check .ensures) ∙ c .before .before .before .if1 .left))
 
 enum-told : tie.Need-enum-told
 enum-told c = search needs

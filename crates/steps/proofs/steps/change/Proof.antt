@@ -20,7 +20,7 @@ nothing-requires c κs = search needs
 enter-bare-requires : tie.Need-enter-bare-requires
 enter-bare-requires c κs =
     let s = c .before .before .before .before .before .before .before in
-    let w = worldOf (s .args .s) (s .args .mem .now) (s .args .reel .now) (s .args .table .now) (s .args .jrnl .now) in
+    let w = worldOf (s .args .k) (s .args .s) (s .args .mem .now) (s .args .reel .now) (s .args .table .now) (s .args .jrnl .now) in
     let free = changeable (s .args .s) _ _ _ _ (s .pre) in
     let bare = bare-length (w .core) _ (c .before .nothing .ensures) in
     (omega (arith, bare, room w _ (passed _ _ _ _ (free .right)) _ _ bare (free .room)), c .before .nothing .ensures)
@@ -38,7 +38,7 @@ returns : tie.Need-returns
 unfolding isStep
 returns c =
     let s = c .before .before .before .before .before .before .before .before .before .before .before in
-    let w = worldOf (s .args .s) (s .args .mem .now) (s .args .reel .now) (s .args .table .now) (s .args .jrnl .now) in
+    let w = worldOf (s .args .k) (s .args .s) (s .args .mem .now) (s .args .reel .now) (s .args .table .now) (s .args .jrnl .now) in
     let free = changeable (s .args .s) _ _ _ _ (s .pre) in
     let bare = c .before .before .before .before .before .nothing .ensures in
     let after = change-after (w .core) (s .args .next) in

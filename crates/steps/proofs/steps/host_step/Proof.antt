@@ -42,17 +42,17 @@ refused-requires-2 c κs = search needs
 returns-2 : tie.Need-returns-2
 returns-2 c =
     let s = c .before .before .before .before .before .before .before .before .before .before .before .before .before in
-    let w = worldOf (s .args .s) (s .args .mem .now) (s .args .reel .now) (s .args .table .now) (s .args .jrnl .now) in
+    let w = worldOf 0 (s .args .s) (s .args .mem .now) (s .args .reel .now) (s .args .table .now) (s .args .jrnl .now) in
     let right = store-right _ _ _ (s .pre .short) (s .pre .inside) in
     taken-stops _ _ _ _ _ _ _ _ _ (store-entry (w .core) _ _ right _ (c .before .before .before .before .host-touched .ensures)) (c .before .before .before .entry-length .ensures) (ap (λ (d : Core). d .objects) (store-after (w .core) _ (s .args .bytes .now) right _ refl)) (sym (c .before .before .before .before .before .before .before .too-small .ensures) ∙ c .before .before .before .before .before .before .if1 .left) _ _ (c .before .if2 .taken) (c .refused2 .ensures .0) (c .refused2 .ensures .1)
 
 enter-run-requires : tie.Need-enter-run-requires
 enter-run-requires c κs =
     let s = c .before .before .before .before .before .before .before .before .before .before .before .before .before .before in
-    let w = worldOf (s .args .s) (s .args .mem .now) (s .args .reel .now) (s .args .table .now) (s .args .jrnl .now) in
+    let w = worldOf 0 (s .args .s) (s .args .mem .now) (s .args .reel .now) (s .args .table .now) (s .args .jrnl .now) in
     let touched = c .before .before .before .before .before .host-touched .ensures ∙ host-run _ _ in
     let sizes = sound-sizes (s .args .s) (s .args .mem .now) (s .args .reel .now) _ (s .pre .sound) in
-    let long = run-whole (record { unit = s .args .s .unit; objects = s .args .s .objects; touched = _ }) _ _ touched in (
+    let long = run-whole (record { unit = s .args .s .unit; objects = s .args .s .objects; touched = _; transport = 0 }) _ _ touched in (
       omega (arith, long, room w _ (passed _ _ _ _ (s .pre .sound .right)) _ _ (c .before .before .before .before .entry-length .ensures) (c .before .before .if2 .left)),
       s .pre .inside,
       sizes .even,
@@ -78,7 +78,7 @@ returns-3 : tie.Need-returns-3
 unfolding isStep
 returns-3 c =
     let s = c .before .before .before .before .before .before .before .before .before .before .before .before .before .before .before .before .before .before .before .before .before .before .before in
-    let w = worldOf (s .args .s) (s .args .mem .now) (s .args .reel .now) (s .args .table .now) (s .args .jrnl .now) in
+    let w = worldOf 0 (s .args .s) (s .args .mem .now) (s .args .reel .now) (s .args .table .now) (s .args .jrnl .now) in
     let right = store-right _ _ _ (s .pre .short) (s .pre .inside) in
     let touched = c .before .before .before .before .before .before .before .before .before .before .before .before .before .before .host-touched .ensures in
     let long = c .before .before .before .before .before .before .before .before .before .before .before .before .before .entry-length .ensures in

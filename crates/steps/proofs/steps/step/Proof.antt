@@ -43,7 +43,7 @@ same-length-2 c = search needs
 returns-2 : tie.Need-returns-2
 returns-2 c =
     let s = c .before .before .before .before .before .before .before .before .before .before .before .before .before .before in
-    let w = worldOf (s .args .s) (s .args .mem .now) (s .args .reel .now) (s .args .table .now) (s .args .jrnl .now) in
+    let w = worldOf (s .args .k) (s .args .s) (s .args .mem .now) (s .args .reel .now) (s .args .table .now) (s .args .jrnl .now) in
     let top = step-objects (w .core) (s .args .p) _ (c .before .before .before .before .cut-for .ensures) _ (c .before .before .before .objects-after .ensures) in
     small-stops _ _ _ _ _ _ _ _ (sym (ap (tooSmall _ _) top) ∙ sym (c .before .before .too-small2 .ensures) ∙ c .before .if2 .taken) (c .refused2 .ensures .0) (c .refused2 .ensures .1)
 

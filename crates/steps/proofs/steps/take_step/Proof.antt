@@ -26,13 +26,13 @@ refused-requires c κs = search needs
 returns : tie.Need-returns
 returns c =
     let s = c .before .before .before .before .before .before .before .before .before .before in
-    let w = worldOf (s .args .s) (s .args .mem .now) (s .args .reel .now) (s .args .table .now) (s .args .jrnl .now) in
+    let w = worldOf (s .args .k) (s .args .s) (s .args .mem .now) (s .args .reel .now) (s .args .table .now) (s .args .jrnl .now) in
     taken-stops _ _ _ _ _ _ _ _ _ (step-entry (w .core) (s .args .p) _ (s .pre .cut) _ (c .before .before .before .before .touched-by .ensures)) (c .before .before .before .entry-length .ensures) (step-objects (w .core) (s .args .p) _ (s .pre .cut) _ (s .pre .after)) (s .pre .large) _ _ (c .before .if1 .taken) (c .refused .ensures .0) (c .refused .ensures .1)
 
 enter-requires : tie.Need-enter-requires
 enter-requires c κs =
     let s = c .before .before .before .before .before .before .before .before .before .before .before .before .before in
-    let w = worldOf (s .args .s) (s .args .mem .now) (s .args .reel .now) (s .args .table .now) (s .args .jrnl .now) in
+    let w = worldOf (s .args .k) (s .args .s) (s .args .mem .now) (s .args .reel .now) (s .args .table .now) (s .args .jrnl .now) in
     let p = passed _ _ _ _ (s .pre .ready .sound .right) in (
       room w _ p _ _ (c .before .before .before .before .before .before .entry-length .ensures) (c .before .before .before .before .if1 .left),
       omega (arith, p .journal-is, p .limit),
@@ -67,7 +67,7 @@ same-length-4 c = search needs
 returns-2 : tie.Need-returns-2
 returns-2 c =
     let s = c .before .before .before .before .before .before .before .before .before .before .before .before .before .before .before .before .before .before .before .before .before .before .before .before .before .before .before .before .before .before in
-    let w = worldOf (s .args .s) (s .args .mem .now) (s .args .reel .now) (s .args .table .now) (s .args .jrnl .now) in
+    let w = worldOf (s .args .k) (s .args .s) (s .args .mem .now) (s .args .reel .now) (s .args .table .now) (s .args .jrnl .now) in
     let long = c .before .before .before .before .before .before .before .before .before .before .before .before .before .before .before .before .before .before .before .before .before .before .before .entry-length .ensures in
     let fits = c .before .before .before .before .before .before .before .before .before .before .before .before .before .before .before .before .before .before .before .before .before .if1 .left in
     taken-goes _ _ _ _ _ _ _ _ _ (step-entry (w .core) (s .args .p) _ (s .pre .cut) _ (c .before .before .before .before .before .before .before .before .before .before .before .before .before .before .before .before .before .before .before .before .before .before .before .before .touched-by .ensures)) long (step-objects (w .core) (s .args .p) _ (s .pre .cut) _ (s .pre .after)) (s .pre .large) _ _ _ _ _ _ (s .pre .ready .done) fits (room w _ (passed _ _ _ _ (s .pre .ready .sound .right)) _ _ long fits) (c .before .before .before .before .before .before .before .before .before .before .before .before .before .before .before .before .enter .ensures) (step-after (w .core) (s .args .p) _ (s .pre .cut) _ _ _ _ (s .pre .after) (c .before .before .before .before .before .before .before .before .before .before .before .store .ensures) (c .before .before .before .before .fill-places .ensures))

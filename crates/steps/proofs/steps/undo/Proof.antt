@@ -24,7 +24,7 @@ refused-requires : tie.Need-refused-requires
 refused-requires c κs = search needs
 
 returns : tie.Need-returns
-returns c = undo-stops _ _ _ _ _ _ _ _ (c .before .before .before .before .before .before .newest-entry .ensures) (c .before .before .before .entry-fits .ensures) (c .before .before .state-wrong .ensures) _ (c .before .if1 .taken) (c .refused .ensures .0) (c .refused .ensures .1)
+returns c = λ k. undo-stops _ _ _ _ _ _ _ _ (c .before .before .before .before .before .before .newest-entry .ensures) (c .before .before .before .entry-fits .ensures) (c .before .before .state-wrong .ensures) k _ (c .before .if1 .taken) (c .refused .ensures .0) (c .refused .ensures .1)
 
 too-small-requires : tie.Need-too-small-requires
 too-small-requires c κs = search needs
@@ -33,7 +33,7 @@ refused-requires-2 : tie.Need-refused-requires-2
 refused-requires-2 c κs = search needs
 
 returns-2 : tie.Need-returns-2
-returns-2 c = undo-lacks _ _ _ _ _ _ _ _ (c .before .before .before .before .before .before .before .before .newest-entry .ensures) (c .before .before .before .before .before .entry-fits .ensures) (c .before .before .before .before .state-wrong .ensures) (c .before .before .before .if1 .left) _ (c .before .before .too-small .ensures) _ (c .before .if2 .taken) (c .refused2 .ensures .0) (c .refused2 .ensures .1)
+returns-2 c = λ k. undo-lacks _ _ _ _ _ _ _ _ (c .before .before .before .before .before .before .before .before .newest-entry .ensures) (c .before .before .before .before .before .entry-fits .ensures) (c .before .before .before .before .state-wrong .ensures) (c .before .before .before .if1 .left) _ (c .before .before .too-small .ensures) k _ (c .before .if2 .taken) (c .refused2 .ensures .0) (c .refused2 .ensures .1)
 
 entry-length-requires : tie.Need-entry-length-requires
 entry-length-requires c κs =
@@ -70,7 +70,7 @@ same-length-3 : tie.Need-same-length-3
 same-length-3 c = search needs
 
 returns-3 : tie.Need-returns-3
-returns-3 c = undo-goes _ _ _ _ _ _ _ _ (c .before .before .before .before .before .before .before .before .before .before .before .before .before .before .before .before .before .before .before .newest-entry .ensures) (c .before .before .before .before .before .before .before .before .before .before .before .before .before .before .before .before .entry-fits .ensures) (c .before .before .before .before .before .before .before .before .before .before .before .before .before .before .before .state-wrong .ensures) (c .before .before .before .before .before .before .before .before .before .before .before .before .before .before .if1 .left) _ (c .before .before .before .before .before .before .before .before .before .before .before .before .before .too-small .ensures) _ _ _ _ (c .before .before .before .before .before .before .before .before .before .before .before .before .if2 .left) (c .before .before .before .before .before .before .before .before .before .before .before .entry-length .ensures) (c .before .before .before .before .before .before .before .bring-entry-back .ensures)
+returns-3 c = λ k. undo-goes _ _ _ _ _ _ _ _ (c .before .before .before .before .before .before .before .before .before .before .before .before .before .before .before .before .before .before .before .newest-entry .ensures) (c .before .before .before .before .before .before .before .before .before .before .before .before .before .before .before .before .entry-fits .ensures) (c .before .before .before .before .before .before .before .before .before .before .before .before .before .before .before .state-wrong .ensures) (c .before .before .before .before .before .before .before .before .before .before .before .before .before .before .if1 .left) _ (c .before .before .before .before .before .before .before .before .before .before .before .before .before .too-small .ensures) k _ _ _ _ (c .before .before .before .before .before .before .before .before .before .before .before .before .if2 .left) (c .before .before .before .before .before .before .before .before .before .before .before .entry-length .ensures) (c .before .before .before .before .before .before .before .bring-entry-back .ensures)
 
 pub undo-spec : {M : Type 1} → statement M
 undo-spec =
