@@ -1,9 +1,9 @@
 -- Four transports on one coupler (02, [9]): "memory and journal are shared, reels and their tables are not." All that calls over a row can change, in two parts
 -- again: the rig that steps change and steps back bring back, and the ledger of the steps that stand. Each call of a transport is the call of its own world.
-use mathlib.Core.Bool.{Bool, false, _&&_, not}
+use mathlib.Core.Bool.{Bool, false, not}
 use mathlib.Core.List.{List, [], map}
 use Prim.Native.Nat.{ℕ}
-use lib.Dec.{eqb, ltb}
+use lib.Dec.{eqb}
 use lib.ListN.{getD, length, set, take}
 use Rattle.lists.specs.Pick.{pick}
 use Rattle.tape.specs.Afresh.{objectsIn}
@@ -14,10 +14,10 @@ use Rattle.unit.specs.Asks.{Ask, host-store}
 use Rattle.unit.specs.Cores.{Core}
 use Rattle.unit.specs.Steps.{stepOf}
 use Rattle.unit.specs.declared.registers.Register.{Register}
-use Rattle.entries.specs.Entries.{entryBare, entryFits, newestEntry, savedIn, transports}
+use Rattle.entries.specs.Entries.{entryFits, newestEntry, savedIn, transports}
 use Rattle.entries.specs.declared.Entry.{Entry}
 use Rattle.worlds.specs.Calls.{mountOn, refusedAs, registerOn, stepOn, tableMounted, takenBy, undoOn, without}
-use Rattle.worlds.specs.Rows.{absentIn, couplerChecked, couplerOf, isMounted, noTransport, rowChecked, sessionOver, standingIn, transportOf, unitOver}
+use Rattle.worlds.specs.Rows.{absentIn, backRefusal, couplerChecked, couplerOf, noTransport, sessionOver, transportOf, unitOver}
 use Rattle.worlds.specs.Worlds.{Answered, Ledger, World, answered, sessionOf, worldOf}
 use Rattle.worlds.specs.declared.Coupler.{Coupler}
 use Rattle.worlds.specs.declared.Outcome.{Outcome}
@@ -164,19 +164,15 @@ couplerIn w = record { used = w .ledger .used; memory = w .rig .mounted; journal
 abbrev pub namedIn : List ℕ → ℕ
 namedIn j = newestEntry 0 j .transport
 
--- "Step back undoes the newest step of any unit"; an entry whose transport is not present or not mounted doesn't fit: 8
+-- "Step back undoes the newest step of any unit": of transport k, or of none
 unfoldable pub undoNamed : Coupled → ℕ → CoupledAnswer
-undoNamed w k =
-    pick (eqb k transports) (liftedNone w (undoNone (viewOfNone w)))
-    (pick (standingIn (seatsOf (w .rig)) k) (lifted k w (undoOn (viewOf k w))) (refusedWith 8 w))
+undoNamed w k = pick (eqb k transports) (liftedNone w (undoNone (viewOfNone w))) (lifted k w (undoOn (viewOf k w)))
 
--- the first of 1 to 4, then 6, and 8 of a used journal too short for an entry
+abbrev pub backChecked : Coupled → ℕ → ℕ
+backChecked w n = backRefusal (couplerIn w) (seatsOf (w .rig)) (length (w .rig .memory)) n (namedIn (w .ledger .bytes))
+
 unfoldable pub backOver : Coupled → ℕ → CoupledAnswer
-backOver w n =
-    pick (eqb (rowChecked (couplerIn w) (seatsOf (w .rig)) (length (w .rig .memory)) n) 0)
-    (pick (eqb (w .ledger .used) 0) (refusedWith 6 w)
-    (pick (ltb (w .ledger .used) entryBare) (refusedWith 8 w) (undoNamed w (namedIn (w .ledger .bytes)))))
-    (refusedWith (rowChecked (couplerIn w) (seatsOf (w .rig)) (length (w .rig .memory)) n) w)
+backOver w n = pick (eqb (backChecked w n) 0) (undoNamed w (namedIn (w .ledger .bytes))) (refusedWith (backChecked w n) w)
 
 -- "mounting any unit empties the journal for all", sets what is shared, and touches no other record: transport k after a mount o, whose table is then tb
 unfoldable pub mountedAt : Coupled → ℕ → Outcome → List ℕ → Answer → Coupled

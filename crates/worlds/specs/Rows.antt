@@ -8,7 +8,7 @@ use Rattle.lists.specs.Pick.{pick}
 use Rattle.tape.specs.Numbers.{blockBytes}
 use Rattle.state.specs.Checks.{memoryRight, stateWrong}
 use Rattle.state.specs.declared.Unit.{Unit}
-use Rattle.entries.specs.Entries.{transports}
+use Rattle.entries.specs.Entries.{entryBare, transports}
 use Rattle.worlds.specs.Refusals.{journalLimit}
 use Rattle.worlds.specs.declared.Coupler.{Coupler}
 use Rattle.worlds.specs.declared.Seat.{Seat}
@@ -107,3 +107,11 @@ noSeat = record { transport = noTransport; reel = 0 }
 -- transport k is in the row, and mounted
 unfoldable pub standingIn : List Seat → ℕ → Bool
 standingIn row k = not (absentIn (length row) k) && isMounted (getD row k noSeat .transport)
+
+-- refusals 1 to 4, then 6 and 8 of a step back whose newest entry names k: 8 where the used journal is too short for an entry, or where its transport is not present
+-- or not mounted, so that the entry doesn't fit
+unfoldable pub backRefusal : Coupler → List Seat → ℕ → ℕ → ℕ → ℕ
+backRefusal c row memory journal k =
+    pick (not (eqb (rowChecked c row memory journal) 0)) (rowChecked c row memory journal)
+    (pick (eqb (c .used) 0) 6
+    (pick (ltb (c .used) entryBare || not (eqb k transports || standingIn row k)) 8 0))

@@ -1,0 +1,1 @@
+-- The calls of no transport mean what crate worlds says (specs/Coupled).
