@@ -1,28 +1,15 @@
-// The exported look-ups in the table: they change nothing.
+// Look-ups in a unit's table: they change nothing.
+use crate::answers::number_in;
 use commands::Answer;
 use index::Found;
-use stateblock::block_right;
-use stateblock::session_in;
+use records::UnitRecord;
+use records::coupler_in;
+use records::record_right;
+use records::transport_in;
 use worlds::Finding;
-ghost use mathlib.Core.Path.{_≡_};
-ghost use Rattle.commands.specs.Answers.{numberOf};
-ghost use Rattle.ts11.specs.Finds.{Finds, blockGiven, fileGiven, isFound, noFinding, placeFound};
+use worlds::session_over;
 
-// The paper's number of an answer.
-pub fn number_in(a: Answer) -> usize
-    ensures { λ r. ⌜ r ≡ numberOf a ⌝ }
-{
-    match a {
-        Answer::Done(_) => 0,
-        Answer::Idle => 0,
-        Answer::Refused(n) => n,
-        Answer::BadBlock(_, _) => 7,
-    }
-}
-
-fn is_found(x: Found) -> bool
-    ensures { λ r. ⌜ r ≡ isFound x ⌝ }
-{
+fn is_found(x: Found) -> bool {
     match x {
         Found::At(_) => true,
         Found::Nowhere => false,
@@ -30,55 +17,53 @@ fn is_found(x: Found) -> bool
 }
 
 // The place, or 0.
-fn place_found(x: Found) -> usize
-    ensures { λ r. ⌜ r ≡ placeFound x ⌝ }
-{
+fn place_found(x: Found) -> usize {
     match x {
         Found::At(i) => i,
         Found::Nowhere => 0,
     }
 }
 
-// Bytes that are no session's block.
-fn no_finding() -> Finding
-    ensures { λ r. ⌜ r ≡ noFinding ⌝ }
-{
+// A record that is no transport's.
+fn no_finding() -> Finding {
     Finding {
         answer: Answer::Refused(1),
         found: Found::Nowhere,
     }
 }
 
-fn file_given(state: &[u8; 128], table: &[u8], file: usize) -> Finding
-    ensures { λ r. ⌜ r ≡ fileGiven (now (state .entry)) (now (table .entry)) file ⌝ }
-{
-    if !block_right(state) {
+fn file_given(record: UnitRecord, shared: &[u32; 3], table: &[u8], file: usize) -> Finding {
+    if !record_right(record) {
         return no_finding();
     }
-    journal::file_place(session_in(state), table, file)
+    journal::file_place(
+        session_over(transport_in(record), coupler_in(shared)),
+        table,
+        file,
+    )
 }
 
-fn block_given(state: &[u8; 128], table: &[u8], block: usize) -> Finding
-    ensures { λ r. ⌜ r ≡ blockGiven (now (state .entry)) (now (table .entry)) block ⌝ }
-{
-    if !block_right(state) {
+fn block_given(record: UnitRecord, shared: &[u32; 3], table: &[u8], block: usize) -> Finding {
+    if !record_right(record) {
         return no_finding();
     }
-    journal::block_place(session_in(state), table, block)
+    journal::block_place(
+        session_over(transport_in(record), coupler_in(shared)),
+        table,
+        block,
+    )
 }
 
 // The place where file `file` begins.
-#[no_mangle]
-pub extern "C" fn ts11_find_file(
-    state: &[u8; 128],
+pub fn find_file(
+    record: UnitRecord,
+    shared: &[u32; 3],
     table: &[u8],
     file: usize,
     found: &mut bool,
     place: &mut usize,
-) -> usize
-    ensures { λ r. ⌜ Finds (fileGiven (now (state .entry)) (now (table .entry)) file) r (now (found .exit)) (now (place .exit)) ⌝ }
-{
-    let r = file_given(state, table, file);
+) -> usize {
+    let r = file_given(record, shared, table, file);
     let answer = r.answer;
     let x = r.found;
     *found = is_found(x);
@@ -87,20 +72,24 @@ pub extern "C" fn ts11_find_file(
 }
 
 // The place of the object that holds block `block`.
-#[no_mangle]
-pub extern "C" fn ts11_find_block(
-    state: &[u8; 128],
+pub fn find_block(
+    record: UnitRecord,
+    shared: &[u32; 3],
     table: &[u8],
     block: usize,
     found: &mut bool,
     place: &mut usize,
-) -> usize
-    ensures { λ r. ⌜ Finds (blockGiven (now (state .entry)) (now (table .entry)) block) r (now (found .exit)) (now (place .exit)) ⌝ }
-{
-    let r = block_given(state, table, block);
+) -> usize {
+    let r = block_given(record, shared, table, block);
     let answer = r.answer;
     let x = r.found;
     *found = is_found(x);
     *place = place_found(x);
     number_in(answer)
+}
+
+pub fn not_found(found: &mut bool, place: &mut usize) -> usize {
+    *found = false;
+    *place = 0;
+    12
 }

@@ -1,0 +1,208 @@
+// The calls of one unit, on its record by value: the journal's, between the record and what is shared.
+use crate::answers::act_of;
+use crate::answers::block_in;
+use crate::answers::fault_in;
+use crate::answers::interrupts;
+use crate::answers::is_step;
+use crate::answers::number_in;
+use crate::answers::register_of;
+use commands::Answer;
+use records::UnitRecord;
+use records::coupler_in;
+use records::put_coupler;
+use records::record_of;
+use records::record_right;
+use records::transport_in;
+use worlds::Session;
+use worlds::coupler_of;
+use worlds::session_over;
+use worlds::transport_of;
+
+// What a call of a unit hands back: its number, and the record if it took a step.
+pub struct Given {
+    pub stepped: bool,
+    pub number: usize,
+    pub record: UnitRecord,
+}
+
+// A session taken out of the row.
+fn session_in(record: UnitRecord, shared: &[u32; 3]) -> Session {
+    session_over(transport_in(record), coupler_in(shared))
+}
+
+// The session after a step is put back; any other answer leaves both alone.
+fn close(record: UnitRecord, shared: &mut [u32; 3], answer: Answer, s: Session) -> Given {
+    match answer {
+        Answer::Done(_) => {
+            put_coupler(shared, coupler_of(s));
+            Given {
+                stepped: true,
+                number: 0,
+                record: record_of(transport_of(s)),
+            }
+        }
+        _ => Given {
+            stepped: false,
+            number: number_in(answer),
+            record,
+        },
+    }
+}
+
+// A record that is no transport's is refused with 1.
+fn no_record(record: UnitRecord) -> Given {
+    Given {
+        stepped: false,
+        number: 1,
+        record,
+    }
+}
+
+pub fn mount(
+    record: UnitRecord,
+    shared: &mut [u32; 3],
+    memory_length: usize,
+    reel: &[u8],
+    table: &mut [u8],
+    journal_length: usize,
+    end: usize,
+    online: bool,
+    locked: bool,
+    block: &mut usize,
+    fault: &mut u8,
+) -> Given {
+    let session = session_in(record, shared);
+    let o = journal::mount(
+        session,
+        memory_length,
+        reel,
+        table,
+        journal_length,
+        end,
+        online,
+        locked,
+    );
+    let answer = o.answer;
+    *block = block_in(answer);
+    *fault = fault_in(answer);
+    close(record, shared, answer, o.session)
+}
+
+pub fn write_tsdb(
+    record: UnitRecord,
+    unit: usize,
+    shared: &mut [u32; 3],
+    memory: &mut [u8],
+    reel: &mut [u8],
+    table: &[u8],
+    journal: &mut [u8],
+    word: u16,
+) -> Given {
+    if !record_right(record) {
+        return no_record(record);
+    }
+    let o = journal::write_tsdb(
+        session_in(record, shared),
+        unit,
+        memory,
+        reel,
+        table,
+        journal,
+        word,
+    );
+    let answer = o.answer;
+    close(record, shared, answer, o.session)
+}
+
+pub fn write_tssr(
+    record: UnitRecord,
+    unit: usize,
+    shared: &mut [u32; 3],
+    memory: &mut [u8],
+    reel: &mut [u8],
+    table: &[u8],
+    journal: &mut [u8],
+) -> Given {
+    if !record_right(record) {
+        return no_record(record);
+    }
+    let o = journal::write_tssr(
+        session_in(record, shared),
+        unit,
+        memory,
+        reel,
+        table,
+        journal,
+    );
+    let answer = o.answer;
+    close(record, shared, answer, o.session)
+}
+
+pub fn operate(
+    record: UnitRecord,
+    unit: usize,
+    shared: &mut [u32; 3],
+    memory: &mut [u8],
+    reel: &mut [u8],
+    table: &[u8],
+    journal: &mut [u8],
+    write_lock: bool,
+    on: bool,
+) -> Given {
+    if !record_right(record) {
+        return no_record(record);
+    }
+    let o = journal::operate(
+        session_in(record, shared),
+        unit,
+        memory,
+        reel,
+        table,
+        journal,
+        act_of(write_lock, on),
+    );
+    let answer = o.answer;
+    close(record, shared, answer, o.session)
+}
+
+pub fn advance(
+    record: UnitRecord,
+    unit: usize,
+    shared: &mut [u32; 3],
+    memory: &mut [u8],
+    reel: &mut [u8],
+    table: &mut [u8],
+    journal: &mut [u8],
+    stepped: &mut bool,
+    interrupt: &mut bool,
+    block: &mut usize,
+    fault: &mut u8,
+) -> Given {
+    if !record_right(record) {
+        *stepped = false;
+        *interrupt = false;
+        *block = 0;
+        *fault = 0;
+        return no_record(record);
+    }
+    let session = session_in(record, shared);
+    let o = journal::advance(session, unit, memory, reel, table, journal);
+    let answer = o.answer;
+    *stepped = is_step(answer);
+    *interrupt = interrupts(answer);
+    *block = block_in(answer);
+    *fault = fault_in(answer);
+    close(record, shared, answer, o.session)
+}
+
+pub fn read_register(record: UnitRecord, shared: &[u32; 3], tssr: bool, word: &mut u16) -> usize {
+    if !record_right(record) {
+        *word = 0;
+        return 1;
+    }
+    let session = session_in(record, shared);
+    let r = journal::read_register(session, register_of(tssr));
+    let answer = r.answer;
+    *word = r.word;
+    number_in(answer)
+}
