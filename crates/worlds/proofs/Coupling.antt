@@ -1,15 +1,15 @@
 -- Laws of the coupler: a transport's core taken out of the rig and put back, what the checks over a row let pass, and a host store undone.
-use mathlib.Core.Path.{_≡_, refl, sym, ap, _∙_}
+use mathlib.Core.Path.{_≡_, refl, ap}
 use mathlib.Core.Bool.{Bool, true, false, _&&_, _||_, not, and-eq-true-iff}
 use mathlib.Core.List.{List, [], _∷_}
-use Prim.Native.Nat.{ℕ, zero, suc, _+_, _-_, _*_, _%_, _≤_, _<_}
+use Prim.Native.Nat.{ℕ, zero, suc, _+_, _*_, _%_, _≤_, _<_}
 use native.Mathlib.Omega.{arith}
 use borrow.Author.Tests.{eq-eqb, eqb-true, le-leb, le-ltb, leb-false, lt-leb, ltb-false, not-false, not-true}
 use lib.Dec.{eqb, leb, ltb}
 use lib.ListN.{getD, length, length-set}
 use lib.Seq.{getD-set-other, getD-set-same, length-sets, set-getD, set-set, sets}
 use Rattle.lists.specs.Pick.{pick}
-use Rattle.lists.proofs.Cases.{by-test, past, pick-told}
+use Rattle.lists.proofs.Cases.{past, pick-told}
 use Rattle.tape.specs.Numbers.{blockBytes}
 use Rattle.tape.proofs.Accepted.{clash}
 use Rattle.state.specs.Checks.{memoryLimit, memoryRight, stateWrong}
@@ -24,7 +24,7 @@ use Rattle.unit.specs.Cores.{Core}
 use Rattle.unit.specs.Steps.{Step, hostLimit, stepOf, storeWrong, stored}
 use Rattle.unit.specs.Touching.{hostTouched}
 use Rattle.unit.proofs.Touches.{host-in, host-only}
-use Rattle.entries.specs.Entries.{entryFits, entryLength, transports}
+use Rattle.entries.specs.Entries.{entryFits, transports}
 use Rattle.entries.specs.Numbers.{Small}
 use Rattle.entries.specs.declared.Entry.{Entry}
 use Rattle.entries.proofs.Fitting.{fits}
