@@ -1,17 +1,18 @@
 -- A row of four at most: what is asked of every seat, and of seat k, as tests of the four with their number.
 use mathlib.Core.Path.{_≡_, refl, sym, _∙_}
-use mathlib.Core.Bool.{Bool, true, false, _&&_, _||_, not, or-false, or-true}
-use mathlib.Core.List.{List, [], _∷_}
-use Prim.Native.Nat.{ℕ, zero, suc, _<_, _≤_}
+use mathlib.Core.Bool.{Bool, true, false, _&&_, _||_, or-false, or-true}
+use mathlib.Core.List.{[], _∷_}
+use Prim.Native.Nat.{ℕ, zero, suc, _<_}
 use native.Mathlib.Omega.{arith}
-use borrow.Author.Tests.{leb-false, le-leb, lt-leb, lt-ltb}
+use borrow.Author.Tests.{eq-eqb, leb-false, lt-leb, lt-ltb, ne-eqb}
 use lib.Dec.{eqb, leb, ltb}
-use lib.ListN.{getD, length, length-take, take}
+use lib.ListN.{getD, length, take}
 use lib.Seq.{getD-take}
 use Rattle.lists.proofs.Cases.{by-test}
 use Rattle.entries.specs.Entries.{transports}
 use Rattle.state.proofs.Tests.{neither}
-use Rattle.worlds.specs.Rows.{absentIn, anyOf, isMounted, noSeat, rowOf, standingIn}
+use Rattle.worlds.specs.Rows.{absentIn, anyOf, couplerWrong, isMounted, noSeat, reelSeatWrong, rowChecked, rowOf, standingIn, stateSeatWrong}
+use Rattle.worlds.specs.declared.Coupler.{Coupler}
 use Rattle.worlds.specs.declared.Seat.{Seat}
 
 -- a chain of tests, and the same two by two
@@ -98,3 +99,41 @@ module _ (s0 s1 s2 s3 : Seat) where
         let few : k < transports = leb-false transports k (p .1) in
         let same : absentIn (length (rowOf n s0 s1 s2 s3)) k ≡ false = absent-row ∙ h in
         rw (same, getD-take n (s0 ∷ s1 ∷ s2 ∷ s3 ∷ []) k noSeat below) (seat-of-four k few)
+
+-- the answers of a check over the four: w0 to w3 say at which seat the state is wrong, r0 to r3 at which the reel is
+module _ (c : Coupler) (n : ℕ) (s0 s1 s2 s3 : Seat) (memory journal : ℕ) where
+  abbrev answers : ℕ → Type 0
+  answers r = r ≡ rowChecked c (rowOf n s0 s1 s2 s3) memory journal
+
+  -- the tests of four, each with its number
+  abbrev ofFour : Bool → Bool → Bool → Bool → Bool
+  ofFour a b d e = ((ltb 0 n && a) || (ltb 1 n && b)) || ((ltb 2 n && d) || (ltb 3 n && e))
+
+  module _ (w w0 w1 w2 w3 : Bool) (d : w ≡ couplerWrong c) (d0 : w0 ≡ stateSeatWrong (c .memory) s0) (d1 : w1 ≡ stateSeatWrong (c .memory) s1) (d2 : w2 ≡ stateSeatWrong (c .memory) s2) (d3 : w3 ≡ stateSeatWrong (c .memory) s3) where
+    wrong-row : (couplerWrong c || anyOf (stateSeatWrong (c .memory)) (rowOf n s0 s1 s2 s3)) ≡ (w || ofFour w0 w1 w2 w3)
+    wrong-row = rw (any-row (stateSeatWrong (c .memory)) s0 s1 s2 s3 n, ← d, ← d0, ← d1, ← d2, ← d3)
+
+    pub row-one : (w || ofFour w0 w1 w2 w3) ≡ true → answers 1
+    unfolding rowChecked
+    row-one t = rw (wrong-row, t)
+
+    module _ (t : (w || ofFour w0 w1 w2 w3) ≡ false) where
+      pub row-two : (memory ≡ c .memory → ⊥) → answers 2
+      unfolding rowChecked
+      row-two m = rw (wrong-row, t, ne-eqb memory (c .memory) m)
+
+      module _ (r0 r1 r2 r3 : Bool) (m : memory ≡ c .memory) (e0 : r0 ≡ reelSeatWrong s0) (e1 : r1 ≡ reelSeatWrong s1) (e2 : r2 ≡ reelSeatWrong s2) (e3 : r3 ≡ reelSeatWrong s3) where
+        wrong-reel : anyOf reelSeatWrong (rowOf n s0 s1 s2 s3) ≡ ofFour r0 r1 r2 r3
+        wrong-reel = rw (any-row reelSeatWrong s0 s1 s2 s3 n, ← e0, ← e1, ← e2, ← e3)
+
+        pub row-three : ofFour r0 r1 r2 r3 ≡ true → answers 3
+        unfolding rowChecked
+        row-three f = rw (wrong-row, t, eq-eqb memory (c .memory) m, wrong-reel, f)
+
+        pub row-four : ofFour r0 r1 r2 r3 ≡ false → (journal ≡ c .journal → ⊥) → answers 4
+        unfolding rowChecked
+        row-four f j = rw (wrong-row, t, eq-eqb memory (c .memory) m, wrong-reel, f, ne-eqb journal (c .journal) j)
+
+        pub row-none : ofFour r0 r1 r2 r3 ≡ false → journal ≡ c .journal → answers 0
+        unfolding rowChecked
+        row-none f j = rw (wrong-row, t, eq-eqb memory (c .memory) m, wrong-reel, f, eq-eqb journal (c .journal) j)

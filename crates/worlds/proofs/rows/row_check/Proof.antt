@@ -1,8 +1,6 @@
--- `row_check` meets its contract: what is asked of the row is asked of the four, and then one line for each refusal, in number order.
+-- `row_check` meets its contract: a law of the row for each answer, in number order.
 use borrow.Author.Needs.{needs}
-use borrow.Author.Tests.{eq-eqb, ne-eqb}
-use Rattle.worlds.specs.Rows.{reelSeatWrong, rowChecked, stateSeatWrong}
-use Rattle.worlds.proofs.Seating.{any-row}
+use Rattle.worlds.proofs.Seating.{row-four, row-none, row-one, row-three, row-two}
 use Rattle.worlds.proofs.rows.row_check.Statement.{statement}
 use Rattle.worlds.proofs.rows.row_check.Tie as tie
 
@@ -22,37 +20,18 @@ coupler-wrong-requires : tie.Need-coupler-wrong-requires
 coupler-wrong-requires c κs = search needs
 
 returns : tie.Need-returns
-unfolding rowChecked
 returns c =
     let t = c .before in
     let a = t .before .before .before .before .before .args in
-    rw (
-      any-row (stateSeatWrong (a .c .memory)) (a .s0) (a .s1) (a .s2) (a .s3) (a .n),
-      any-row reelSeatWrong (a .s0) (a .s1) (a .s2) (a .s3) (a .n),
-      ← t .coupler-wrong .ensures,
-      ← t .before .state-seat-wrong4 .ensures,
-      ← t .before .before .state-seat-wrong3 .ensures,
-      ← t .before .before .before .state-seat-wrong2 .ensures,
-      ← t .before .before .before .before .state-seat-wrong .ensures,
-      c .if1 .taken,
-    )
+    row-one (a .c) (a .n) (a .s0) (a .s1) (a .s2) (a .s3) (a .memory) (a .journal) _ _ _ _ _ (t .coupler-wrong .ensures) (t .before .before .before .before .state-seat-wrong .ensures) (t .before .before .before .state-seat-wrong2 .ensures) (t .before .before .state-seat-wrong3 .ensures) (t .before .state-seat-wrong4 .ensures)
+    (c .if1 .taken)
 
 returns-2 : tie.Need-returns-2
-unfolding rowChecked
 returns-2 c =
     let t = c .before .before in
     let a = t .before .before .before .before .before .args in
-    rw (
-      any-row (stateSeatWrong (a .c .memory)) (a .s0) (a .s1) (a .s2) (a .s3) (a .n),
-      any-row reelSeatWrong (a .s0) (a .s1) (a .s2) (a .s3) (a .n),
-      ← t .coupler-wrong .ensures,
-      ← t .before .state-seat-wrong4 .ensures,
-      ← t .before .before .state-seat-wrong3 .ensures,
-      ← t .before .before .before .state-seat-wrong2 .ensures,
-      ← t .before .before .before .before .state-seat-wrong .ensures,
-      c .before .if1 .left,
-      ne-eqb _ _ (c .if2 .taken),
-    )
+    row-two (a .c) (a .n) (a .s0) (a .s1) (a .s2) (a .s3) (a .memory) (a .journal) _ _ _ _ _ (t .coupler-wrong .ensures) (t .before .before .before .before .state-seat-wrong .ensures) (t .before .before .before .state-seat-wrong2 .ensures) (t .before .before .state-seat-wrong3 .ensures) (t .before .state-seat-wrong4 .ensures)
+    (c .before .if1 .left) (c .if2 .taken)
 
 reel-seat-wrong-requires : tie.Need-reel-seat-wrong-requires
 reel-seat-wrong-requires c κs = search needs
@@ -67,72 +46,28 @@ reel-seat-wrong-requires-4 : tie.Need-reel-seat-wrong-requires-4
 reel-seat-wrong-requires-4 c κs = search needs
 
 returns-3 : tie.Need-returns-3
-unfolding rowChecked
 returns-3 c =
     let t = c .before .before .before .before .before .before .before in
     let a = t .before .before .before .before .before .args in
-    rw (
-      any-row (stateSeatWrong (a .c .memory)) (a .s0) (a .s1) (a .s2) (a .s3) (a .n),
-      any-row reelSeatWrong (a .s0) (a .s1) (a .s2) (a .s3) (a .n),
-      ← t .coupler-wrong .ensures,
-      ← t .before .state-seat-wrong4 .ensures,
-      ← t .before .before .state-seat-wrong3 .ensures,
-      ← t .before .before .before .state-seat-wrong2 .ensures,
-      ← t .before .before .before .before .state-seat-wrong .ensures,
-      c .before .before .before .before .before .before .if1 .left,
-      eq-eqb _ _ (c .before .before .before .before .before .if2 .left),
-      ← c .before .reel-seat-wrong4 .ensures,
-      ← c .before .before .reel-seat-wrong3 .ensures,
-      ← c .before .before .before .reel-seat-wrong2 .ensures,
-      ← c .before .before .before .before .reel-seat-wrong .ensures,
-      c .if3 .taken,
-    )
+    row-three (a .c) (a .n) (a .s0) (a .s1) (a .s2) (a .s3) (a .memory) (a .journal) _ _ _ _ _ (t .coupler-wrong .ensures) (t .before .before .before .before .state-seat-wrong .ensures) (t .before .before .before .state-seat-wrong2 .ensures) (t .before .before .state-seat-wrong3 .ensures) (t .before .state-seat-wrong4 .ensures)
+    (c .before .before .before .before .before .before .if1 .left) _ _ _ _ (c .before .before .before .before .before .if2 .left) (c .before .before .before .before .reel-seat-wrong .ensures) (c .before .before .before .reel-seat-wrong2 .ensures) (c .before .before .reel-seat-wrong3 .ensures) (c .before .reel-seat-wrong4 .ensures)
+    (c .if3 .taken)
 
 returns-4 : tie.Need-returns-4
-unfolding rowChecked
 returns-4 c =
     let t = c .before .before .before .before .before .before .before .before .before in
     let a = t .before .before .before .before .before .args in
-    rw (
-      any-row (stateSeatWrong (a .c .memory)) (a .s0) (a .s1) (a .s2) (a .s3) (a .n),
-      any-row reelSeatWrong (a .s0) (a .s1) (a .s2) (a .s3) (a .n),
-      ← t .coupler-wrong .ensures,
-      ← t .before .state-seat-wrong4 .ensures,
-      ← t .before .before .state-seat-wrong3 .ensures,
-      ← t .before .before .before .state-seat-wrong2 .ensures,
-      ← t .before .before .before .before .state-seat-wrong .ensures,
-      c .before .before .before .before .before .before .before .before .if1 .left,
-      eq-eqb _ _ (c .before .before .before .before .before .before .before .if2 .left),
-      ← c .before .before .before .reel-seat-wrong4 .ensures,
-      ← c .before .before .before .before .reel-seat-wrong3 .ensures,
-      ← c .before .before .before .before .before .reel-seat-wrong2 .ensures,
-      ← c .before .before .before .before .before .before .reel-seat-wrong .ensures,
-      c .before .before .if3 .left,
-      ne-eqb _ _ (c .if4 .taken),
-    )
+    row-four (a .c) (a .n) (a .s0) (a .s1) (a .s2) (a .s3) (a .memory) (a .journal) _ _ _ _ _ (t .coupler-wrong .ensures) (t .before .before .before .before .state-seat-wrong .ensures) (t .before .before .before .state-seat-wrong2 .ensures) (t .before .before .state-seat-wrong3 .ensures) (t .before .state-seat-wrong4 .ensures)
+    (c .before .before .before .before .before .before .before .before .if1 .left) _ _ _ _ (c .before .before .before .before .before .before .before .if2 .left) (c .before .before .before .before .before .before .reel-seat-wrong .ensures) (c .before .before .before .before .before .reel-seat-wrong2 .ensures) (c .before .before .before .before .reel-seat-wrong3 .ensures) (c .before .before .before .reel-seat-wrong4 .ensures)
+    (c .before .before .if3 .left) (c .if4 .taken)
 
 returns-5 : tie.Need-returns-5
-unfolding rowChecked
 returns-5 c =
     let t = c .before .before .before .before .before .before .before .before .before in
     let a = t .before .before .before .before .before .args in
-    rw (
-      any-row (stateSeatWrong (a .c .memory)) (a .s0) (a .s1) (a .s2) (a .s3) (a .n),
-      any-row reelSeatWrong (a .s0) (a .s1) (a .s2) (a .s3) (a .n),
-      ← t .coupler-wrong .ensures,
-      ← t .before .state-seat-wrong4 .ensures,
-      ← t .before .before .state-seat-wrong3 .ensures,
-      ← t .before .before .before .state-seat-wrong2 .ensures,
-      ← t .before .before .before .before .state-seat-wrong .ensures,
-      c .before .before .before .before .before .before .before .before .if1 .left,
-      eq-eqb _ _ (c .before .before .before .before .before .before .before .if2 .left),
-      ← c .before .before .before .reel-seat-wrong4 .ensures,
-      ← c .before .before .before .before .reel-seat-wrong3 .ensures,
-      ← c .before .before .before .before .before .reel-seat-wrong2 .ensures,
-      ← c .before .before .before .before .before .before .reel-seat-wrong .ensures,
-      c .before .before .if3 .left,
-      eq-eqb _ _ (c .if4 .left),
-    )
+    row-none (a .c) (a .n) (a .s0) (a .s1) (a .s2) (a .s3) (a .memory) (a .journal) _ _ _ _ _ (t .coupler-wrong .ensures) (t .before .before .before .before .state-seat-wrong .ensures) (t .before .before .before .state-seat-wrong2 .ensures) (t .before .before .state-seat-wrong3 .ensures) (t .before .state-seat-wrong4 .ensures)
+    (c .before .before .before .before .before .before .before .before .if1 .left) _ _ _ _ (c .before .before .before .before .before .before .before .if2 .left) (c .before .before .before .before .before .before .reel-seat-wrong .ensures) (c .before .before .before .before .before .reel-seat-wrong2 .ensures) (c .before .before .before .before .reel-seat-wrong3 .ensures) (c .before .before .before .reel-seat-wrong4 .ensures)
+    (c .before .before .if3 .left) (c .if4 .left)
 
 pub row-check-spec : {M : Type 1} → statement M
 row-check-spec =
