@@ -29,12 +29,12 @@ module _ (s : Session) (m r tb j : List ℕ) (e : Entry) (f w : Bool) (de : e �
 
   pub undo-stops : (number : ℕ) (o : Outcome) → not (f && not w) ≡ true → o .answer ≡ answer.Refused 8 → o .session ≡ s → Leaves (undoOn (worldOf number s m r tb j)) j o m r tb j
   unfolding undoOn undoBy entryWrong
-  undo-stops number number o t k l = rw (← de, ← df, ← dw, not-true (f && not w) t) (left-alone s m r tb j (answer.Refused 8) o k l)
+  undo-stops number o t k l = rw (← de, ← df, ← dw, not-true (f && not w) t) (left-alone number s m r tb j (answer.Refused 8) o k l)
 
   module _ (t : not (f && not w) ≡ false) (g : Bool) (dg : g ≡ tooSmall (length tb) (s .objects) (e .objects)) where
     pub undo-lacks : (number : ℕ) (o : Outcome) → g ≡ true → o .answer ≡ answer.Refused 11 → o .session ≡ s → Leaves (undoOn (worldOf number s m r tb j)) j o m r tb j
     unfolding undoOn undoBy entryWrong
-    undo-lacks number number o v k l = rw (← de, ← df, ← dw, not-false (f && not w) t, ← dg, v) (left-alone s m r tb j (answer.Refused 11) o k l)
+    undo-lacks number o v k l = rw (← de, ← df, ← dw, not-false (f && not w) t, ← dg, v) (left-alone number s m r tb j (answer.Refused 11) o k l)
 
     -- the places that it filled are the last of those that are used
     pub undo-places : Sizes (length m) (length r) → g ≡ false → PlacesIn (e .touched) (length tb)
@@ -51,15 +51,15 @@ module _ (s : Session) (m r tb j : List ℕ) (e : Entry) (f w : Bool) (de : e �
         (record { answer = refl; world = rw (b .memory, b .reel, b .table, less); unless-step = λ t. refl })
 
 -- the step back's own refusals, 6 and the 8 of a used journal too short for an entry
-module _ {number : ℕ} (s : Session) (m r tb j : List ℕ) (n : ℕ) (e : n ≡ checked s (length m) (length r) (length j)) (f : n ≡ 0) (o : Outcome) where
+module _ (number : ℕ) (s : Session) (m r tb j : List ℕ) (n : ℕ) (e : n ≡ checked s (length m) (length r) (length j)) (f : n ≡ 0) (o : Outcome) where
   pub back-none : s .used ≡ 0 → o .answer ≡ answer.Refused 6 → o .session ≡ s → Leaves (backOn (worldOf number s m r tb j) (length j)) j o m r tb j
   unfolding backOn
-  back-none h p q = guarded-goes s m r tb j n _ o m r tb j e f (rw (eq-eqb (s .used) 0 h) (left-alone s m r tb j (answer.Refused 6) o p q))
+  back-none h p q = guarded-goes number s m r tb j n _ o m r tb j e f (rw (eq-eqb (s .used) 0 h) (left-alone number s m r tb j (answer.Refused 6) o p q))
 
   pub back-short : (s .used ≡ 0 → ⊥) → s .used < entryBare → o .answer ≡ answer.Refused 8 → o .session ≡ s → Leaves (backOn (worldOf number s m r tb j) (length j)) j o m r tb j
   unfolding backOn
-  back-short g h p q = guarded-goes s m r tb j n _ o m r tb j e f (rw (ne-eqb (s .used) 0 g, lt-ltb (s .used) entryBare h) (left-alone s m r tb j (answer.Refused 8) o p q))
+  back-short g h p q = guarded-goes number s m r tb j n _ o m r tb j e f (rw (ne-eqb (s .used) 0 g, lt-ltb (s .used) entryBare h) (left-alone number s m r tb j (answer.Refused 8) o p q))
 
   pub back-goes : (m′ r′ tb′ j′ : List ℕ) → (s .used ≡ 0 → ⊥) → entryBare ≤ s .used → Leaves (undoOn (worldOf number s m r tb j)) j o m′ r′ tb′ j′ → Leaves (backOn (worldOf number s m r tb j) (length j)) j o m′ r′ tb′ j′
   unfolding backOn
-  back-goes m′ r′ tb′ j′ g h k = guarded-goes s m r tb j n _ o m′ r′ tb′ j′ e f (rw (ne-eqb (s .used) 0 g, le-ltb (s .used) entryBare h) k)
+  back-goes m′ r′ tb′ j′ g h k = guarded-goes number s m r tb j n _ o m′ r′ tb′ j′ e f (rw (ne-eqb (s .used) 0 g, le-ltb (s .used) entryBare h) k)

@@ -20,7 +20,7 @@ use Rattle.worlds.specs.declared.Outcome.{Outcome}
 use Rattle.steps.proofs.Outs.{answer-rests, answer-takes}
 use Rattle.steps.proofs.Entered.{store-answer}
 
-module _ {number : ℕ} (s : Session) (m r tb j : List ℕ) where
+module _ (number : ℕ) (s : Session) (m r tb j : List ℕ) where
   abbrev core : Core
   core = worldOf number s m r tb j .core
 
@@ -37,10 +37,10 @@ module _ {number : ℕ} (s : Session) (m r tb j : List ℕ) where
 
     pub store-stops : t ≡ true → o .answer ≡ answer.Refused 5 → o .session ≡ s → Leaves (takenBy (worldOf number s m r tb j) (stored core place bytes) (stored core place bytes .answer)) j o m r tb j
     unfolding takenBy
-    store-stops h k l = answer-rests s m r tb j (stored core place bytes) (answer.Refused 5) o (refused-answer h) refl k l
+    store-stops h k l = answer-rests number s m r tb j (stored core place bytes) (answer.Refused 5) o (refused-answer h) refl k l
 
     pub store-takes : (m′ r′ tb′ j′ : List ℕ) → t ≡ false → Leaves (takenAs (worldOf number s m r tb j) (stored core place bytes) (answer.Done false)) j o m′ r′ tb′ j′ → Leaves (takenBy (worldOf number s m r tb j) (stored core place bytes) (stored core place bytes .answer)) j o m′ r′ tb′ j′
-    store-takes m′ r′ tb′ j′ h k = answer-takes s m r tb j (stored core place bytes) false o m′ r′ tb′ j′ (store-answer core place bytes (sym dt ∙ h)) k
+    store-takes m′ r′ tb′ j′ h k = answer-takes number s m r tb j (stored core place bytes) false o m′ r′ tb′ j′ (store-answer core place bytes (sym dt ∙ h)) k
 
   -- by the plan's answer
   module _ (p : Plan) (dp : p ≡ advanced (s .unit) m r) where
@@ -48,9 +48,9 @@ module _ {number : ℕ} (s : Session) (m r tb j : List ℕ) where
     unfolding stepOf carried
     advance-takes i o m′ r′ tb′ j′ t h =
         rw (← dp)
-        (answer-takes s m r tb j (carried core p) i o m′ r′ tb′ j′ t
+        (answer-takes number s m r tb j (carried core p) i o m′ r′ tb′ j′ t
         (subst (λ (a : Answer). Leaves (takenAs (worldOf number s m r tb j) (carried core p) a) j o m′ r′ tb′ j′) t h))
 
     pub advance-rests : (a : Answer) → p .answer ≡ a → takenBy (worldOf number s m r tb j) (carried core p) a ≡ answered a (worldOf number s m r tb j) → Leaves (takenBy (worldOf number s m r tb j) (stepOf advance core) (stepOf advance core .answer)) j (outcome (p .answer) s) m r tb j
     unfolding stepOf carried
-    advance-rests a t q = rw (← dp) (answer-rests s m r tb j (carried core p) a (outcome (p .answer) s) t q t refl)
+    advance-rests a t q = rw (← dp) (answer-rests number s m r tb j (carried core p) a (outcome (p .answer) s) t q t refl)

@@ -60,7 +60,7 @@ module _ (s : Session) (memory reel table journal : ℕ) where
       (λ v. record { right = eqb-true first 0 t; large = u; room = ltb-false (s .journal - s .used) entryBare v })))
       (λ t. absurd (eqb-false first 0 t (sym (stopped t) ∙ h)))
 
-module _ {number : ℕ} (s : Session) (m r tb j : List ℕ) (v : Unit) where
+module _ (number : ℕ) (s : Session) (m r tb j : List ℕ) (v : Unit) where
   abbrev core : Core
   core = worldOf number s m r tb j .core
 
@@ -76,19 +76,19 @@ module _ {number : ℕ} (s : Session) (m r tb j : List ℕ) (v : Unit) where
   -- one that is not refused takes the step
   pub change-goes : (u : Unit) (o : Outcome) (m′ r′ tb′ j′ : List ℕ) (k : ℕ) → k ≡ n → k ≡ 0 → u ≡ v → Leaves (takenAs (worldOf number s m r tb j) (carried core (changed u)) (answer.Done false)) j o m′ r′ tb′ j′ → Leaves (guarded (worldOf number s m r tb j) (length j) (takenBy (worldOf number s m r tb j) step (step .answer))) j o m′ r′ tb′ j′
   change-goes u o m′ r′ tb′ j′ k e f g h =
-      guarded-goes s m r tb j _ _ o m′ r′ tb′ j′ refl (changeable s _ _ _ _ (sym e ∙ f) .right) (change-takes s m r tb j u v o m′ r′ tb′ j′ g h)
+      guarded-goes number s m r tb j _ _ o m′ r′ tb′ j′ refl (changeable s _ _ _ _ (sym e ∙ f) .right) (change-takes number s m r tb j u v o m′ r′ tb′ j′ g h)
 
   module _ (o : Outcome) (q : o .session ≡ s) where
     goes : eqb (checked s (length m) (length r) (length j)) 0 ≡ true → Leaves (takenAs (worldOf number s m r tb j) step (answer.Done false)) j o m r tb j → Leaves (guarded (worldOf number s m r tb j) (length j) (takenBy (worldOf number s m r tb j) step (step .answer))) j o m r tb j
-    goes t l = guarded-goes s m r tb j _ _ o m r tb j refl (eqb-true _ 0 t) (change-takes s m r tb j v v o m r tb j refl l)
+    goes t l = guarded-goes number s m r tb j _ _ o m r tb j refl (eqb-true _ 0 t) (change-takes number s m r tb j v v o m r tb j refl l)
 
     -- a change that is refused with k changes nothing
     pub change-stops : (k : ℕ) → k ≡ n → (k ≡ 0 → ⊥) → o .answer ≡ answer.Refused k → Leaves (guarded (worldOf number s m r tb j) (length j) (takenBy (worldOf number s m r tb j) step (step .answer))) j o m r tb j
     change-stops k e f p =
         by-test (eqb (checked s (length m) (length r) (length j)) 0)
         (λ t. by-test (tooSmall (length tb) (s .objects) (s .objects))
-        (λ u. goes t (small-stops s m r tb j step (answer.Done false) o (ap (tooSmall (length tb) (s .objects)) (sym same-objects) ∙ u) (p ∙ ap answer.Refused (e ∙ small s (length m) (length r) (length tb) (length j) t u)) q))
+        (λ u. goes t (small-stops number s m r tb j step (answer.Done false) o (ap (tooSmall (length tb) (s .objects)) (sym same-objects) ∙ u) (p ∙ ap answer.Refused (e ∙ small s (length m) (length r) (length tb) (length j) t u)) q))
         (λ u. by-test (ltb (s .journal - s .used) entryBare)
-        (λ w. goes t (taken-stops s m r tb j step _ entryBare (s .objects) (change-entry core v none refl) (bare-length core none refl) same-objects u (answer.Done false) o (ltb-true (s .journal - s .used) entryBare w) (p ∙ ap answer.Refused (e ∙ full s (length m) (length r) (length tb) (length j) t u w)) q))
+        (λ w. goes t (taken-stops number s m r tb j step _ entryBare (s .objects) (change-entry core v number none refl) (bare-length number core none refl) same-objects u (answer.Done false) o (ltb-true (s .journal - s .used) entryBare w) (p ∙ ap answer.Refused (e ∙ full s (length m) (length r) (length tb) (length j) t u w)) q))
         (λ w. absurd (f (e ∙ free s (length m) (length r) (length tb) (length j) t u w)))))
-        (λ t. guarded-stops s m r tb j k _ o (e ∙ stopped s (length m) (length r) (length tb) (length j) t) f p q)
+        (λ t. guarded-stops number s m r tb j k _ o (e ∙ stopped s (length m) (length r) (length tb) (length j) t) f p q)

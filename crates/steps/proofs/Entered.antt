@@ -35,9 +35,9 @@ entryOn k c t = record { unit = c .unit; objects = c .objects; touched = t; tran
 module _ (c : Core) where
   -- a plan p that cuts the table at x
   module _ (p : Plan) (x : Cut) (dx : x ≡ cutOf c (p .laid)) where
-    pub step-entry : {k : ℕ} (t : Touched) → t ≡ touchedBy p (x .place) → entryOn k c t ≡ entryFor k c (carried c p)
-    unfolding entryFor k carried
-    step-entry {k} t h = ap (entryOn k c) (h ∙ ap (λ (y : Cut). touchedBy p (y .place)) dx)
+    pub step-entry : (k : ℕ) (t : Touched) → t ≡ touchedBy p (x .place) → entryOn k c t ≡ entryFor k c (carried c p)
+    unfolding entryFor carried
+    step-entry k t h = ap (entryOn k c) (h ∙ ap (λ (y : Cut). touchedBy p (y .place)) dx)
 
     pub step-objects : (top : ℕ) → top ≡ objectsAfter (p .laid) x (c .objects) → top ≡ carried c p .after .objects
     unfolding carried
@@ -57,8 +57,8 @@ module _ (c : Core) where
     unfolding touchedBy movedPlace movedTo movedLength still laidBlocks objectBlocks laidPlaces objectPlaces
     still-touched = refl
 
-    pub change-entry : {k : ℕ} (t : Touched) → t ≡ none → entryOn k c t ≡ entryFor k c (carried c (changed v))
-    change-entry {k} t h = step-entry (changed v) noCut uncut t (h ∙ still-touched)
+    pub change-entry : (k : ℕ) (t : Touched) → t ≡ none → entryOn k c t ≡ entryFor k c (carried c (changed v))
+    change-entry k t h = step-entry (changed v) noCut uncut k t (h ∙ still-touched)
 
     pub change-after : (record { unit = v; objects = c .objects; memory = c .memory; reel = c .reel; table = c .table }) ≡ carried c (changed v) .after
     unfolding carried still memoryAfter messageOn movedOn reelAfter laidOn laidObjects laidObject imagesOf readInto recordBytes movedBytes movedTo placed cutFor laidPlaces objectPlaces objectsAfter tableAfter extended tableFrom
@@ -70,9 +70,9 @@ module _ (c : Core) where
     unfolding stored
     store-answer = rw right
 
-    pub store-entry : {k : ℕ} (t : Touched) → t ≡ hostTouched place (length bytes) → entryOn k c t ≡ entryFor k c (stored c place bytes)
+    pub store-entry : (k : ℕ) (t : Touched) → t ≡ hostTouched place (length bytes) → entryOn k c t ≡ entryFor k c (stored c place bytes)
     unfolding entryFor stored
-    store-entry {k} t h = rw right (ap (entryOn k c) h)
+    store-entry k t h = rw right (ap (entryOn k c) h)
 
     pub store-after : (m′ : List ℕ) → m′ ≡ sets (c .memory) place bytes → (record { unit = c .unit; objects = c .objects; memory = m′; reel = c .reel; table = c .table }) ≡ stored c place bytes .after
     unfolding stored
@@ -83,6 +83,6 @@ unfolding storeWrong
 store-right memory place n h k = rw (le-ltb hostLimit n h, le-ltb memory (place + n) k)
 
 -- the entry of a step that touches nothing saves no bytes
-pub bare-length : {k : ℕ} (c : Core) (t : Touched) → t ≡ none → entryBare ≡ entryLength (entryOn k c t)
+pub bare-length : (k : ℕ) (c : Core) (t : Touched) → t ≡ none → entryBare ≡ entryLength (entryOn k c t)
 unfolding entryLength
-bare-length c t h = rw h
+bare-length k c t h = rw h

@@ -26,7 +26,7 @@ use Rattle.worlds.proofs.Undoing.{refused-eleven, refused-nine}
 pub same-outcome : (a : Answer) (s : Session) (o : Outcome) → o .answer ≡ a → o .session ≡ s → o ≡ outcome a s
 same-outcome a s o p q = ap (λ (x : Answer). outcome x (o .session)) p ∙ ap (λ (x : Session). outcome a x) q
 
-module _ {number : ℕ} (s : Session) (m r tb j : List ℕ) where
+module _ (number : ℕ) (s : Session) (m r tb j : List ℕ) where
   -- what changes nothing
   pub left-alone : (a : Answer) (o : Outcome) → o .answer ≡ a → o .session ≡ s → Leaves (answered a (worldOf number s m r tb j)) j o m r tb j
   left-alone a o p q = record { answer = p; world = ap (λ (x : Session). worldOf number x m r tb j) q; unless-step = λ t. refl }

@@ -12,9 +12,12 @@ use Rattle.storing.specs.Stored.{Storable}
 use Rattle.index.specs.declared.Cut.{Cut}
 use Rattle.unit.specs.Steps.{cutFor, hostLimit, objectsAfter, tooSmall}
 use Rattle.entries.specs.Entries.{entryBare}
+use Rattle.worlds.specs.Calls.{undoOn}
 use Rattle.worlds.specs.Refusals.{checked}
 use Rattle.worlds.specs.Rows.{couplerChecked}
 use Rattle.worlds.specs.declared.Coupler.{Coupler}
+use Rattle.worlds.specs.Worlds.{Leaves, worldOf}
+use Rattle.worlds.specs.declared.Outcome.{Outcome}
 use Rattle.worlds.specs.declared.Session.{Session}
 
 pub record Unrefused (s : Session) (memory reel journal : ℕ) : Type 0 where
@@ -57,3 +60,7 @@ pub record StoreReady (c : Coupler) (memory journal place n : ℕ) : Type 0 wher
 pub record NoneUndoable (c : Coupler) (memory journal : ℕ) : Type 0 where
   pub right : couplerChecked c memory journal ≡ 0
   pub long : entryBare ≤ c .used
+
+-- the newest entry brought back, whichever transport's it is
+abbrev pub Undoes : Session → List ℕ → List ℕ → List ℕ → List ℕ → Outcome → List ℕ → List ℕ → List ℕ → Type 0
+Undoes s m r tb j o m′ r′ tb′ = (k : ℕ) → Leaves (undoOn (worldOf k s m r tb j)) j o m′ r′ tb′ j

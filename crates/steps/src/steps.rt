@@ -26,12 +26,11 @@ use worlds::Session;
 use worlds::check;
 ghost use mathlib.Core.Bool.{false};
 ghost use mathlib.Core.Path.{_≡_};
-ghost use Prim.Native.Nat.{ℕ};
 ghost use lib.ListN.{length};
 ghost use Rattle.unit.specs.Steps.{carried, changed, stored};
 ghost use Rattle.worlds.specs.Worlds.{Leaves, worldOf};
-ghost use Rattle.worlds.specs.Calls.{takenAs, undoOn};
-ghost use Rattle.steps.specs.Readiness.{CutReady, HostReady, Ready, Undoable, changeRefusal};
+ghost use Rattle.worlds.specs.Calls.{takenAs};
+ghost use Rattle.steps.specs.Readiness.{CutReady, HostReady, Ready, Undoable, Undoes, changeRefusal};
 
 // Refusal n changes nothing.
 pub fn refused(s: Session, n: usize) -> Outcome
@@ -209,7 +208,7 @@ pub fn host_step(
 // for those that come back.
 pub fn undo(s: Session, mem: &mut [u8], reel: &mut [u8], table: &mut [u8], jrnl: &[u8]) -> Outcome
     requires { ⌜ Undoable s (length (now mem)) (length (now reel)) (length (now jrnl)) ⌝ }
-    ensures { λ r. ⌜ (k : ℕ) → Leaves (undoOn (worldOf k s (now (mem .entry)) (now (reel .entry)) (now (table .entry)) (now (jrnl .entry)))) (now (jrnl .entry)) r (now (mem .exit)) (now (reel .exit)) (now (table .exit)) (now (jrnl .entry)) ⌝ }
+    ensures { λ r. ⌜ Undoes s (now (mem .entry)) (now (reel .entry)) (now (table .entry)) (now (jrnl .entry)) r (now (mem .exit)) (now (reel .exit)) (now (table .exit)) ⌝ }
 {
     let e = newest_entry(jrnl, s.used, s.objects);
     let unit = e.unit;

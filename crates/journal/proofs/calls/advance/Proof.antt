@@ -18,7 +18,7 @@ refused-requires c κs = search needs
 
 returns : tie.Need-returns
 unfolding stepOn
-returns c = guarded-stops _ _ _ _ _ _ _ _ (c .before .before .check .ensures) (c .before .if1 .taken) (c .refused .ensures .0) (c .refused .ensures .1)
+returns c = guarded-stops _ _ _ _ _ _ _ _ _ (c .before .before .check .ensures) (c .before .if1 .taken) (c .refused .ensures .0) (c .refused .ensures .1)
 
 plan-advance-requires : tie.Need-plan-advance-requires
 plan-advance-requires c κs =
@@ -56,7 +56,7 @@ same-length-4 c = search needs
 
 returns-2 : tie.Need-returns-2
 unfolding stepOn
-returns-2 c = guarded-goes _ _ _ _ _ _ _ _ _ _ _ _ (c .before .before .before .before .before .before .before .before .before .before .before .before .before .before .before .before .before .before .before .before .check .ensures) (c .before .before .before .before .before .before .before .before .before .before .before .before .before .before .before .before .before .before .before .if1 .left) (advance-takes _ _ _ _ _ _ (c .before .before .before .before .before .before .before .before .before .before .before .before .before .before .before .plan-advance .ensures) _ _ _ _ _ _ (c .before .before .before .before .before .before .before .before .before .before .before .before .before .enum-told .given .1) (c .before .before .before .before .before .before .before .before .step .ensures))
+returns-2 c = guarded-goes _ _ _ _ _ _ _ _ _ _ _ _ _ (c .before .before .before .before .before .before .before .before .before .before .before .before .before .before .before .before .before .before .before .before .check .ensures) (c .before .before .before .before .before .before .before .before .before .before .before .before .before .before .before .before .before .before .before .if1 .left) (advance-takes _ _ _ _ _ _ _ (c .before .before .before .before .before .before .before .before .before .before .before .before .before .before .before .plan-advance .ensures) _ _ _ _ _ _ (c .before .before .before .before .before .before .before .before .before .before .before .before .before .enum-told .given .1) (c .before .before .before .before .before .before .before .before .step .ensures))
 
 same-length-5 : tie.Need-same-length-5
 same-length-5 c = search needs
@@ -66,7 +66,7 @@ same-length-6 c = search needs
 
 returns-3 : tie.Need-returns-3
 unfolding stepOn takenBy
-returns-3 c = guarded-goes _ _ _ _ _ _ _ _ _ _ _ _ (c .before .before .before .before .before .before .before .check .ensures) (c .before .before .before .before .before .before .if1 .left) (advance-rests _ _ _ _ _ _ (c .before .before .plan-advance .ensures) _ (c .enum-told2 .given .1) refl)
+returns-3 c = guarded-goes _ _ _ _ _ _ _ _ _ _ _ _ _ (c .before .before .before .before .before .before .before .check .ensures) (c .before .before .before .before .before .before .if1 .left) (advance-rests _ _ _ _ _ _ _ (c .before .before .plan-advance .ensures) _ (c .enum-told2 .given .1) refl)
 
 same-length-7 : tie.Need-same-length-7
 same-length-7 c = search needs
@@ -76,7 +76,7 @@ same-length-8 c = search needs
 
 returns-4 : tie.Need-returns-4
 unfolding stepOn takenBy
-returns-4 c = guarded-goes _ _ _ _ _ _ _ _ _ _ _ _ (c .before .before .before .before .before .before .before .check .ensures) (c .before .before .before .before .before .before .if1 .left) (advance-rests _ _ _ _ _ _ (c .before .before .plan-advance .ensures) _ (c .enum-told3 .given .1) refl)
+returns-4 c = guarded-goes _ _ _ _ _ _ _ _ _ _ _ _ _ (c .before .before .before .before .before .before .before .check .ensures) (c .before .before .before .before .before .before .if1 .left) (advance-rests _ _ _ _ _ _ _ (c .before .before .plan-advance .ensures) _ (c .enum-told3 .given .1) refl)
 
 same-length-9 : tie.Need-same-length-9
 same-length-9 c = search needs
@@ -86,7 +86,7 @@ same-length-10 c = search needs
 
 returns-5 : tie.Need-returns-5
 unfolding stepOn takenBy
-returns-5 c = guarded-goes _ _ _ _ _ _ _ _ _ _ _ _ (c .before .before .before .before .before .before .before .check .ensures) (c .before .before .before .before .before .before .if1 .left) (advance-rests _ _ _ _ _ _ (c .before .before .plan-advance .ensures) _ (c .enum-told4 .given .1) refl)
+returns-5 c = guarded-goes _ _ _ _ _ _ _ _ _ _ _ _ _ (c .before .before .before .before .before .before .before .check .ensures) (c .before .before .before .before .before .before .if1 .left) (advance-rests _ _ _ _ _ _ _ (c .before .before .plan-advance .ensures) _ (c .enum-told4 .given .1) refl)
 
 pub advance-spec : {M : Type 1} → statement M
 advance-spec =

@@ -16,7 +16,7 @@ refused-requires c κs = search needs
 
 returns : tie.Need-returns
 unfolding stepOn
-returns c = guarded-stops _ _ _ _ _ _ _ _ (c .before .before .check .ensures) (c .before .if1 .taken) (c .refused .ensures .0) (c .refused .ensures .1)
+returns c = guarded-stops _ _ _ _ _ _ _ _ _ (c .before .before .check .ensures) (c .before .if1 .taken) (c .refused .ensures .0) (c .refused .ensures .1)
 
 store-wrong-requires : tie.Need-store-wrong-requires
 store-wrong-requires c κs = search needs
@@ -26,7 +26,7 @@ refused-requires-2 c κs = search needs
 
 returns-2 : tie.Need-returns-2
 unfolding stepOn stepOf
-returns-2 c = guarded-goes _ _ _ _ _ _ _ _ _ _ _ _ (c .before .before .before .before .check .ensures) (c .before .before .before .if1 .left) (store-stops _ _ _ _ _ _ _ _ (c .before .before .store-wrong .ensures) _ (c .before .if2 .taken) (c .refused2 .ensures .0) (c .refused2 .ensures .1))
+returns-2 c = guarded-goes _ _ _ _ _ _ _ _ _ _ _ _ _ (c .before .before .before .before .check .ensures) (c .before .before .before .if1 .left) (store-stops _ _ _ _ _ _ _ _ _ (c .before .before .store-wrong .ensures) _ (c .before .if2 .taken) (c .refused2 .ensures .0) (c .refused2 .ensures .1))
 
 host-step-requires : tie.Need-host-step-requires
 host-step-requires c κs = host-ready _ _ _ _ _ _ _ _ (c .before .before .before .before .before .check .ensures) (c .before .before .before .before .if1 .left) (c .before .before .before .store-wrong .ensures) (c .before .before .if2 .left)
@@ -39,7 +39,7 @@ same-length-2 c = search needs
 
 returns-3 : tie.Need-returns-3
 unfolding stepOn stepOf
-returns-3 c = guarded-goes _ _ _ _ _ _ _ _ _ _ _ _ (c .before .before .before .before .before .before .before .before .before .before .check .ensures) (c .before .before .before .before .before .before .before .before .before .if1 .left) (store-takes _ _ _ _ _ _ _ _ (c .before .before .before .before .before .before .before .before .store-wrong .ensures) _ _ _ _ _ (c .before .before .before .before .before .before .before .if2 .left) (c .before .before .before .before .host-step .ensures))
+returns-3 c = guarded-goes _ _ _ _ _ _ _ _ _ _ _ _ _ (c .before .before .before .before .before .before .before .before .before .before .check .ensures) (c .before .before .before .before .before .before .before .before .before .if1 .left) (store-takes _ _ _ _ _ _ _ _ _ (c .before .before .before .before .before .before .before .before .store-wrong .ensures) _ _ _ _ _ (c .before .before .before .before .before .before .before .if2 .left) (c .before .before .before .before .host-step .ensures))
 
 pub host-store-spec : {M : Type 1} → statement M
 host-store-spec =

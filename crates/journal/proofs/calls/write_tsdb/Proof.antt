@@ -14,7 +14,7 @@ refused-requires c κs = search needs
 
 returns : tie.Need-returns
 unfolding stepOn stepOf
-returns c = change-stops _ _ _ _ _ _ _ (c .refused .ensures .1) _ (c .before .before .change-refusal .ensures) (c .before .if1 .taken) (c .refused .ensures .0)
+returns c = change-stops _ _ _ _ _ _ _ _ (c .refused .ensures .1) _ (c .before .before .change-refusal .ensures) (c .before .if1 .taken) (c .refused .ensures .0)
 
 write-tsdb-requires : tie.Need-write-tsdb-requires
 write-tsdb-requires c κs = search needs
@@ -33,7 +33,7 @@ same-length-3 c = search needs
 
 returns-2 : tie.Need-returns-2
 unfolding stepOn stepOf
-returns-2 c = change-goes _ _ _ _ _ _ _ _ _ _ _ _ _ (c .before .before .before .before .before .before .before .before .before .before .before .before .before .change-refusal .ensures) (c .before .before .before .before .before .before .before .before .before .before .before .before .if1 .left) (c .before .before .before .before .before .before .before .before .before .before .write-tsdb .ensures) (c .before .before .before .before .before .before .change .ensures)
+returns-2 c = change-goes _ _ _ _ _ _ _ _ _ _ _ _ _ _ (c .before .before .before .before .before .before .before .before .before .before .before .before .before .change-refusal .ensures) (c .before .before .before .before .before .before .before .before .before .before .before .before .if1 .left) (c .before .before .before .before .before .before .before .before .before .before .write-tsdb .ensures) (c .before .before .before .before .before .before .change .ensures)
 
 pub write-tsdb-spec : {M : Type 1} → statement M
 write-tsdb-spec =

@@ -22,11 +22,11 @@ enter-bare-requires c κs =
     let s = c .before .before .before .before .before .before .before in
     let w = worldOf (s .args .k) (s .args .s) (s .args .mem .now) (s .args .reel .now) (s .args .table .now) (s .args .jrnl .now) in
     let free = changeable (s .args .s) _ _ _ _ (s .pre) in
-    let bare = bare-length (w .core) _ (c .before .nothing .ensures) in
+    let bare = bare-length (s .args .k) (w .core) _ (c .before .nothing .ensures) in
     (omega (arith, bare, room w _ (passed _ _ _ _ (free .right)) _ _ bare (free .room)), c .before .nothing .ensures)
 
-add-t14 : tie.Need-add-t14
-add-t14 c =
+add-t15 : tie.Need-add-t15
+add-t15 c =
     let s = c .before .before .before .before .before .before .before .before .before .before .before in
     let k = passed _ _ _ _ (changeable (s .args .s) _ _ _ _ (s .pre) .right) in
     omega (arith, k .used, k .limit)
@@ -42,7 +42,7 @@ returns c =
     let free = changeable (s .args .s) _ _ _ _ (s .pre) in
     let bare = c .before .before .before .before .before .nothing .ensures in
     let after = change-after (w .core) (s .args .next) in
-    taken-goes (s .args .s) _ _ _ _ _ _ _ _ (change-entry (w .core) (s .args .next) _ bare) (bare-length (w .core) _ bare) (ap (λ (d : Core). d .objects) after) (free .large) _ (s .args .next) _ _ _ _ refl (free .room) (room w _ (passed _ _ _ _ (free .right)) _ _ (bare-length (w .core) _ bare) (free .room)) (c .before .before .before .enter-bare .ensures ∙ sym (ap (sets (s .args .jrnl .now) (s .args .s .used)) (bare-bytes _ (s .args .mem .now) (s .args .reel .now) (s .args .table .now) bare))) after
+    taken-goes _ (s .args .s) _ _ _ _ _ _ _ _ (change-entry (w .core) (s .args .next) _ _ bare) (bare-length _ (w .core) _ bare) (ap (λ (d : Core). d .objects) after) (free .large) _ (s .args .next) _ _ _ _ refl (free .room) (room w _ (passed _ _ _ _ (free .right)) _ _ (bare-length _ (w .core) _ bare) (free .room)) (c .before .before .before .enter-bare .ensures ∙ sym (ap (sets (s .args .jrnl .now) (s .args .s .used)) (bare-bytes _ (s .args .mem .now) (s .args .reel .now) (s .args .table .now) bare))) after
 
 pub change-spec : {M : Type 1} → statement M
-change-spec = tie.close (tie.spec nothing-requires enter-bare-requires add-t14 same-length returns)
+change-spec = tie.close (tie.spec nothing-requires enter-bare-requires add-t15 same-length returns)

@@ -23,7 +23,7 @@ refused-requires : tie.Need-refused-requires
 refused-requires c κs = search needs
 
 returns : tie.Need-returns
-returns c = small-stops _ _ _ _ _ _ _ _ (small-now _ _ _ (sym (c .before .before .too-small .ensures) ∙ c .before .if1 .taken)) (c .refused .ensures .0) (c .refused .ensures .1)
+returns c = small-stops _ _ _ _ _ _ _ _ _ (small-now _ _ _ (sym (c .before .before .too-small .ensures) ∙ c .before .if1 .taken)) (c .refused .ensures .0) (c .refused .ensures .1)
 
 host-touched-requires : tie.Need-host-touched-requires
 host-touched-requires c κs = search needs
@@ -44,7 +44,7 @@ returns-2 c =
     let s = c .before .before .before .before .before .before .before .before .before .before .before .before .before in
     let w = worldOf 0 (s .args .s) (s .args .mem .now) (s .args .reel .now) (s .args .table .now) (s .args .jrnl .now) in
     let right = store-right _ _ _ (s .pre .short) (s .pre .inside) in
-    taken-stops _ _ _ _ _ _ _ _ _ (store-entry (w .core) _ _ right _ (c .before .before .before .before .host-touched .ensures)) (c .before .before .before .entry-length .ensures) (ap (λ (d : Core). d .objects) (store-after (w .core) _ (s .args .bytes .now) right _ refl)) (sym (c .before .before .before .before .before .before .before .too-small .ensures) ∙ c .before .before .before .before .before .before .if1 .left) _ _ (c .before .if2 .taken) (c .refused2 .ensures .0) (c .refused2 .ensures .1)
+    taken-stops _ _ _ _ _ _ _ _ _ _ (store-entry (w .core) _ _ right _ _ (c .before .before .before .before .host-touched .ensures)) (c .before .before .before .entry-length .ensures) (ap (λ (d : Core). d .objects) (store-after (w .core) _ (s .args .bytes .now) right _ refl)) (sym (c .before .before .before .before .before .before .before .too-small .ensures) ∙ c .before .before .before .before .before .before .if1 .left) _ _ (c .before .if2 .taken) (c .refused2 .ensures .0) (c .refused2 .ensures .1)
 
 enter-run-requires : tie.Need-enter-run-requires
 enter-run-requires c κs =
@@ -84,7 +84,7 @@ returns-3 c =
     let long = c .before .before .before .before .before .before .before .before .before .before .before .before .before .entry-length .ensures in
     let fits = c .before .before .before .before .before .before .before .before .before .before .before .if2 .left in
     let after = store-after (w .core) _ _ right _ (c .before .before .before .before .put-host .ensures) in
-    taken-goes (s .args .s) _ _ _ _ _ _ _ _ (store-entry (w .core) _ _ right _ touched) long (ap (λ (d : Core). d .objects) after) (sym (c .before .before .before .before .before .before .before .before .before .before .before .before .before .before .before .before .before .too-small .ensures) ∙ c .before .before .before .before .before .before .before .before .before .before .before .before .before .before .before .before .if1 .left) _ _ _ _ _ _ refl fits (room w _ (passed _ _ _ _ (s .pre .sound .right)) _ _ long fits) (c .before .before .before .before .before .before .before .before .enter-run .ensures ∙ sym (ap (sets (s .args .jrnl .now) (s .args .s .used)) (run-bytes _ (s .args .mem .now) (s .args .reel .now) (s .args .table .now) _ _ (touched ∙ host-run _ _)))) after
+    taken-goes _ (s .args .s) _ _ _ _ _ _ _ _ (store-entry (w .core) _ _ right _ _ touched) long (ap (λ (d : Core). d .objects) after) (sym (c .before .before .before .before .before .before .before .before .before .before .before .before .before .before .before .before .before .too-small .ensures) ∙ c .before .before .before .before .before .before .before .before .before .before .before .before .before .before .before .before .if1 .left) _ _ _ _ _ _ refl fits (room w _ (passed _ _ _ _ (s .pre .sound .right)) _ _ long fits) (c .before .before .before .before .before .before .before .before .enter-run .ensures ∙ sym (ap (sets (s .args .jrnl .now) (s .args .s .used)) (run-bytes _ (s .args .mem .now) (s .args .reel .now) (s .args .table .now) _ _ (touched ∙ host-run _ _)))) after
 
 pub host-step-spec : {M : Type 1} → statement M
 host-step-spec =

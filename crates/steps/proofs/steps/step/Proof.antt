@@ -18,7 +18,7 @@ refused-requires : tie.Need-refused-requires
 refused-requires c κs = search needs
 
 returns : tie.Need-returns
-returns c = small-stops _ _ _ _ _ _ _ _ (small-now _ _ _ (sym (c .before .before .too-small .ensures) ∙ c .before .if1 .taken)) (c .refused .ensures .0) (c .refused .ensures .1)
+returns c = small-stops _ _ _ _ _ _ _ _ _ (small-now _ _ _ (sym (c .before .before .too-small .ensures) ∙ c .before .if1 .taken)) (c .refused .ensures .0) (c .refused .ensures .1)
 
 cut-for-requires : tie.Need-cut-for-requires
 cut-for-requires c κs = enough-before _ _ _ (sym (c .before .before .before .before .too-small .ensures) ∙ c .before .before .before .if1 .left) .room
@@ -45,7 +45,7 @@ returns-2 c =
     let s = c .before .before .before .before .before .before .before .before .before .before .before .before .before .before in
     let w = worldOf (s .args .k) (s .args .s) (s .args .mem .now) (s .args .reel .now) (s .args .table .now) (s .args .jrnl .now) in
     let top = step-objects (w .core) (s .args .p) _ (c .before .before .before .before .cut-for .ensures) _ (c .before .before .before .objects-after .ensures) in
-    small-stops _ _ _ _ _ _ _ _ (sym (ap (tooSmall _ _) top) ∙ sym (c .before .before .too-small2 .ensures) ∙ c .before .if2 .taken) (c .refused2 .ensures .0) (c .refused2 .ensures .1)
+    small-stops _ _ _ _ _ _ _ _ _ (sym (ap (tooSmall _ _) top) ∙ sym (c .before .before .too-small2 .ensures) ∙ c .before .if2 .taken) (c .refused2 .ensures .0) (c .refused2 .ensures .1)
 
 take-step-requires : tie.Need-take-step-requires
 take-step-requires c κs =

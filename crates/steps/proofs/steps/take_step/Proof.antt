@@ -27,7 +27,7 @@ returns : tie.Need-returns
 returns c =
     let s = c .before .before .before .before .before .before .before .before .before .before in
     let w = worldOf (s .args .k) (s .args .s) (s .args .mem .now) (s .args .reel .now) (s .args .table .now) (s .args .jrnl .now) in
-    taken-stops _ _ _ _ _ _ _ _ _ (step-entry (w .core) (s .args .p) _ (s .pre .cut) _ (c .before .before .before .before .touched-by .ensures)) (c .before .before .before .entry-length .ensures) (step-objects (w .core) (s .args .p) _ (s .pre .cut) _ (s .pre .after)) (s .pre .large) _ _ (c .before .if1 .taken) (c .refused .ensures .0) (c .refused .ensures .1)
+    taken-stops _ _ _ _ _ _ _ _ _ _ (step-entry (w .core) (s .args .p) _ (s .pre .cut) _ _ (c .before .before .before .before .touched-by .ensures)) (c .before .before .before .entry-length .ensures) (step-objects (w .core) (s .args .p) _ (s .pre .cut) _ (s .pre .after)) (s .pre .large) _ _ (c .before .if1 .taken) (c .refused .ensures .0) (c .refused .ensures .1)
 
 enter-requires : tie.Need-enter-requires
 enter-requires c κs =
@@ -49,8 +49,8 @@ fill-places-requires c κs =
     let sizes = sound-sizes (s .args .s) (s .args .mem .now) (s .args .reel .now) _ (s .pre .ready .sound) in
     (fills _ _ _ _ (s .args .reel .now) (s .args .table .now) _ _ (s .pre), omega (arith, s .pre .ready .storable .laid .room, sizes .reel-small))
 
-add-t17 : tie.Need-add-t17
-add-t17 c = search needs
+add-t18 : tie.Need-add-t18
+add-t18 c = search needs
 
 same-length : tie.Need-same-length
 same-length c = search needs
@@ -70,7 +70,7 @@ returns-2 c =
     let w = worldOf (s .args .k) (s .args .s) (s .args .mem .now) (s .args .reel .now) (s .args .table .now) (s .args .jrnl .now) in
     let long = c .before .before .before .before .before .before .before .before .before .before .before .before .before .before .before .before .before .before .before .before .before .before .before .entry-length .ensures in
     let fits = c .before .before .before .before .before .before .before .before .before .before .before .before .before .before .before .before .before .before .before .before .before .if1 .left in
-    taken-goes _ _ _ _ _ _ _ _ _ (step-entry (w .core) (s .args .p) _ (s .pre .cut) _ (c .before .before .before .before .before .before .before .before .before .before .before .before .before .before .before .before .before .before .before .before .before .before .before .before .touched-by .ensures)) long (step-objects (w .core) (s .args .p) _ (s .pre .cut) _ (s .pre .after)) (s .pre .large) _ _ _ _ _ _ (s .pre .ready .done) fits (room w _ (passed _ _ _ _ (s .pre .ready .sound .right)) _ _ long fits) (c .before .before .before .before .before .before .before .before .before .before .before .before .before .before .before .before .enter .ensures) (step-after (w .core) (s .args .p) _ (s .pre .cut) _ _ _ _ (s .pre .after) (c .before .before .before .before .before .before .before .before .before .before .before .store .ensures) (c .before .before .before .before .fill-places .ensures))
+    taken-goes _ _ _ _ _ _ _ _ _ _ (step-entry (w .core) (s .args .p) _ (s .pre .cut) _ _ (c .before .before .before .before .before .before .before .before .before .before .before .before .before .before .before .before .before .before .before .before .before .before .before .before .touched-by .ensures)) long (step-objects (w .core) (s .args .p) _ (s .pre .cut) _ (s .pre .after)) (s .pre .large) _ _ _ _ _ _ (s .pre .ready .done) fits (room w _ (passed _ _ _ _ (s .pre .ready .sound .right)) _ _ long fits) (c .before .before .before .before .before .before .before .before .before .before .before .before .before .before .before .before .enter .ensures) (step-after (w .core) (s .args .p) _ (s .pre .cut) _ _ _ _ (s .pre .after) (c .before .before .before .before .before .before .before .before .before .before .before .store .ensures) (c .before .before .before .before .fill-places .ensures))
 
 pub take-step-spec : {M : Type 1} → statement M
 take-step-spec =
@@ -84,7 +84,7 @@ take-step-spec =
     enter-requires
     store-requires
     fill-places-requires
-    add-t17
+    add-t18
     same-length
     same-length-2
     same-length-3
