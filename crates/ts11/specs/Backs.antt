@@ -14,6 +14,7 @@ use Rattle.worlds.specs.Coupled.{Coupled, CoupledAnswer, Deck, Rig, backOver, c
 use Rattle.worlds.specs.Rows.{isMounted}
 use Rattle.worlds.specs.Worlds.{Answered, sessionOf}
 use Rattle.worlds.specs.declared.Coupler.{Coupler}
+use Rattle.worlds.specs.declared.Seat.{Seat}
 use Rattle.records.specs.Records.{isRecord, numbersOf, transportIn}
 use Rattle.records.specs.Shares.{sharesOf}
 use Rattle.records.specs.Shares as shares
@@ -105,6 +106,12 @@ four r0 t0 r1 t1 r2 t2 r3 t3 =
 -- the first n of four records
 abbrev pub rowFrom : ℕ → UnitRecord → UnitRecord → UnitRecord → UnitRecord → List UnitRecord
 rowFrom n a b c d = take n (a ∷ b ∷ c ∷ d ∷ [])
+
+abbrev pub seatIn : UnitRecord → ℕ → Seat
+seatIn u reel = record { transport = transportIn (u .numbers); reel = reel }
+
+abbrev pub keptBack : ℕ → UnitRecord → Back
+keptBack number u = record { put = false; unit = 0; number = number; record = u }
 
 -- what the function on four records by value hands back, r: which record comes back, if one does
 pub record TakesBack (row : List UnitRecord) (sh m j : List ℕ) (bs : List Buffers) (r : Back) (sh′ m′ : List ℕ) (bs′ : List Buffers) : Type 0 where

@@ -8,8 +8,13 @@ use records::record_right;
 use records::transport_in;
 use worlds::Finding;
 use worlds::session_over;
+ghost use mathlib.Core.Bool.{false};
+ghost use mathlib.Core.Path.{_≡_};
+ghost use Rattle.ts11.specs.Finds.{Finds, blockGiven, fileGiven, isFound, noFinding, placeFound};
 
-fn is_found(x: Found) -> bool {
+fn is_found(x: Found) -> bool
+    ensures { λ r. ⌜ r ≡ isFound x ⌝ }
+{
     match x {
         Found::At(_) => true,
         Found::Nowhere => false,
@@ -17,7 +22,9 @@ fn is_found(x: Found) -> bool {
 }
 
 // The place, or 0.
-fn place_found(x: Found) -> usize {
+fn place_found(x: Found) -> usize
+    ensures { λ r. ⌜ r ≡ placeFound x ⌝ }
+{
     match x {
         Found::At(i) => i,
         Found::Nowhere => 0,
@@ -25,14 +32,18 @@ fn place_found(x: Found) -> usize {
 }
 
 // A record that is no transport's.
-fn no_finding() -> Finding {
+fn no_finding() -> Finding
+    ensures { λ r. ⌜ r ≡ noFinding ⌝ }
+{
     Finding {
         answer: Answer::Refused(1),
         found: Found::Nowhere,
     }
 }
 
-fn file_given(record: UnitRecord, shared: &[u32; 3], table: &[u8], file: usize) -> Finding {
+fn file_given(record: UnitRecord, shared: &[u32; 3], table: &[u8], file: usize) -> Finding
+    ensures { λ r. ⌜ r ≡ fileGiven (record .numbers) (now (shared .entry)) (now (table .entry)) file ⌝ }
+{
     if !record_right(record) {
         return no_finding();
     }
@@ -43,7 +54,9 @@ fn file_given(record: UnitRecord, shared: &[u32; 3], table: &[u8], file: usize) 
     )
 }
 
-fn block_given(record: UnitRecord, shared: &[u32; 3], table: &[u8], block: usize) -> Finding {
+fn block_given(record: UnitRecord, shared: &[u32; 3], table: &[u8], block: usize) -> Finding
+    ensures { λ r. ⌜ r ≡ blockGiven (record .numbers) (now (shared .entry)) (now (table .entry)) block ⌝ }
+{
     if !record_right(record) {
         return no_finding();
     }
@@ -62,7 +75,9 @@ pub fn find_file(
     file: usize,
     found: &mut bool,
     place: &mut usize,
-) -> usize {
+) -> usize
+    ensures { λ r. ⌜ Finds (fileGiven (record .numbers) (now (shared .entry)) (now (table .entry)) file) r (now (found .exit)) (now (place .exit)) ⌝ }
+{
     let r = file_given(record, shared, table, file);
     let answer = r.answer;
     let x = r.found;
@@ -79,7 +94,9 @@ pub fn find_block(
     block: usize,
     found: &mut bool,
     place: &mut usize,
-) -> usize {
+) -> usize
+    ensures { λ r. ⌜ Finds (blockGiven (record .numbers) (now (shared .entry)) (now (table .entry)) block) r (now (found .exit)) (now (place .exit)) ⌝ }
+{
     let r = block_given(record, shared, table, block);
     let answer = r.answer;
     let x = r.found;
@@ -88,7 +105,9 @@ pub fn find_block(
     number_in(answer)
 }
 
-pub fn not_found(found: &mut bool, place: &mut usize) -> usize {
+pub fn not_found(found: &mut bool, place: &mut usize) -> usize
+    ensures { λ r. ⌜ (r ≡ 12) × ((now (found .exit)) ≡ false) × ((now (place .exit)) ≡ 0) ⌝ }
+{
     *found = false;
     *place = 0;
     12

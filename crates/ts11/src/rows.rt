@@ -11,15 +11,25 @@ use crate::units::operate;
 use crate::units::read_register;
 use crate::units::write_tsdb;
 use crate::units::write_tssr;
+use entries::TRANSPORTS;
 use records::UnitRecord;
-use worlds::absent;
+ghost use mathlib.Core.Bool.{false};
+ghost use mathlib.Core.Path.{_≡_};
+ghost use Prim.Native.Nat.{_<_};
+ghost use Rattle.unit.specs.Asks.{Ask};
+ghost use Rattle.ts11.specs.Backs.{BackGives, four};
+ghost use Rattle.ts11.specs.Finds.{Finds, blockGiven, fileGiven};
+ghost use Rattle.ts11.specs.Given.{Gives, Mounts, Reads, Tells, actOf, holding, mountGiven, registerGiven, stepGiven, tableGiven};
+ghost use Rattle.ts11.specs.Rows.{AtRow, Clamped, LooksAt, NothingTold};
 
 fn nothing_told(
     stepped: &mut bool,
     interrupt: &mut bool,
     block: &mut usize,
     fault: &mut u8,
-) -> usize {
+) -> usize
+    ensures { λ r. ⌜ (r ≡ 12) × NothingTold (now (stepped .exit)) (now (interrupt .exit)) (now (block .exit)) (now (fault .exit)) ⌝ }
+{
     *stepped = false;
     *interrupt = false;
     *block = 0;
@@ -27,13 +37,17 @@ fn nothing_told(
     12
 }
 
-fn no_block(block: &mut usize, fault: &mut u8) -> usize {
+fn no_block(block: &mut usize, fault: &mut u8) -> usize
+    ensures { λ r. ⌜ (r ≡ 12) × ((now (block .exit)) ≡ 0) × ((now (fault .exit)) ≡ 0) ⌝ }
+{
     *block = 0;
     *fault = 0;
     12
 }
 
-fn no_word(word: &mut u16) -> usize {
+fn no_word(word: &mut u16) -> usize
+    ensures { λ r. ⌜ (r ≡ 12) × ((now (word .exit)) ≡ 0) ⌝ }
+{
     *word = 0;
     12
 }
@@ -52,8 +66,10 @@ pub extern "C" fn ts11_mount(
     locked: bool,
     block: &mut usize,
     fault: &mut u8,
-) -> usize {
-    if absent(row.len(), unit) {
+) -> usize
+    ensures { λ r. ⌜ AtRow (now (row .entry)) unit r (now (row .exit)) ((((now (shared .exit)) ≡ (now (shared .entry))) × ((now (table .exit)) ≡ (now (table .entry)))) × ((now (block .exit)) ≡ 0) × ((now (fault .exit)) ≡ 0)) (λ b b′. Mounts b (now (shared .entry)) (mountGiven b (now (shared .entry)) «memory_length» (now (reel .entry)) (now (table .entry)) «journal_length» end online locked) (tableGiven (mountGiven b (now (shared .entry)) «memory_length» (now (reel .entry)) (now (table .entry)) «journal_length» end online locked) (now (reel .entry)) (now (table .entry)) end) r b′ (now (shared .exit)) (now (table .exit)) (now (block .exit)) (now (fault .exit))) ⌝ }
+{
+    if (row.len() <= unit) | (TRANSPORTS <= unit) {
         return no_block(block, fault);
     } else {
         let o = mount(
@@ -71,7 +87,7 @@ pub extern "C" fn ts11_mount(
         );
         if o.stepped {
             row[unit] = o.record;
-            return 0;
+            return o.number;
         } else {
             return o.number;
         }
@@ -88,14 +104,16 @@ pub extern "C" fn ts11_write_tsdb(
     table: &[u8],
     journal: &mut [u8],
     word: u16,
-) -> usize {
-    if absent(row.len(), unit) {
+) -> usize
+    ensures { λ r. ⌜ AtRow (now (row .entry)) unit r (now (row .exit)) (((now (shared .exit)) ≡ (now (shared .entry))) × ((now (memory .exit)) ≡ (now (memory .entry))) × ((now (reel .exit)) ≡ (now (reel .entry))) × ((now (journal .exit)) ≡ (now (journal .entry)))) (λ b b′. (Gives (holding b (now (shared .entry)) (now (memory .entry)) (now (reel .entry)) (now (table .entry)) (now (journal .entry))) (stepGiven unit (Ask.write-tsdb word) (holding b (now (shared .entry)) (now (memory .entry)) (now (reel .entry)) (now (table .entry)) (now (journal .entry)))) r (holding b′ (now (shared .exit)) (now (memory .exit)) (now (reel .exit)) (now (table .entry)) (now (journal .exit))))) ⌝ }
+{
+    if (row.len() <= unit) | (TRANSPORTS <= unit) {
         return 12;
     } else {
         let o = write_tsdb(row[unit], unit, shared, memory, reel, table, journal, word);
         if o.stepped {
             row[unit] = o.record;
-            return 0;
+            return o.number;
         } else {
             return o.number;
         }
@@ -112,14 +130,16 @@ pub extern "C" fn ts11_write_tssr(
     table: &[u8],
     journal: &mut [u8],
     _word: u16,
-) -> usize {
-    if absent(row.len(), unit) {
+) -> usize
+    ensures { λ r. ⌜ AtRow (now (row .entry)) unit r (now (row .exit)) (((now (shared .exit)) ≡ (now (shared .entry))) × ((now (memory .exit)) ≡ (now (memory .entry))) × ((now (reel .exit)) ≡ (now (reel .entry))) × ((now (journal .exit)) ≡ (now (journal .entry)))) (λ b b′. (Gives (holding b (now (shared .entry)) (now (memory .entry)) (now (reel .entry)) (now (table .entry)) (now (journal .entry))) (stepGiven unit Ask.write-tssr (holding b (now (shared .entry)) (now (memory .entry)) (now (reel .entry)) (now (table .entry)) (now (journal .entry)))) r (holding b′ (now (shared .exit)) (now (memory .exit)) (now (reel .exit)) (now (table .entry)) (now (journal .exit))))) ⌝ }
+{
+    if (row.len() <= unit) | (TRANSPORTS <= unit) {
         return 12;
     } else {
         let o = write_tssr(row[unit], unit, shared, memory, reel, table, journal);
         if o.stepped {
             row[unit] = o.record;
-            return 0;
+            return o.number;
         } else {
             return o.number;
         }
@@ -137,8 +157,10 @@ pub extern "C" fn ts11_operate(
     journal: &mut [u8],
     write_lock: bool,
     on: bool,
-) -> usize {
-    if absent(row.len(), unit) {
+) -> usize
+    ensures { λ r. ⌜ AtRow (now (row .entry)) unit r (now (row .exit)) (((now (shared .exit)) ≡ (now (shared .entry))) × ((now (memory .exit)) ≡ (now (memory .entry))) × ((now (reel .exit)) ≡ (now (reel .entry))) × ((now (journal .exit)) ≡ (now (journal .entry)))) (λ b b′. (Gives (holding b (now (shared .entry)) (now (memory .entry)) (now (reel .entry)) (now (table .entry)) (now (journal .entry))) (stepGiven unit (Ask.operate (actOf «write_lock» on)) (holding b (now (shared .entry)) (now (memory .entry)) (now (reel .entry)) (now (table .entry)) (now (journal .entry)))) r (holding b′ (now (shared .exit)) (now (memory .exit)) (now (reel .exit)) (now (table .entry)) (now (journal .exit))))) ⌝ }
+{
+    if (row.len() <= unit) | (TRANSPORTS <= unit) {
         return 12;
     } else {
         let o = operate(
@@ -154,7 +176,7 @@ pub extern "C" fn ts11_operate(
         );
         if o.stepped {
             row[unit] = o.record;
-            return 0;
+            return o.number;
         } else {
             return o.number;
         }
@@ -174,8 +196,10 @@ pub extern "C" fn ts11_advance(
     interrupt: &mut bool,
     block: &mut usize,
     fault: &mut u8,
-) -> usize {
-    if absent(row.len(), unit) {
+) -> usize
+    ensures { λ r. ⌜ AtRow (now (row .entry)) unit r (now (row .exit)) ((((now (shared .exit)) ≡ (now (shared .entry))) × ((now (memory .exit)) ≡ (now (memory .entry))) × ((now (reel .exit)) ≡ (now (reel .entry))) × ((now (table .exit)) ≡ (now (table .entry))) × ((now (journal .exit)) ≡ (now (journal .entry)))) × NothingTold (now (stepped .exit)) (now (interrupt .exit)) (now (block .exit)) (now (fault .exit))) (λ b b′. (Gives (holding b (now (shared .entry)) (now (memory .entry)) (now (reel .entry)) (now (table .entry)) (now (journal .entry))) (stepGiven unit Ask.advance (holding b (now (shared .entry)) (now (memory .entry)) (now (reel .entry)) (now (table .entry)) (now (journal .entry)))) r (holding b′ (now (shared .exit)) (now (memory .exit)) (now (reel .exit)) (now (table .exit)) (now (journal .exit)))) × Tells (stepGiven unit Ask.advance (holding b (now (shared .entry)) (now (memory .entry)) (now (reel .entry)) (now (table .entry)) (now (journal .entry)))) (now (stepped .exit)) (now (interrupt .exit)) (now (block .exit)) (now (fault .exit))) ⌝ }
+{
+    if (row.len() <= unit) | (TRANSPORTS <= unit) {
         return nothing_told(stepped, interrupt, block, fault);
     } else {
         let o = advance(
@@ -193,7 +217,7 @@ pub extern "C" fn ts11_advance(
         );
         if o.stepped {
             row[unit] = o.record;
-            return 0;
+            return o.number;
         } else {
             return o.number;
         }
@@ -207,8 +231,10 @@ pub extern "C" fn ts11_read_register(
     shared: &[u32; 3],
     tssr: bool,
     word: &mut u16,
-) -> usize {
-    if absent(row.len(), unit) {
+) -> usize
+    ensures { λ r. ⌜ LooksAt (now (row .entry)) unit r ((now (word .exit)) ≡ 0) (λ b. Reads (registerGiven b (now (shared .entry)) tssr) r (now (word .exit))) ⌝ }
+{
+    if (row.len() <= unit) | (TRANSPORTS <= unit) {
         return no_word(word);
     } else {
         return read_register(row[unit], shared, tssr, word);
@@ -224,8 +250,10 @@ pub extern "C" fn ts11_find_file(
     file: usize,
     found: &mut bool,
     place: &mut usize,
-) -> usize {
-    if absent(row.len(), unit) {
+) -> usize
+    ensures { λ r. ⌜ LooksAt (now (row .entry)) unit r (((now (found .exit)) ≡ false) × ((now (place .exit)) ≡ 0)) (λ b. Finds (fileGiven b (now (shared .entry)) (now (table .entry)) file) r (now (found .exit)) (now (place .exit))) ⌝ }
+{
+    if (row.len() <= unit) | (TRANSPORTS <= unit) {
         return not_found(found, place);
     } else {
         return find_file(row[unit], shared, table, file, found, place);
@@ -241,15 +269,20 @@ pub extern "C" fn ts11_find_block(
     block: usize,
     found: &mut bool,
     place: &mut usize,
-) -> usize {
-    if absent(row.len(), unit) {
+) -> usize
+    ensures { λ r. ⌜ LooksAt (now (row .entry)) unit r (((now (found .exit)) ≡ false) × ((now (place .exit)) ≡ 0)) (λ b. Finds (blockGiven b (now (shared .entry)) (now (table .entry)) block) r (now (found .exit)) (now (place .exit))) ⌝ }
+{
+    if (row.len() <= unit) | (TRANSPORTS <= unit) {
         return not_found(found, place);
     } else {
         return find_block(row[unit], shared, table, block, found, place);
     }
 }
 
-fn clamp(i: usize, n: usize) -> usize {
+fn clamp(i: usize, n: usize) -> usize
+    requires { ⌜ 0 < n ⌝ }
+    ensures { λ r. ⌜ Clamped i n r ⌝ }
+{
     if i < n { i } else { n - 1 }
 }
 
@@ -267,7 +300,9 @@ pub extern "C" fn ts11_step_back(
     table2: &mut [u8],
     reel3: &mut [u8],
     table3: &mut [u8],
-) -> usize {
+) -> usize
+    ensures { λ r. ⌜ BackGives (now (row .entry)) (now (shared .entry)) (now (memory .entry)) (now (journal .entry)) (four (now (reel0 .entry)) (now (table0 .entry)) (now (reel1 .entry)) (now (table1 .entry)) (now (reel2 .entry)) (now (table2 .entry)) (now (reel3 .entry)) (now (table3 .entry))) r (now (row .exit)) (now (shared .exit)) (now (memory .exit)) (four (now (reel0 .exit)) (now (table0 .exit)) (now (reel1 .exit)) (now (table1 .exit)) (now (reel2 .exit)) (now (table2 .exit)) (now (reel3 .exit)) (now (table3 .exit))) ⌝ }
+{
     let n = row.len();
     if n == 0 {
         let none = no_record();
@@ -311,7 +346,7 @@ pub extern "C" fn ts11_step_back(
         );
         if o.put {
             row[o.unit] = o.record;
-            return 0;
+            return o.number;
         } else {
             return o.number;
         }

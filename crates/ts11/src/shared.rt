@@ -17,8 +17,13 @@ use worlds::Shared;
 use worlds::coupler_of;
 use worlds::session_over;
 use worlds::transport_of;
+ghost use mathlib.Core.Path.{_≡_};
+ghost use Rattle.ts11.specs.Backs.{StoreGives, TakesBack, couplerAfter, four, isBroken, keptBack, rowFrom, seatIn, storeGiven};
+ghost use Rattle.ts11.specs.Rows.{noRecord};
 
-fn share(shared: &mut [u32; 3], answer: Answer, c: Coupler) {
+fn share(shared: &mut [u32; 3], answer: Answer, c: Coupler)
+    ensures { λ _. ⌜ now (shared .exit) ≡ couplerAfter (now (shared .entry)) answer c ⌝ }
+{
     match answer {
         Answer::Done(_) => put_coupler(shared, c),
         _ => {}
@@ -32,7 +37,9 @@ pub extern "C" fn ts11_host_store(
     journal: &mut [u8],
     place: usize,
     bytes: &[u8],
-) -> usize {
+) -> usize
+    ensures { λ r. ⌜ StoreGives (now (shared .entry)) (now (memory .entry)) (now (journal .entry)) (storeGiven (now (shared .entry)) (now (memory .entry)) (now (journal .entry)) place (now (bytes .entry))) r (now (shared .exit)) (now (memory .exit)) (now (journal .exit)) ⌝ }
+{
     let o = coupler::host_store(coupler_in(shared), memory, journal, place, bytes);
     let answer = o.answer;
     share(shared, answer, o.coupler);
@@ -47,7 +54,9 @@ pub struct Back {
     pub record: UnitRecord,
 }
 
-fn seat(record: UnitRecord, reel: usize) -> Seat {
+fn seat(record: UnitRecord, reel: usize) -> Seat
+    ensures { λ r. ⌜ r ≡ seatIn record reel ⌝ }
+{
     Seat {
         transport: transport_in(record),
         reel,
@@ -55,11 +64,15 @@ fn seat(record: UnitRecord, reel: usize) -> Seat {
 }
 
 // A record of a mounted unit that is no transport's.
-fn broken(record: UnitRecord) -> bool {
+fn broken(record: UnitRecord) -> bool
+    ensures { λ r. ⌜ r ≡ isBroken record ⌝ }
+{
     (record.numbers[19] != 0) & !record_right(record)
 }
 
-fn kept(number: usize, record: UnitRecord) -> Back {
+fn kept(number: usize, record: UnitRecord) -> Back
+    ensures { λ r. ⌜ r ≡ keptBack number record ⌝ }
+{
     Back {
         put: false,
         unit: 0,
@@ -129,7 +142,9 @@ pub fn step_back(
     table2: &mut [u8],
     reel3: &mut [u8],
     table3: &mut [u8],
-) -> Back {
+) -> Back
+    ensures { λ r. ⌜ TakesBack (rowFrom n a b c d) (now (shared .entry)) (now (memory .entry)) (now (journal .entry)) (four (now (reel0 .entry)) (now (table0 .entry)) (now (reel1 .entry)) (now (table1 .entry)) (now (reel2 .entry)) (now (table2 .entry)) (now (reel3 .entry)) (now (table3 .entry))) r (now (shared .exit)) (now (memory .exit)) (four (now (reel0 .exit)) (now (table0 .exit)) (now (reel1 .exit)) (now (table1 .exit)) (now (reel2 .exit)) (now (table2 .exit)) (now (reel3 .exit)) (now (table3 .exit))) ⌝ }
+{
     let lower = ((0 < n) & broken(a)) | ((1 < n) & broken(b));
     let upper = ((2 < n) & broken(c)) | ((3 < n) & broken(d));
     if lower | upper {
@@ -158,7 +173,9 @@ pub fn step_back(
     }
 }
 
-pub fn no_record() -> UnitRecord {
+pub fn no_record() -> UnitRecord
+    ensures { λ r. ⌜ r ≡ noRecord ⌝ }
+{
     UnitRecord {
         numbers: [0u32; 21],
     }

@@ -17,6 +17,11 @@ use worlds::Session;
 use worlds::coupler_of;
 use worlds::session_over;
 use worlds::transport_of;
+ghost use mathlib.Core.Bool.{false};
+ghost use mathlib.Core.Path.{_≡_};
+ghost use Rattle.commands.specs.Answers.{isStep, numberOf};
+ghost use Rattle.unit.specs.Asks.{Ask};
+ghost use Rattle.ts11.specs.Given.{Reads, Takes, TakesMount, TakesTelling, actOf, holding, mountGiven, recordAfter, registerGiven, sessionIn, sharedAfter, stepGiven, tableGiven};
 
 // What a call of a unit hands back: its number, and the record if it took a step.
 pub struct Given {
@@ -26,12 +31,16 @@ pub struct Given {
 }
 
 // A session taken out of the row.
-fn session_in(record: UnitRecord, shared: &[u32; 3]) -> Session {
+fn session_in(record: UnitRecord, shared: &[u32; 3]) -> Session
+    ensures { λ r. ⌜ r ≡ sessionIn (record .numbers) (now (shared .entry)) ⌝ }
+{
     session_over(transport_in(record), coupler_in(shared))
 }
 
 // The session after a step is put back; any other answer leaves both alone.
-fn close(record: UnitRecord, shared: &mut [u32; 3], answer: Answer, s: Session) -> Given {
+fn close(record: UnitRecord, shared: &mut [u32; 3], answer: Answer, s: Session) -> Given
+    ensures { λ r. ⌜ (r .stepped ≡ isStep answer) × (r .number ≡ numberOf answer) × (r .record .numbers ≡ recordAfter (record .numbers) answer s) × (now (shared .exit) ≡ sharedAfter (now (shared .entry)) answer s) ⌝ }
+{
     match answer {
         Answer::Done(_) => {
             put_coupler(shared, coupler_of(s));
@@ -50,7 +59,9 @@ fn close(record: UnitRecord, shared: &mut [u32; 3], answer: Answer, s: Session) 
 }
 
 // A record that is no transport's is refused with 1.
-fn no_record(record: UnitRecord) -> Given {
+fn no_record(record: UnitRecord) -> Given
+    ensures { λ r. ⌜ (r .stepped ≡ false) × (r .number ≡ 1) × (r .record ≡ record) ⌝ }
+{
     Given {
         stepped: false,
         number: 1,
@@ -70,7 +81,9 @@ pub fn mount(
     locked: bool,
     block: &mut usize,
     fault: &mut u8,
-) -> Given {
+) -> Given
+    ensures { λ r. ⌜ TakesMount (record .numbers) (now (shared .entry)) (mountGiven (record .numbers) (now (shared .entry)) «memory_length» (now (reel .entry)) (now (table .entry)) «journal_length» end online locked) (tableGiven (mountGiven (record .numbers) (now (shared .entry)) «memory_length» (now (reel .entry)) (now (table .entry)) «journal_length» end online locked) (now (reel .entry)) (now (table .entry)) end) r (now (shared .exit)) (now (table .exit)) (now (block .exit)) (now (fault .exit)) ⌝ }
+{
     let session = session_in(record, shared);
     let o = journal::mount(
         session,
@@ -97,7 +110,9 @@ pub fn write_tsdb(
     table: &[u8],
     journal: &mut [u8],
     word: u16,
-) -> Given {
+) -> Given
+    ensures { λ r. ⌜ Takes (holding (record .numbers) (now (shared .entry)) (now (memory .entry)) (now (reel .entry)) (now (table .entry)) (now (journal .entry))) (stepGiven unit (Ask.write-tsdb word) (holding (record .numbers) (now (shared .entry)) (now (memory .entry)) (now (reel .entry)) (now (table .entry)) (now (journal .entry)))) r (now (shared .exit)) (now (memory .exit)) (now (reel .exit)) (now (table .entry)) (now (journal .exit)) ⌝ }
+{
     if !record_right(record) {
         return no_record(record);
     }
@@ -122,7 +137,9 @@ pub fn write_tssr(
     reel: &mut [u8],
     table: &[u8],
     journal: &mut [u8],
-) -> Given {
+) -> Given
+    ensures { λ r. ⌜ Takes (holding (record .numbers) (now (shared .entry)) (now (memory .entry)) (now (reel .entry)) (now (table .entry)) (now (journal .entry))) (stepGiven unit Ask.write-tssr (holding (record .numbers) (now (shared .entry)) (now (memory .entry)) (now (reel .entry)) (now (table .entry)) (now (journal .entry)))) r (now (shared .exit)) (now (memory .exit)) (now (reel .exit)) (now (table .entry)) (now (journal .exit)) ⌝ }
+{
     if !record_right(record) {
         return no_record(record);
     }
@@ -148,7 +165,9 @@ pub fn operate(
     journal: &mut [u8],
     write_lock: bool,
     on: bool,
-) -> Given {
+) -> Given
+    ensures { λ r. ⌜ Takes (holding (record .numbers) (now (shared .entry)) (now (memory .entry)) (now (reel .entry)) (now (table .entry)) (now (journal .entry))) (stepGiven unit (Ask.operate (actOf «write_lock» on)) (holding (record .numbers) (now (shared .entry)) (now (memory .entry)) (now (reel .entry)) (now (table .entry)) (now (journal .entry)))) r (now (shared .exit)) (now (memory .exit)) (now (reel .exit)) (now (table .entry)) (now (journal .exit)) ⌝ }
+{
     if !record_right(record) {
         return no_record(record);
     }
@@ -177,7 +196,9 @@ pub fn advance(
     interrupt: &mut bool,
     block: &mut usize,
     fault: &mut u8,
-) -> Given {
+) -> Given
+    ensures { λ r. ⌜ TakesTelling (holding (record .numbers) (now (shared .entry)) (now (memory .entry)) (now (reel .entry)) (now (table .entry)) (now (journal .entry))) (stepGiven unit Ask.advance (holding (record .numbers) (now (shared .entry)) (now (memory .entry)) (now (reel .entry)) (now (table .entry)) (now (journal .entry)))) r (now (shared .exit)) (now (memory .exit)) (now (reel .exit)) (now (table .exit)) (now (journal .exit)) (now (stepped .exit)) (now (interrupt .exit)) (now (block .exit)) (now (fault .exit)) ⌝ }
+{
     if !record_right(record) {
         *stepped = false;
         *interrupt = false;
@@ -195,7 +216,9 @@ pub fn advance(
     close(record, shared, answer, o.session)
 }
 
-pub fn read_register(record: UnitRecord, shared: &[u32; 3], tssr: bool, word: &mut u16) -> usize {
+pub fn read_register(record: UnitRecord, shared: &[u32; 3], tssr: bool, word: &mut u16) -> usize
+    ensures { λ r. ⌜ Reads (registerGiven (record .numbers) (now (shared .entry)) tssr) r (now (word .exit)) ⌝ }
+{
     if !record_right(record) {
         *word = 0;
         return 1;
