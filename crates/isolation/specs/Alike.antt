@@ -1,5 +1,4 @@
 -- Two steps of a unit that differ in nothing but the memory around them. (02, [9]: "its registers, messages, reel and position are too"; the table by [8])
-use mathlib.Core.List.{List}
 use mathlib.Core.Path.{_≡_}
 use Prim.Native.Nat.{ℕ}
 use lib.ListN.{getD, length}
@@ -17,7 +16,7 @@ pub record SameButMemory (c c′ : Core) : Type 0 where
   pub long : length (c .memory) ≡ length (c′ .memory)
 
 -- the ask a comes to the same from c and from c′: answer, places touched, the bytes stored there (message, data, blocks, places of the table), and the core after it but for
--- memory; and where the two memories were the same, or a byte is stored, they are the same after it
+-- memory; and where the two memories were the same they are the same after it. (Where a byte is stored they are too: the law `stored-alike`.)
 pub record StepsAlike (a : Ask) (c c′ : Core) : Type 0 where
   pub answer : stepOf a c .answer ≡ stepOf a c′ .answer
   pub touched : stepOf a c .touched ≡ stepOf a c′ .touched
