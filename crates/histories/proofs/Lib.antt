@@ -1,0 +1,3 @@
+-- Laws of a shared history.
+pub mod Taking
+pub mod Keeping
