@@ -9,7 +9,6 @@ use borrow.Author.Tests.{eqb-false, eqb-true, ltb-false}
 use lib.Dec.{eqb}
 use lib.ListN.{length}
 use lib.Seq.{getD-set-other, length-sets}
-use Rattle.lists.specs.Pick.{pick}
 use Rattle.lists.proofs.Cases.{by-test}
 use Rattle.state.proofs.Tests.{either}
 use Rattle.unit.specs.Asks.{Ask, host-store}
@@ -31,9 +30,9 @@ use Rattle.sessions.specs.Session.{stepped}
 use Rattle.sessions.proofs.Indexing.{indexing}
 use Rattle.sessions.proofs.Keeping.{keeping}
 use Rattle.sessions.proofs.Taken.{accepts, read-none, sound-asked, took-asked, took-fit}
-use Rattle.histories.specs.Calling.{Call, Here, OfUnit, callKind, coreFor, coupledFrom, doing, entryAt, kindNow, ledgerOf, nameOf, nextRig, notedAt, onCall, read-register, step, stepTo, store}
+use Rattle.histories.specs.Calling.{Call, Here, OfUnit, callKind, coreFor, coupledFrom, doing, journalOf, kindNow, lengthOf, nameOf, nextRig, notedAt, onCall, read-register, step, stepTo, store}
 use Rattle.histories.specs.Good.{Among, Good, GoodDeck}
-use Rattle.histories.proofs.Taking.{Taken, asked, ledger-noted, present-is, step-taken, store-taken}
+use Rattle.histories.proofs.Taking.{Taken, asked, ledger-noted, present-is, step-taken, store-taken, stored-took}
 
 -- a core with other bytes in memory
 abbrev pub remembered : List ℕ → Core → Core
@@ -201,5 +200,5 @@ module _ (n place : ℕ) (bytes : List ℕ) (s : Here) where
 pub keeps-good : (n : ℕ) (ks : List ℕ) (c : Call) (s : Here) → Good n ks s → kindNow n c s ≡ stepped → Good n ks (stepTo c s)
 unfolding onCall callKind hostAt liftedNone
 keeps-good n ks (step k a h) s f e = step-good n k a h s (step-taken n (coupledFrom n s) k a e) ks f
-keeps-good n ks (store place bytes) s f e = let t = store-taken n place bytes (viewOfNone (coupledFrom n s)) e in store-good n place bytes s _ (t .took) ks f
+keeps-good n ks (store place bytes) s f e = let t = store-taken n place bytes (viewOfNone (coupledFrom n s)) e in store-good n place bytes s _ (stored-took n place bytes (viewOfNone (coupledFrom n s)) t) ks f
 keeps-good n ks (read-register k r) s f e = read-none _ e

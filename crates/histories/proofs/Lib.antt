@@ -1,3 +1,4 @@
 -- Laws of a shared history.
 pub mod Taking
 pub mod Keeping
+pub mod Undone

@@ -56,10 +56,15 @@ module _ (n : ℕ) (w : Coupled) where
   unfolding stepAt
   step-present k a t = rw t
 
+-- what a host store comes to once 1, 2 and 4 let it pass
+abbrev pub passing : ℕ → List ℕ → World → Answered
+passing place bytes w = takenBy w (stepOf (host-store place bytes) (w .core)) (stepOf (host-store place bytes) (w .core) .answer)
+
 -- a host store that was taken: what is shared had passed
 pub record Stored (n : ℕ) (w : World) (place : ℕ) (bytes : List ℕ) : Type 0 where
   pub shared : couplerChecked (couplerOf (sessionOf w)) (length (w .core .memory)) n ≡ 0
-  pub took : Took w (hostOn w n place bytes .world) (stepOf (host-store place bytes) (w .core))
+  pub is : hostOn w n place bytes ≡ passing place bytes w
+  pub kind : stepKind (passing place bytes w .answer) ≡ stepped
 
 module _ (n place : ℕ) (bytes : List ℕ) (w : World) where
   abbrev storing : Step
@@ -72,12 +77,15 @@ module _ (n place : ℕ) (bytes : List ℕ) (w : World) where
   unfolding hostOn stepKind
   store-taken e =
       by-test (eqb check 0)
-      (λ t. record { shared = eqb-true check 0 t; took = rw t (took-by w storing (storing .answer) (rw t at e)) })
+      (λ t. record { shared = eqb-true check 0 t; is = rw t; kind = rw t at e })
       (λ t. let z : refused ≡ stepped = rw t at e in refused-none z)
+
+  pub stored-took : Stored n w place bytes → Took w (passing place bytes w .world) storing
+  stored-took t = took-by w storing (storing .answer) (t .kind)
 
   pub store-left : Left w (hostOn w n place bytes)
   unfolding hostOn
-  store-left = either (Left w) (eqb check 0) (takenBy w storing (storing .answer)) (refusedAs check w) (by-left n w storing (storing .answer)) (λ g. refl)
+  store-left = either (Left w) (eqb check 0) (passing place bytes w) (refusedAs check w) (by-left n w storing (storing .answer)) (λ g. refl)
 
 -- a noted entry is the ledger's newest
 pub ledger-noted : (n : ℕ) (c : Call) (g : Rig) (xs : List Noted) → noted (ledgerOf n xs) (entryAt c g) (coreFor c g) ≡ ledgerOf n (notedAt c g ∷ xs)
@@ -109,7 +117,9 @@ module _ (n : ℕ) where
       ∙ ap (placedAt k (coupledFrom n s)) (took-asked n a (viewOf k (coupledFrom n s)) (t .kind) .is)
       ∙ step-rig k a h s
   stepped-rig (store place bytes) s e =
-      ap (placedNone (coupledFrom n s)) (store-taken n place bytes (viewOfNone (coupledFrom n s)) e .took .is)
+      let v : World = viewOfNone (coupledFrom n s) in
+      let t = store-taken n place bytes v e in
+      ap (placedNone (coupledFrom n s)) (ap (λ x. x .world) (t .is) ∙ stored-took n place bytes v t .is)
       ∙ store-rig place bytes s
   stepped-rig (read-register k r) s e = read-none _ e
 

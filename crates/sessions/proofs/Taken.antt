@@ -124,7 +124,7 @@ module _ (n : ℕ) (w : World) (fit : Fit n w) where
 
   -- the step x took the world to the next
   module _ (next : World) (x : Step) (t : Took w next x) where
-    has-room : w .ledger .used + entryLength (entryFor (w .number) (w .core) x) ≤ w .ledger .length
+    pub has-room : w .ledger .used + entryLength (entryFor (w .number) (w .core) x) ≤ w .ledger .length
     has-room =
         let p = passed (sessionOf w) (length (w .core .memory)) (length (w .core .reel)) n (fit .sound) in
         let long : ℕ = entryLength (entryFor (w .number) (w .core) x) in
