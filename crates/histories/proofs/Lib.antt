@@ -2,3 +2,6 @@
 pub mod Taking
 pub mod Keeping
 pub mod Undone
+pub mod Naming
+pub mod Rows
+pub mod Backs
