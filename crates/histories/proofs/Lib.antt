@@ -5,3 +5,5 @@ pub mod Undone
 pub mod Naming
 pub mod Rows
 pub mod Backs
+pub mod Calls
+pub mod Lengths
