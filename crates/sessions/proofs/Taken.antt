@@ -124,7 +124,7 @@ module _ (n : ℕ) (w : World) (fit : Fit n w) where
 
   -- the step x took the world to the next
   module _ (next : World) (x : Step) (t : Took w next x) where
-    has-room : w .ledger .used + entryLength (entryFor (w .number) (w .core) x) ≤ w .ledger .length
+    pub has-room : w .ledger .used + entryLength (entryFor (w .number) (w .core) x) ≤ w .ledger .length
     has-room =
         let p = passed (sessionOf w) (length (w .core .memory)) (length (w .core .reel)) n (fit .sound) in
         let long : ℕ = entryLength (entryFor (w .number) (w .core) x) in
@@ -163,7 +163,7 @@ module _ (n : ℕ) (w : World) where
       either (Left w) (noPlace (w .core) x) (refusedAs 11 w) _ (λ g. refl)
       (either (Left w) (tooFull (w .ledger) (entryFor (w .number) (w .core) x)) (refusedAs 9 w) _ (λ g. refl) (λ g. absurd (g refl)))
 
-  by-left : (x : Step) (a : Answer) → Left w (takenBy w x a)
+  pub by-left : (x : Step) (a : Answer) → Left w (takenBy w x a)
   unfolding takenBy
   by-left x (answer.Done i) = as-left x i
   by-left x answer.Idle = λ g. refl
