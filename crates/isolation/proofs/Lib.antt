@@ -12,3 +12,7 @@ pub mod Carrying
 pub mod Asking
 pub mod Elsewhere
 pub mod Touching
+pub mod Running
+pub mod Beside
+pub mod Onward
+pub mod Isolated

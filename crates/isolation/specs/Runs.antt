@@ -6,14 +6,14 @@ use mathlib.Core.Logic.{_⊎_}
 use mathlib.Core.Path.{_≡_}
 use Prim.Native.Nat.{ℕ}
 use lib.Dec.{eqb}
-use lib.ListN.{getD}
-use Rattle.lists.specs.Pick.{Always, pick}
+use Rattle.lists.specs.Pick.{pick}
+use Rattle.commands.specs.Answers.{isStep}
 use Rattle.commands.specs.declared.plans.Answer.{Answer}
 use Rattle.commands.specs.declared.plans.Answer.the-variants as answer
 use Rattle.unit.specs.Asks.{advance}
-use Rattle.unit.specs.Stores.{StepBytes}
+use Rattle.unit.specs.Stores.{StepBytes, noBytes}
 use Rattle.worlds.specs.Coupled.{coreOf, deckAt}
-use Rattle.sessions.specs.Session.{Kind, does, stepped}
+use Rattle.sessions.specs.Session.{does, stepped}
 use Rattle.histories.specs.Calling.{Call, Here, calls, coupledFrom, doing, kindNow, onCall, read-register, step, store}
 use Rattle.histories.specs.Good.{bytesAt}
 use Rattle.isolation.specs.Reads.{ReadsAt, SameRead, TouchesAt}
@@ -67,10 +67,17 @@ pub record Seen : Type 0 where
   pub answer : Answer
   pub bytes : StepBytes
 
+unfoldable pub sightOf : ℕ → Call → Here → Seen
+sightOf n c s =
+    record {
+      answer = onCall n c (coupledFrom n s) .answer;
+      bytes = pick (isStep (onCall n c (coupledFrom n s) .answer)) (bytesAt c (s .core)) noBytes;
+    }
+
 unfoldable pub seen : ℕ → ℕ → List Call → Here → List Seen
 seen n u [] s = []
 seen n u (c ∷ cs) s =
-    pick (isOf u c) (record { answer = onCall n c (coupledFrom n s) .answer; bytes = bytesAt c (s .core) } ∷ seen n u cs (does (calls n) c s)) (seen n u cs (does (calls n) c s))
+    pick (isOf u c) (sightOf n c s ∷ seen n u cs (does (calls n) c s)) (seen n u cs (does (calls n) c s))
 
 -- the unit is not disturbed: its record (registers and position among its numbers), reel and table end the same, and all that was seen of it on the way is
 pub record Undisturbed (n u : ℕ) (cs : List Call) (s : Here) : Type 0 where
