@@ -60,14 +60,14 @@ module _ (s : Session) (b m r tb j : List ℕ) (t : Told) where
   unfolding toldOn toldBy callOn
   made-tssr h = (h, (refl, (refl, (refl, record { used = refl; unless-entered = λ _. refl }))))
 
-  pub made-step : (a : Ask) (o : Outcome) (m′ r′ tb′ j′ : List ℕ) → Leaves (stepOn (worldOf s m r tb j) (length j) (askOf a b)) j o m′ r′ tb′ j′ → t ≡ stepTold s a o → Made (call.Step a) b s m r tb j t m′ r′ tb′ j′
+  pub made-step : (a : Ask) (o : Outcome) (m′ r′ tb′ j′ : List ℕ) → Leaves (stepOn (worldOf 0 s m r tb j) (length j) (askOf a b)) j o m′ r′ tb′ j′ → t ≡ stepTold s a o → Made (call.Step a) b s m r tb j t m′ r′ tb′ j′
   unfolding toldOn toldBy callOn entered
   made-step a o m′ r′ tb′ j′ h g =
-      let x = stepOn (worldOf s m r tb j) (length j) (askOf a b) in
+      let x = stepOn (worldOf 0 s m r tb j) (length j) (askOf a b) in
       (g ∙ ap (stepTold s a) (outcome-is x j o m′ r′ tb′ j′ h), (memory-is x j o m′ r′ tb′ j′ h, (reel-is x j o m′ r′ tb′ j′ h, (table-is x j o m′ r′ tb′ j′ h, record { used = used-is x j o m′ r′ tb′ j′ h; unless-entered = h .unless-step }))))
 
-  pub made-back : (o : Outcome) (m′ r′ tb′ : List ℕ) → Leaves (backOn (worldOf s m r tb j) (length j)) j o m′ r′ tb′ j → t ≡ toldAs o also.Nothing → Made call.StepBack b s m r tb j t m′ r′ tb′ j
+  pub made-back : (o : Outcome) (m′ r′ tb′ : List ℕ) → Leaves (backOn (worldOf 0 s m r tb j) (length j)) j o m′ r′ tb′ j → t ≡ toldAs o also.Nothing → Made call.StepBack b s m r tb j t m′ r′ tb′ j
   unfolding toldOn toldBy callOn
   made-back o m′ r′ tb′ h g =
-      let x = backOn (worldOf s m r tb j) (length j) in
+      let x = backOn (worldOf 0 s m r tb j) (length j) in
       (g ∙ ap (λ (k : Outcome). toldAs k also.Nothing) (outcome-is x j o m′ r′ tb′ j h), (memory-is x j o m′ r′ tb′ j h, (reel-is x j o m′ r′ tb′ j h, (table-is x j o m′ r′ tb′ j h, record { used = used-is x j o m′ r′ tb′ j h; unless-entered = λ _. refl }))))

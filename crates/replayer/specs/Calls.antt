@@ -17,14 +17,14 @@ use Rattle.replayer.specs.Asks.{askOf}
 
 -- what a mount with this outcome leaves: the table filled, if it is accepted, and every other byte
 abbrev pub mounted : Outcome → ℕ → List ℕ → List ℕ → List ℕ → List ℕ → Answered
-mounted o e m r tb j = answered (o .answer) (worldOf (o .session) m r (tableMounted tb (objectsIn r e) (o .answer)) j)
+mounted o e m r tb j = answered (o .answer) (worldOf 0 (o .session) m r (tableMounted tb (objectsIn r e) (o .answer)) j)
 
 unfoldable pub callOn : Call → List ℕ → Session → List ℕ → List ℕ → List ℕ → List ℕ → Answered
 callOn (call.Mount e online locked) b s m r tb j = mounted (mountOn s (length m) r (length tb) (length j) e online locked) e m r tb j
-callOn call.ReadTsba b s m r tb j = answered (registerOn s register.Tsba .answer) (worldOf s m r tb j)
-callOn call.ReadTssr b s m r tb j = answered (registerOn s register.Tssr .answer) (worldOf s m r tb j)
-callOn (call.Step a) b s m r tb j = stepOn (worldOf s m r tb j) (length j) (askOf a b)
-callOn call.StepBack b s m r tb j = backOn (worldOf s m r tb j) (length j)
+callOn call.ReadTsba b s m r tb j = answered (registerOn s register.Tsba .answer) (worldOf 0 s m r tb j)
+callOn call.ReadTssr b s m r tb j = answered (registerOn s register.Tssr .answer) (worldOf 0 s m r tb j)
+callOn (call.Step a) b s m r tb j = stepOn (worldOf 0 s m r tb j) (length j) (askOf a b)
+callOn call.StepBack b s m r tb j = backOn (worldOf 0 s m r tb j) (length j)
 
 -- whether a call with this answer has put an entry into the journal
 unfoldable pub entered : Call → Answer → Bool

@@ -26,14 +26,14 @@ fn ask(
     table: &mut [u8],
     jrnl: &mut [u8],
 ) -> Outcome
-    ensures { λ r. ⌜ Leaves (stepOn (worldOf s (now (mem .entry)) (now (reel .entry)) (now (table .entry)) (now (jrnl .entry))) (length (now (jrnl .entry))) (askOf a (now (bytes .entry)))) (now (jrnl .entry)) r (now (mem .exit)) (now (reel .exit)) (now (table .exit)) (now (jrnl .exit)) ⌝ }
+    ensures { λ r. ⌜ Leaves (stepOn (worldOf 0 s (now (mem .entry)) (now (reel .entry)) (now (table .entry)) (now (jrnl .entry))) (length (now (jrnl .entry))) (askOf a (now (bytes .entry)))) (now (jrnl .entry)) r (now (mem .exit)) (now (reel .exit)) (now (table .exit)) (now (jrnl .exit)) ⌝ }
 {
     match a {
-        Ask::WriteTsdb(w) => journal::write_tsdb(s, mem, reel, table, jrnl, w),
-        Ask::WriteTssr => journal::write_tssr(s, mem, reel, table, jrnl),
-        Ask::Operate(act) => journal::operate(s, mem, reel, table, jrnl, act),
+        Ask::WriteTsdb(w) => journal::write_tsdb(s, 0, mem, reel, table, jrnl, w),
+        Ask::WriteTssr => journal::write_tssr(s, 0, mem, reel, table, jrnl),
+        Ask::Operate(act) => journal::operate(s, 0, mem, reel, table, jrnl, act),
         Ask::HostStore(at) => journal::host_store(s, mem, reel, table, jrnl, at, bytes),
-        Ask::Advance => journal::advance(s, mem, reel, table, jrnl),
+        Ask::Advance => journal::advance(s, 0, mem, reel, table, jrnl),
     }
 }
 
