@@ -67,7 +67,7 @@ fit-other n k c l l′ m f e h =
     }
 
 -- and so its transport stays good
-good-other : (n i : ℕ) (w w′ : Coupled) (m : List ℕ) → GoodDeck n w i → coreOf i (w′ .rig) ≡ remembered m (coreOf i (w .rig)) → length m ≡ length (w .rig .memory) → Kept n (w′ .ledger) → GoodDeck n w′ i
+pub good-other : (n i : ℕ) (w w′ : Coupled) (m : List ℕ) → GoodDeck n w i → coreOf i (w′ .rig) ≡ remembered m (coreOf i (w .rig)) → length m ≡ length (w .rig .memory) → Kept n (w′ .ledger) → GoodDeck n w′ i
 unfolding coreOf
 good-other n i w w′ m d e long h =
     record {

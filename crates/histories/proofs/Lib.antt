@@ -7,3 +7,6 @@ pub mod Rows
 pub mod Backs
 pub mod Calls
 pub mod Lengths
+pub mod Room
+pub mod Others
+pub mod Mounting

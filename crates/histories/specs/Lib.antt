@@ -2,3 +2,4 @@
 pub mod Calling
 pub mod Good
 pub mod Eras
+pub mod Room
