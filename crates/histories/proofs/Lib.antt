@@ -10,3 +10,4 @@ pub mod Lengths
 pub mod Room
 pub mod Others
 pub mod Mounting
+pub mod Whole

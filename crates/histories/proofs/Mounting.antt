@@ -147,9 +147,9 @@ module _ (n : ℕ) (m : Mount) (w : Coupled) where
           indexed = subst CoreIndexed (sym own-core) (f .indexed);
         }
 
-    empty-kept : n ≤ n → Kept n (coupledFrom n begun .ledger)
+    empty-kept : Kept n (coupledFrom n begun .ledger)
     unfolding journalOf lengthOf
-    empty-kept h = record { long = refl; used = omega arith; whole = refl }
+    empty-kept = record { long = refl; used = omega arith; whole = refl }
 
     -- what is shared is right: its own transport passes
     begun-shared : couplerChecked (couplerIn (coupledFrom n begun)) (length (begun .core .memory)) n ≡ 0
@@ -177,7 +177,7 @@ module _ (n : ℕ) (m : Mount) (w : Coupled) where
     begun-good ks f =
         record {
           shared = begun-shared;
-          whole = empty-kept (omega arith) .whole;
+          whole = empty-kept .whole;
           decks = λ i q h.
               by-test (eqb i (m .unit))
               (λ t. subst (GoodDeck n (coupledFrom n begun)) (sym (eqb-true i (m .unit) t)) own-good)
@@ -186,7 +186,7 @@ module _ (n : ℕ) (m : Mount) (w : Coupled) where
               (λ e. absurd (eqb-false i (m .unit) t e))
               (λ b.
               let d = f i b (rw (length-set (g .decks) (m .unit) deck) at h) in
-              good-other n i w (coupledFrom n begun) (g .memory) (d .1) (kept-core i (eqb-false i (m .unit) t) (d .0)) refl (empty-kept (omega arith)))
+              good-other n i w (coupledFrom n begun) (g .memory) (d .1) (kept-core i (eqb-false i (m .unit) t) (d .0)) refl empty-kept)
               (among-which q));
         }
 

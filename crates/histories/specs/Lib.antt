@@ -3,3 +3,4 @@ pub mod Calling
 pub mod Good
 pub mod Eras
 pub mod Room
+pub mod History

@@ -1,0 +1,28 @@
+-- Demand 3 of a session over the row, whole: what holds at its end s, where the transports ks have been mounted and the log l led from the last mount's moment s₀ to s.
+use mathlib.Core.Bool.{false}
+use mathlib.Core.List.{List, [], _∷_, map}
+use mathlib.Core.Path.{_≡_}
+use Prim.Native.Nat.{ℕ, _≤_}
+use lib.ListN.{length}
+use Rattle.commands.specs.declared.plans.Answer.the-variants as answer
+use Rattle.worlds.specs.Coupled.{backOver, refusedWith, told}
+use Rattle.sessions.specs.Good.{Each}
+use Rattle.sessions.specs.Session.{Done, Ran, back, before, entryOf, stood, strike}
+use Rattle.histories.specs.Calling.{Call, Here, Noted, backCalls, calls, coupledFrom, onCall}
+use Rattle.histories.specs.Good.{EntryLong, Good}
+use Rattle.histories.specs.Room.{Exactly, Steppable}
+
+pub record History (n : ℕ) (ks : List ℕ) {s₀ s : Here} {l : List (Done (calls n))} (r : Ran (calls n) s₀ l s) : Type 0 where
+  -- "every unit's reel is well formed, its position 0 or just after an object", its table worked out afresh; no check refuses
+  pub good : Good n ks s
+  -- "the journal holds one entry per step taken and still standing", of exactly its length
+  pub entries : s .entries ≡ map (entryOf (calls n)) (stood (calls n) r)
+  pub long : Each (EntryLong n) (stood (calls n) r)
+  -- "Step back undoes the newest step of any unit"; with none it is refused with 6; and k of them give what stood before the earliest of those k
+  pub newest : {e : Noted} {es : List Noted} → s .entries ≡ e ∷ es → backOver (coupledFrom n s) n ≡ told (answer.Done false) (coupledFrom n (back (calls n) s))
+  pub no-entry : s .entries ≡ [] → backOver (coupledFrom n s) n ≡ refusedWith 6 (coupledFrom n s)
+  pub going-back : (k : ℕ) → k ≤ length (stood (calls n) r) → backCalls n k (coupledFrom n s) ≡ coupledFrom n (before (calls n) r k)
+  -- "a step is refused for room exactly when its entry doesn't fit"
+  pub room : (c : Call) → Steppable c (s .core) → Exactly (coupledFrom n s) c (onCall n c (coupledFrom n s))
+  -- what was undone never was
+  pub never-was : Ran (calls n) s₀ (strike (calls n) l) s
