@@ -1,9 +1,8 @@
 -- A step of one transport, or a host store, keeps every transport good: its own by the laws of a single one, and of the others nothing changes but memory's bytes,
 -- of which there are as many.
 use mathlib.Core.Path.{_≡_, refl, sym, ap, subst, _∙_}
-use mathlib.Core.Bool.{false}
-use mathlib.Core.List.{List, _∷_}
-use Prim.Native.Nat.{ℕ, _+_, _-_, _%_, _≤_, _<_}
+use mathlib.Core.List.{List}
+use Prim.Native.Nat.{ℕ, _-_, _%_, _≤_}
 use native.Mathlib.Omega.{arith}
 use borrow.Author.Tests.{eqb-false, eqb-true, ltb-false}
 use lib.Dec.{eqb}
@@ -20,18 +19,18 @@ use Rattle.worlds.specs.Worlds.{Ledger, World, sessionOf}
 use Rattle.worlds.specs.Calls.{entryFor, noted, stepOn}
 use Rattle.worlds.specs.Passes.{Fit}
 use Rattle.worlds.specs.Rows.{couplerChecked}
-use Rattle.worlds.specs.Coupled.{Coupled, Rig, coreOf, coreOfNone, couplerIn, deckOf, hostAt, isAbsent, liftedNone, noDeck, viewOf, viewOfNone, withCore, withMemory}
+use Rattle.worlds.specs.Coupled.{Coupled, Rig, coreOf, coreOfNone, couplerIn, deckOf, hostAt, liftedNone, noDeck, viewOf, viewOfNone, withCore, withMemory}
 use Rattle.worlds.proofs.Coupling.{CouplerPassed, core-put, coupler-passed, coupler-passes, decks-long}
 use Rattle.worlds.proofs.Passing.{core-accepted, let-pass, passed}
 use Rattle.worlds.proofs.Undoing.{noted-length, noted-long, noted-used}
-use Rattle.sessions.specs.Calling.{Took, stepKind, takenTo}
+use Rattle.sessions.specs.Calling.{Took, takenTo}
 use Rattle.sessions.specs.Good.{CoreFormed, CoreIndexed}
 use Rattle.sessions.specs.Session.{stepped}
 use Rattle.sessions.proofs.Indexing.{indexing}
 use Rattle.sessions.proofs.Keeping.{keeping}
 use Rattle.sessions.proofs.Taken.{accepts, read-none, sound-asked, took-asked, took-fit}
 use Rattle.histories.specs.Calling.{Call, Here, OfUnit, callKind, coreFor, coupledFrom, doing, journalOf, kindNow, lengthOf, nameOf, nextRig, notedAt, onCall, read-register, step, stepTo, store}
-use Rattle.histories.specs.Good.{Among, Good, GoodDeck}
+use Rattle.histories.specs.Good.{Good, GoodDeck}
 use Rattle.histories.proofs.Taking.{Taken, asked, ledger-noted, present-is, step-taken, store-taken, stored-took}
 
 -- a core with other bytes in memory

@@ -1,5 +1,5 @@
 -- A mount begins a shared history: its own transport is as a single one's mount leaves it, those mounted before stay good, and the journal is empty.
-use mathlib.Core.Bool.{Bool, true, false}
+use mathlib.Core.Bool.{false}
 use mathlib.Core.List.{List, [], _∷_}
 use mathlib.Core.Logic.{_⊎_, inl, inr, ⊎-elim}
 use mathlib.Core.Path.{_≡_, refl, sym, ap, subst, _∙_}

@@ -1,33 +1,20 @@
 -- What no call touches: an absent transport's calls leave everything, and a call of one transport leaves every other's record, reel and table.
-use mathlib.Core.Bool.{Bool, true, false}
+use mathlib.Core.Bool.{Bool, true}
 use mathlib.Core.List.{List}
-use mathlib.Core.Path.{_≡_, refl, sym, ap, _∙_}
+use mathlib.Core.Path.{_≡_, refl, ap}
 use Prim.Native.Nat.{ℕ}
-use borrow.Author.Tests.{eqb-false, eqb-true}
 use lib.Dec.{eqb}
-use lib.ListN.{length, set}
 use lib.Seq.{getD-set-other}
-use Rattle.lists.specs.Pick.{pick}
-use Rattle.lists.proofs.Cases.{by-test, pick-told}
-use Rattle.tape.specs.Afresh.{objectsIn}
 use Rattle.state.proofs.Tests.{either}
 use Rattle.commands.specs.declared.plans.Answer.{Answer}
 use Rattle.commands.specs.declared.plans.Answer.the-variants as answer
-use Rattle.unit.specs.Asks.{Ask}
 use Rattle.unit.specs.declared.registers.Register.{Register}
 use Rattle.entries.specs.Entries.{transports}
-use Rattle.worlds.specs.Calls.{mountOn, stepOn, tableMounted, undoOn}
-use Rattle.worlds.specs.Rows.{transportOf, sessionOver}
+use Rattle.worlds.specs.Calls.{stepOn, undoOn}
 use Rattle.worlds.specs.declared.Outcome.{Outcome}
-use Rattle.worlds.specs.declared.RegisterRead.{RegisterRead}
-use Rattle.worlds.specs.Coupled.{Coupled, CoupledAnswer, Deck, Rig, backChecked, backOver, coreOf, couplerIn, deckAt, hostAt, isAbsent, lifted, liftedNone, mountAt, mountedAt, namedIn, noDeck, refusedWith, registerAt, stepAt, told, undoNamed, undoNone, viewOf, viewOfNone}
+use Rattle.worlds.specs.Coupled.{Coupled, CoupledAnswer, backChecked, backOver, deckAt, hostAt, isAbsent, lifted, liftedNone, mountAt, mountedAt, namedIn, noDeck, refusedWith, registerAt, stepAt, undoNamed, undoNone, viewOf, viewOfNone}
 use Rattle.worlds.proofs.Coupling.{other-deck}
-use Rattle.histories.specs.Calling.{Call, OfUnit, nameOf, onCall, read-register, step, store, wordOf}
-
--- the number that a call is handed; a host store has none
-pub data Numbered : Call → ℕ → Type 0 where
-  a-step : {k : ℕ} {a : Ask} {h : OfUnit a} → Numbered (step k a h) k
-  a-register : {k : ℕ} {r : Register} → Numbered (read-register k r) k
+use Rattle.histories.specs.Calling.{Call, Numbered, a-register, a-step, nameOf, onCall, read-register, step, store, wordOf}
 
 -- "12 for a unit not present, checked first": each numbered call, and all is as it was; a register's word is 0
 pub absent-refused : (n : ℕ) (c : Call) (k : ℕ) (w : Coupled) → Numbered c k → isAbsent w k ≡ true → onCall n c w ≡ refusedWith 12 w

@@ -1,10 +1,10 @@
 -- "A step is refused for room exactly when its entry doesn't fit", if nothing earlier refuses it; and with 11, before that, exactly when the transport's table is too small,
 -- which is no transport's for a host store: it is never refused with 11.
 use mathlib.Core.Bool.{Bool, false}
-use mathlib.Core.List.{List, []}
+use mathlib.Core.List.{List}
 use mathlib.Core.Logic.{inl, inr}
 use mathlib.Core.Path.{_≡_, refl, sym, ap, subst, _∙_}
-use Prim.Native.Nat.{ℕ, _<_}
+use Prim.Native.Nat.{ℕ}
 use native.Mathlib.Omega.{arith}
 use lib.ListN.{length}
 use Rattle.state.proofs.Tests.{either}
@@ -12,7 +12,6 @@ use Rattle.commands.specs.declared.plans.Answer.the-variants as answer
 use Rattle.unit.specs.Asks.{Ask, host-store}
 use Rattle.unit.specs.Steps.{Step, stepOf, storeWrong, stored}
 use Rattle.worlds.specs.Worlds.{World, sessionOf}
-use Rattle.worlds.specs.Calls.{entryFor, stepOn}
 use Rattle.worlds.specs.Passes.{Fit}
 use Rattle.worlds.specs.Rows.{couplerChecked, couplerOf}
 use Rattle.worlds.specs.Coupled.{Coupled, Rig, coreOf, coreOfNone, couplerIn, hostAt, hostOn, isAbsent, lifted, liftedNone, refusedWith, stepAt, viewOf, viewOfNone}
@@ -23,7 +22,7 @@ use Rattle.histories.specs.Calling.{Call, Here, OfUnit, coreFor, coupled
 use Rattle.histories.specs.Good.{Every, Good}
 use Rattle.histories.specs.Room.{Exactly, Steppable}
 use Rattle.histories.proofs.Rows.{every-good}
-use Rattle.histories.proofs.Taking.{passing, step-present}
+use Rattle.histories.proofs.Taking.{step-present}
 
 -- a step of a transport that refusals 1 to 4 let pass
 pub step-room : (n : ℕ) (w : Coupled) (k : ℕ) (a : Ask) (h : OfUnit a) (i : Bool) → isAbsent w k ≡ false → Fit n (viewOf k w) → stepOf a (coreOf k (w .rig)) .answer ≡ answer.Done i

@@ -5,12 +5,17 @@ use mathlib.Core.Path.{_≡_}
 use Prim.Native.Nat.{ℕ, _≤_}
 use lib.ListN.{length}
 use Rattle.commands.specs.declared.plans.Answer.the-variants as answer
-use Rattle.worlds.specs.Coupled.{backOver, refusedWith, told}
+use Rattle.worlds.specs.Coupled.{CoupledAnswer, backOver, refusedWith, told}
 use Rattle.sessions.specs.Good.{Each}
 use Rattle.sessions.specs.Session.{Done, Ran, back, before, entryOf, stood, strike}
 use Rattle.histories.specs.Calling.{Call, Here, Noted, backCalls, calls, coupledFrom, onCall}
 use Rattle.histories.specs.Good.{EntryLong, Good}
 use Rattle.histories.specs.Room.{Exactly, Steppable}
+
+-- what a call of step back comes to at a moment s, whatever else stands in the row: it is refused and leaves everything, or it brings the newest entry back
+pub data BackComes (n : ℕ) (s : Here) (x : CoupledAnswer) : Type 0 where
+  stayed : {k : ℕ} → x ≡ refusedWith k (coupledFrom n s) → BackComes n s x
+  went-back : {e : Noted} {es : List Noted} → s .entries ≡ e ∷ es → x ≡ told (answer.Done false) (coupledFrom n (back (calls n) s)) → BackComes n s x
 
 pub record History (n : ℕ) (ks : List ℕ) {s₀ s : Here} {l : List (Done (calls n))} (r : Ran (calls n) s₀ l s) : Type 0 where
   -- "every unit's reel is well formed, its position 0 or just after an object", its table worked out afresh; no check refuses
