@@ -26,9 +26,7 @@ use Rattle.worlds.proofs.Undoing.{noted-length, noted-long, noted-used}
 use Rattle.sessions.specs.Calling.{Took, takenTo}
 use Rattle.sessions.specs.Good.{CoreFormed, CoreIndexed}
 use Rattle.sessions.specs.Session.{stepped}
-use Rattle.sessions.proofs.Indexing.{indexing}
-use Rattle.sessions.proofs.Keeping.{keeping}
-use Rattle.sessions.proofs.Taken.{accepts, read-none, sound-asked, took-asked, took-fit}
+use Rattle.sessions.proofs.Taken.{asked-indexed, asked-keeps, read-none, sound-asked, took-asked, took-fit}
 use Rattle.histories.specs.Calling.{Call, Here, OfUnit, callKind, coreFor, coupledFrom, doing, journalOf, kindNow, lengthOf, nameOf, nextRig, notedAt, onCall, read-register, step, stepTo, store}
 use Rattle.histories.specs.Good.{Good, GoodDeck}
 use Rattle.histories.proofs.Taking.{Taken, asked, ledger-noted, present-is, step-taken, store-taken, stored-took}
@@ -142,11 +140,10 @@ module _ (n : ℕ) (k : ℕ) (a : Ask) (h : OfUnit a) (s : Here) (t : Taken n (c
   own-good : GoodDeck n (coupledFrom n s) k → GoodDeck n (coupledFrom n (stepTo (step k a h) s)) k
   unfolding nextRig
   own-good d =
-      let ok = accepts n view (d .fit) in
       record {
         fit = subst (Fit n) (taken-took .is ∙ sym taken-view) (took-fit n view (d .fit) (stepOn view n a .world) its taken-took taken-sound);
-        formed = subst CoreFormed (sym taken-core) (keeping (view .core) (d .formed) ok a);
-        indexed = subst CoreIndexed (sym taken-core) (indexing (view .core) (d .formed) (d .indexed) ok a (taken-took .places));
+        formed = subst CoreFormed (sym taken-core) (asked-keeps n view (d .fit) a (d .formed));
+        indexed = subst CoreIndexed (sym taken-core) (asked-indexed n view (d .fit) a (t .kind) (d .formed) (d .indexed));
       }
 
   step-kept : (ks : List ℕ) → Good n ks s → Kept n (coupledFrom n (stepTo (step k a h) s) .ledger)

@@ -9,5 +9,6 @@ pub mod Calls
 pub mod Lengths
 pub mod Room
 pub mod Others
+pub mod Advances
 pub mod Mounting
 pub mod Whole

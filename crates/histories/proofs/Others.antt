@@ -8,23 +8,29 @@ use lib.Seq.{getD-set-other}
 use Rattle.state.proofs.Tests.{either}
 use Rattle.commands.specs.declared.plans.Answer.{Answer}
 use Rattle.commands.specs.declared.plans.Answer.the-variants as answer
+use Rattle.unit.specs.Asks.{Ask}
 use Rattle.unit.specs.declared.registers.Register.{Register}
 use Rattle.entries.specs.Entries.{transports}
 use Rattle.worlds.specs.Calls.{stepOn, undoOn}
 use Rattle.worlds.specs.declared.Outcome.{Outcome}
-use Rattle.worlds.specs.Coupled.{Coupled, CoupledAnswer, backChecked, backOver, deckAt, hostAt, isAbsent, lifted, liftedNone, mountAt, mountedAt, namedIn, noDeck, refusedWith, registerAt, stepAt, undoNamed, undoNone, viewOf, viewOfNone}
+use Rattle.worlds.specs.declared.RegisterRead.{RegisterRead}
+use Rattle.worlds.specs.Coupled.{Coupled, CoupledAnswer, backChecked, backOver, deckAt, hostAt, isAbsent, lifted, liftedNone, mountAt, mountedAt, namedIn, noDeck, refusedWith, registerAt, stepAt, told, undoNamed, undoNone, viewOf, viewOfNone}
 use Rattle.worlds.proofs.Coupling.{other-deck}
 use Rattle.histories.specs.Calling.{Call, Numbered, a-register, a-step, nameOf, onCall, read-register, step, store, wordOf}
 
 -- "12 for a unit not present, checked first": each numbered call, and all is as it was; a register's word is 0
-pub absent-refused : (n : ℕ) (c : Call) (k : ℕ) (w : Coupled) → Numbered c k → isAbsent w k ≡ true → onCall n c w ≡ refusedWith 12 w
-unfolding onCall stepAt registerAt
-absent-refused n c k w a-step t = rw t
-absent-refused n c k w a-register t = rw t
+pub absent-step : (n k : ℕ) (a : Ask) (w : Coupled) → isAbsent w k ≡ true → stepAt w n k a ≡ refusedWith 12 w
+unfolding stepAt
+absent-step n k a w t = rw t
 
 absent-register : (k : ℕ) (r : Register) (w : Coupled) → isAbsent w k ≡ true → registerAt w k r ≡ record { answer = answer.Refused 12; word = 0 }
 unfolding registerAt
 absent-register k r w t = rw t
+
+pub absent-refused : (n : ℕ) (c : Call) (k : ℕ) (w : Coupled) → Numbered c k → isAbsent w k ≡ true → onCall n c w ≡ refusedWith 12 w
+unfolding onCall
+absent-refused n c k w (a-step {a = a}) t = absent-step n k a w t
+absent-refused n c k w (a-register {r = r}) t = ap (λ (x : RegisterRead). told (x .answer) w) (absent-register k r w t)
 
 pub absent-word : (c : Call) (k : ℕ) (w : Coupled) → Numbered c k → isAbsent w k ≡ true → wordOf c w ≡ 0
 unfolding wordOf

@@ -1,16 +1,23 @@
 -- Demand 3 of a session over the row, whole: what holds at its end s, where the transports ks have been mounted and the log l led from the last mount's moment s₀ to s.
-use mathlib.Core.Bool.{false}
+use mathlib.Core.Bool.{true, false}
 use mathlib.Core.List.{List, [], _∷_, map}
 use mathlib.Core.Path.{_≡_}
 use Prim.Native.Nat.{ℕ, _≤_}
 use lib.ListN.{length}
 use Rattle.commands.specs.declared.plans.Answer.the-variants as answer
-use Rattle.worlds.specs.Coupled.{CoupledAnswer, backOver, refusedWith, told}
+use Rattle.worlds.specs.Coupled.{Coupled, CoupledAnswer, backOver, isAbsent, lifted, refusedWith, told, viewOf}
+use Rattle.worlds.specs.Worlds.{Answered}
+use Rattle.sessions.specs.Advancing.{Comes}
 use Rattle.sessions.specs.Good.{Each}
 use Rattle.sessions.specs.Session.{Done, Ran, back, before, entryOf, stood, strike}
 use Rattle.histories.specs.Calling.{Call, Here, Noted, backCalls, calls, coupledFrom, onCall}
 use Rattle.histories.specs.Good.{EntryLong, Good}
 use Rattle.histories.specs.Room.{Exactly, Steppable}
+
+-- what a call of advance of transport k comes to: 12 where it is absent; else what its own world comes to, under the conditions of document 01 (`Comes`), in its place
+pub data AdvanceComes (n : ℕ) (w : Coupled) (k : ℕ) (x : CoupledAnswer) : Type 0 where
+  absent : isAbsent w k ≡ true → x ≡ refusedWith 12 w → AdvanceComes n w k x
+  present : {y : Answered} → isAbsent w k ≡ false → Comes n (viewOf k w) y → x ≡ lifted k w y → AdvanceComes n w k x
 
 -- what a call of step back comes to at a moment s, whatever else stands in the row: it is refused and leaves everything, or it brings the newest entry back
 pub data BackComes (n : ℕ) (s : Here) (x : CoupledAnswer) : Type 0 where

@@ -3,6 +3,8 @@
 //
 //   demand 1   a refused call changes nothing                               stays            proofs/Taking.antt
 //              each numbered call of an absent transport is 12              absent-refused, absent-word, absent-mount   proofs/Others.antt
+//   demand 2   every call of advance is 12 where its unit is absent, else
+//              what the unit's own world comes to, in its place             advance-over     proofs/Advances.antt, sessions' advance-comes
 //   demand 3   the whole of it, from the last mount on, every unit in the
 //              row by then mounted                                          shared-history   proofs/Whole.antt, specs/History.antt
 //              .. and of a single transport, as a row of one                one-transport, one-fresh
