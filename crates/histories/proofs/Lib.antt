@@ -7,3 +7,8 @@ pub mod Rows
 pub mod Backs
 pub mod Calls
 pub mod Lengths
+pub mod Room
+pub mod Others
+pub mod Advances
+pub mod Mounting
+pub mod Whole
