@@ -34,7 +34,7 @@ holding b m r tb j = record { block = b; memory = m; reel = r; table = tb; journ
 
 -- the world of the session that it holds
 abbrev pub worldIn : Host → World
-worldIn h = worldOf (sessionIn (h .block)) (h .memory) (h .reel) (h .table) (h .journal)
+worldIn h = worldOf 0 (sessionIn (h .block)) (h .memory) (h .reel) (h .table) (h .journal)
 
 -- bytes that are no session's block are refused with 1, as a state out of range is
 unfoldable pub opened : Host → Answered → Answered

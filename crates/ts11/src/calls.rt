@@ -109,7 +109,7 @@ pub extern "C" fn ts11_write_tsdb(
     if !block_right(state) {
         return 1;
     }
-    let o = journal::write_tsdb(session_in(state), memory, reel, table, journal, word);
+    let o = journal::write_tsdb(session_in(state), 0, memory, reel, table, journal, word);
     let answer = o.answer;
     close(state, answer, o.session);
     number_in(answer)
@@ -129,7 +129,7 @@ pub extern "C" fn ts11_write_tssr(
     if !block_right(state) {
         return 1;
     }
-    let o = journal::write_tssr(session_in(state), memory, reel, table, journal);
+    let o = journal::write_tssr(session_in(state), 0, memory, reel, table, journal);
     let answer = o.answer;
     close(state, answer, o.session);
     number_in(answer)
@@ -162,6 +162,7 @@ pub extern "C" fn ts11_operate(
     }
     let o = journal::operate(
         session_in(state),
+        0,
         memory,
         reel,
         table,
@@ -246,7 +247,7 @@ pub extern "C" fn ts11_advance(
         return 1;
     }
     let session = session_in(state);
-    let o = journal::advance(session, memory, reel, table, journal);
+    let o = journal::advance(session, 0, memory, reel, table, journal);
     let answer = o.answer;
     *stepped = is_step(answer);
     *interrupt = interrupts(answer);
