@@ -13,13 +13,7 @@ ghost use Rattle.worlds.specs.Coupled.{hostOn, worldOfNone};
 ghost use Rattle.worlds.specs.Rows.{noTransport, sessionOver};
 
 // Refusals 1, 2, 4, 5 and 9.
-pub fn host_store(
-    c: Coupler,
-    mem: &mut [u8],
-    jrnl: &mut [u8],
-    place: usize,
-    bytes: &[u8],
-) -> Shared
+pub fn host_store(c: Coupler, mem: &mut [u8], jrnl: &mut [u8], place: usize, bytes: &[u8]) -> Shared
     ensures { λ r. ⌜ Leaves (hostOn (worldOfNone c (now (mem .entry)) (now (jrnl .entry))) (length (now (jrnl .entry))) place (now (bytes .entry))) (now (jrnl .entry)) (outcome (r .answer) (sessionOver (r .coupler) noTransport)) (now (mem .exit)) [] [] (now (jrnl .exit)) ⌝ }
 {
     let n = coupler_check(c, mem.len(), jrnl.len());

@@ -37,13 +37,7 @@ pub fn refused_shared(c: Coupler, n: usize) -> Shared
 }
 
 // The host's bytes are entered and stored, unless the entry doesn't fit: 9.
-pub fn store_step(
-    c: Coupler,
-    mem: &mut [u8],
-    jrnl: &mut [u8],
-    place: usize,
-    bytes: &[u8],
-) -> Shared
+pub fn store_step(c: Coupler, mem: &mut [u8], jrnl: &mut [u8], place: usize, bytes: &[u8]) -> Shared
     requires { ⌜ StoreReady c (length (now mem)) (length (now jrnl)) place (length (now bytes)) ⌝ }
     ensures { λ r. ⌜ Leaves (takenAs (worldOfNone c (now (mem .entry)) (now (jrnl .entry))) (stored (worldOfNone c (now (mem .entry)) (now (jrnl .entry)) .core) place (now (bytes .entry))) (Answer.Done false)) (now (jrnl .entry)) (outcome (r .answer) (sessionOver (r .coupler) noTransport)) (now (mem .exit)) [] [] (now (jrnl .exit)) ⌝ }
 {

@@ -93,7 +93,10 @@ pub fn coupler_of(s: Session) -> Coupler
 pub fn no_transport() -> Transport
     ensures { λ r. ⌜ r ≡ noTransport ⌝ }
 {
-    let tape = Tape { position: 0, end: 0 };
+    let tape = Tape {
+        position: 0,
+        end: 0,
+    };
     let registers = Registers {
         pointer: 0,
         class: 0,
