@@ -13,7 +13,6 @@ use Rattle.lists.specs.Pick.{pick}
 use Rattle.lists.proofs.Cases.{by-test, past, pick-told}
 use Rattle.state.specs.Legal.{Legal}
 use Rattle.state.proofs.Tests.{either, neither}
-use Rattle.commands.specs.declared.plans.Answer.the-variants as answer
 use Rattle.touched.specs.Touches.{memoryBack}
 use Rattle.entries.specs.Entries.{entryBare, entryFits, newestEntry, savedIn, transports}
 use Rattle.entries.specs.declared.Entry.{Entry}
