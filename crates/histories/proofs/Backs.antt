@@ -182,7 +182,7 @@ next-long (read-register k r) g = refl
 
 pub back-long : (x : Noted) (g : Rig) → length (broughtBack x g .decks) ≡ length (g .decks)
 unfolding broughtBack
-back-long x g = either (λ (y : Rig). length (y .decks) ≡ length (g .decks)) (eqb (x .entry .transport) transports) _ _ refl (decks-long (x .entry .transport) _ g)
+back-long x g = either (λ (y : Rig). length (y .decks) ≡ length (g .decks)) (eqb (x .entry .transport) transports) _ _ refl (decks-long _ _ g)
 
 pub row-stays : (n : ℕ) {s₀ s : Here} {l : List (Done (calls n))} → Ran (calls n) s₀ l s → length (s .core .decks) ≡ length (s₀ .core .decks)
 row-stays n start = refl

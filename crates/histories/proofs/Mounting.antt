@@ -75,7 +75,7 @@ module _ (n : ℕ) (m : Mount) (w : Coupled) where
 
   loaded-long : length (loaded (m .unit) (m .reel) (m .table) g .decks) ≡ length (g .decks)
   unfolding loaded
-  loaded-long = length-set (g .decks) (m .unit) reeled
+  loaded-long = length-set (g .decks) (m .unit) _
 
   -- an absent transport's mount is refused
   put-present : Accepted n m w → isAbsent put (m .unit) ≡ false

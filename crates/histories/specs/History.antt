@@ -25,7 +25,7 @@ pub data BackComes (n : ℕ) (s : Here) (x : CoupledAnswer) : Type 0 where
   went-back : {e : Noted} {es : List Noted} → s .entries ≡ e ∷ es → x ≡ told (answer.Done false) (coupledFrom n (back (calls n) s)) → BackComes n s x
 
 pub record History (n : ℕ) (ks : List ℕ) {s₀ s : Here} {l : List (Done (calls n))} (r : Ran (calls n) s₀ l s) : Type 0 where
-  -- "every unit's reel is well formed, its position 0 or just after an object", its table worked out afresh; no check refuses
+  -- of each of ks "the reel is well formed, the position is 0 or just after an object", the table is worked out afresh from the reel, and no check refuses
   pub good : Good n ks s
   -- "the journal holds one entry per step taken and still standing", of exactly its length
   pub entries : s .entries ≡ map (entryOf (calls n)) (stood (calls n) r)

@@ -2,6 +2,8 @@
 // says (crates/worlds/specs/Coupled.antt), and the theorems are about those definitions.
 //
 //   demand 1   a refused call changes nothing                               stays            proofs/Taking.antt
+//              .. nor does a refused step back, or mount                    back-stays, mount-stays   proofs/Refusing.antt
+//              a step back that is done leaves a row that 1 to 4 pass       back-checked     proofs/Checked.antt
 //              each numbered call of an absent transport is 12              absent-refused, absent-word, absent-mount   proofs/Others.antt
 //   demand 2   every call of advance is 12 where its unit is absent, else
 //              what the unit's own world comes to, in its place             advance-over     proofs/Advances.antt, sessions' advance-comes
