@@ -1,9 +1,8 @@
 -- A step of one transport, or a host store, keeps every transport good: its own by the laws of a single one, and of the others nothing changes but memory's bytes,
 -- of which there are as many.
 use mathlib.Core.Path.{_≡_, refl, sym, ap, subst, _∙_}
-use mathlib.Core.Bool.{false}
-use mathlib.Core.List.{List, _∷_}
-use Prim.Native.Nat.{ℕ, _+_, _-_, _%_, _≤_, _<_}
+use mathlib.Core.List.{List}
+use Prim.Native.Nat.{ℕ, _-_, _%_, _≤_}
 use native.Mathlib.Omega.{arith}
 use borrow.Author.Tests.{eqb-false, eqb-true, ltb-false}
 use lib.Dec.{eqb}
@@ -20,18 +19,16 @@ use Rattle.worlds.specs.Worlds.{Ledger, World, sessionOf}
 use Rattle.worlds.specs.Calls.{entryFor, noted, stepOn}
 use Rattle.worlds.specs.Passes.{Fit}
 use Rattle.worlds.specs.Rows.{couplerChecked}
-use Rattle.worlds.specs.Coupled.{Coupled, Rig, coreOf, coreOfNone, couplerIn, deckOf, hostAt, isAbsent, liftedNone, noDeck, viewOf, viewOfNone, withCore, withMemory}
+use Rattle.worlds.specs.Coupled.{Coupled, Rig, coreOf, coreOfNone, couplerIn, deckOf, hostAt, liftedNone, noDeck, viewOf, viewOfNone, withCore, withMemory}
 use Rattle.worlds.proofs.Coupling.{CouplerPassed, core-put, coupler-passed, coupler-passes, decks-long}
 use Rattle.worlds.proofs.Passing.{core-accepted, let-pass, passed}
 use Rattle.worlds.proofs.Undoing.{noted-length, noted-long, noted-used}
-use Rattle.sessions.specs.Calling.{Took, stepKind, takenTo}
+use Rattle.sessions.specs.Calling.{Took, takenTo}
 use Rattle.sessions.specs.Good.{CoreFormed, CoreIndexed}
 use Rattle.sessions.specs.Session.{stepped}
-use Rattle.sessions.proofs.Indexing.{indexing}
-use Rattle.sessions.proofs.Keeping.{keeping}
-use Rattle.sessions.proofs.Taken.{accepts, read-none, sound-asked, took-asked, took-fit}
+use Rattle.sessions.proofs.Taken.{asked-indexed, asked-keeps, read-none, sound-asked, took-asked, took-fit}
 use Rattle.histories.specs.Calling.{Call, Here, OfUnit, callKind, coreFor, coupledFrom, doing, journalOf, kindNow, lengthOf, nameOf, nextRig, notedAt, onCall, read-register, step, stepTo, store}
-use Rattle.histories.specs.Good.{Among, Good, GoodDeck}
+use Rattle.histories.specs.Good.{Good, GoodDeck}
 use Rattle.histories.proofs.Taking.{Taken, asked, ledger-noted, present-is, step-taken, store-taken, stored-took}
 
 -- a core with other bytes in memory
@@ -67,7 +64,7 @@ fit-other n k c l l′ m f e h =
     }
 
 -- and so its transport stays good
-good-other : (n i : ℕ) (w w′ : Coupled) (m : List ℕ) → GoodDeck n w i → coreOf i (w′ .rig) ≡ remembered m (coreOf i (w .rig)) → length m ≡ length (w .rig .memory) → Kept n (w′ .ledger) → GoodDeck n w′ i
+pub good-other : (n i : ℕ) (w w′ : Coupled) (m : List ℕ) → GoodDeck n w i → coreOf i (w′ .rig) ≡ remembered m (coreOf i (w .rig)) → length m ≡ length (w .rig .memory) → Kept n (w′ .ledger) → GoodDeck n w′ i
 unfolding coreOf
 good-other n i w w′ m d e long h =
     record {
@@ -143,11 +140,10 @@ module _ (n : ℕ) (k : ℕ) (a : Ask) (h : OfUnit a) (s : Here) (t : Taken n (c
   own-good : GoodDeck n (coupledFrom n s) k → GoodDeck n (coupledFrom n (stepTo (step k a h) s)) k
   unfolding nextRig
   own-good d =
-      let ok = accepts n view (d .fit) in
       record {
         fit = subst (Fit n) (taken-took .is ∙ sym taken-view) (took-fit n view (d .fit) (stepOn view n a .world) its taken-took taken-sound);
-        formed = subst CoreFormed (sym taken-core) (keeping (view .core) (d .formed) ok a);
-        indexed = subst CoreIndexed (sym taken-core) (indexing (view .core) (d .formed) (d .indexed) ok a (taken-took .places));
+        formed = subst CoreFormed (sym taken-core) (asked-keeps n view (d .fit) a (d .formed));
+        indexed = subst CoreIndexed (sym taken-core) (asked-indexed n view (d .fit) a (t .kind) (d .formed) (d .indexed));
       }
 
   step-kept : (ks : List ℕ) → Good n ks s → Kept n (coupledFrom n (stepTo (step k a h) s) .ledger)

@@ -1,7 +1,7 @@
 -- "of exactly 128 bytes plus the memory and reel bytes that step stored", and eight for each object written: the entry of each step that stands, of whichever transport;
 -- and of a host store 128 bytes and those stored.
 use mathlib.Core.Path.{_≡_, refl, sym}
-use mathlib.Core.Bool.{Bool, false}
+use mathlib.Core.Bool.{Bool}
 use mathlib.Core.List.{List, []}
 use Prim.Native.Nat.{ℕ}
 use lib.ListN.{length}
@@ -10,14 +10,14 @@ use Rattle.lists.proofs.Placed.{placed-plain}
 use Rattle.lists.proofs.Cases.{pick-told}
 use Rattle.tape.proofs.Accepted.{clash}
 use Rattle.commands.specs.declared.plans.Answer.the-variants as answer
-use Rattle.unit.specs.Asks.{Ask, host-store}
+use Rattle.unit.specs.Asks.{host-store}
 use Rattle.unit.specs.Cores.{Core}
 use Rattle.unit.specs.Steps.{Step, stepOf, storeWrong, stored}
 use Rattle.unit.specs.Stores.{Stores, bytesOf}
 use Rattle.unit.specs.Touching.{hostTouched}
 use Rattle.unit.proofs.Stored.{stores}
 use Rattle.worlds.specs.Worlds.{World, sessionOf}
-use Rattle.worlds.specs.Coupled.{coreOf, coreOfNone, hostAt, liftedNone, viewOf, viewOfNone}
+use Rattle.worlds.specs.Coupled.{hostAt, liftedNone, viewOf, viewOfNone}
 use Rattle.worlds.proofs.Passing.{core-accepted, passed}
 use Rattle.sessions.specs.Good.{Each, and-of, of-none}
 use Rattle.sessions.specs.Session.{Done, Ran, and-did, and-not, and-saw, and-undid, start, stepped, stood}

@@ -9,14 +9,13 @@ use lib.Dec.{eqb, leb}
 use lib.ListN.{length}
 use Rattle.lists.proofs.Cases.{by-test}
 use Rattle.state.proofs.Tests.{either, neither}
-use Rattle.commands.specs.declared.plans.Answer.{Answer}
 use Rattle.unit.specs.Asks.{Ask, Asked, advance, host-store, operate, write-tsdb, write-tssr}
 use Rattle.unit.specs.Steps.{Step, stepOf}
 use Rattle.entries.specs.Entries.{transports}
 use Rattle.worlds.specs.Worlds.{Answered, World, sessionOf}
 use Rattle.worlds.specs.Calls.{noted, refusedAs, stepOn, takenBy}
 use Rattle.worlds.specs.Rows.{absentIn, couplerChecked, couplerOf}
-use Rattle.worlds.specs.Coupled.{Coupled, CoupledAnswer, Rig, coreOfNone, hostAt, hostOn, isAbsent, lifted, liftedNone, refusedWith, stepAt, told, viewOf, viewOfNone, withCore, withMemory}
+use Rattle.worlds.specs.Coupled.{Coupled, Rig, coreOfNone, hostAt, hostOn, isAbsent, lifted, liftedNone, stepAt, viewOf, viewOfNone, withCore, withMemory}
 use Rattle.worlds.proofs.Coupling.{put-core}
 use Rattle.sessions.specs.Calling.{Left, Took, stepKind, takenTo}
 use Rattle.sessions.specs.Session.{Kind, after, does, looked, refused, stepped}

@@ -10,7 +10,6 @@ use Rattle.state.proofs.Tests.{either}
 use Rattle.touched.specs.Touches.{Only, none, savedBytes}
 use Rattle.touched.proofs.PutBack.{memory-put-back}
 use Rattle.unit.specs.Asks.{host-store}
-use Rattle.unit.specs.Cores.{Core}
 use Rattle.unit.specs.Steps.{Sound, Step, stepOf, storeWrong, stored}
 use Rattle.unit.proofs.Touches.{host-only}
 use Rattle.entries.specs.Entries.{transports}
@@ -24,11 +23,6 @@ use Rattle.histories.specs.Calling.{Call, Here, broughtBack, callKind, c
 use Rattle.histories.specs.Good.{Good}
 use Rattle.histories.proofs.Keeping.{keeps-good, taken-lengths, taken-sound}
 use Rattle.histories.proofs.Taking.{present-is, step-taken}
-
--- whom an entry names
-pub entry-names : (k : ℕ) (c : Core) (x : Step) → entryFor k c x .transport ≡ k
-unfolding entryFor
-entry-names k c x = refl
 
 -- of a transport in the row
 put-back : (k : ℕ) (g : Rig) (x : Step) (b : List ℕ) → k < length (g .decks) → k < transports → Sound (coreOf k g) x → x .after .unit .lengths .memory ≡ g .mounted

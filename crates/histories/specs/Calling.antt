@@ -1,8 +1,6 @@
 -- The calls over a row as the steps of a session: "demand 3 speaks of the shared history" (02, [9]). A session's core is the rig: every transport with its reel and
 -- table, and the memory that they share.
-use mathlib.Core.Bool.{Bool}
 use mathlib.Core.List.{List, [], _∷_, _++_}
-use mathlib.Core.Path.{_≡_}
 use Prim.Native.Nat.{ℕ, zero, suc, _+_}
 use lib.Dec.{eqb}
 use Rattle.lists.specs.Pick.{pick}
@@ -19,7 +17,7 @@ use Rattle.worlds.specs.Calls.{entryFor, undone}
 use Rattle.worlds.specs.Coupled.{Coupled, CoupledAnswer, Rig, backOver, coreOf, coreOfNone, hostAt, registerAt, stepAt, told, withCore, withMemory}
 use Rattle.worlds.specs.Worlds.{Ledger}
 use Rattle.sessions.specs.Calling.{Said, readKind, stepKind}
-use Rattle.sessions.specs.Session.{Kind, Machine, Moment, looked, refused, stepped}
+use Rattle.sessions.specs.Session.{Kind, Machine, Moment}
 
 -- what can be asked of a transport: "Host stores belong to no unit"
 abbrev pub OfUnit : Ask → Type 0
@@ -34,6 +32,11 @@ pub data Call : Type 0 where
   step : (k : ℕ) (a : Ask) → OfUnit a → Call
   store : (place : ℕ) (bytes : List ℕ) → Call
   read-register : (k : ℕ) → Register → Call
+
+-- the number that a call is handed; a host store has none
+pub data Numbered : Call → ℕ → Type 0 where
+  a-step : {k : ℕ} {a : Ask} {h : OfUnit a} → Numbered (step k a h) k
+  a-register : {k : ℕ} {r : Register} → Numbered (read-register k r) k
 
 -- what the call does and answers, with a journal of n bytes
 unfoldable pub onCall : ℕ → Call → Coupled → CoupledAnswer

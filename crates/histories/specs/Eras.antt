@@ -4,7 +4,7 @@ use mathlib.Core.Bool.{Bool, false}
 use mathlib.Core.List.{List, [], _∷_}
 use mathlib.Core.Path.{_≡_}
 use Prim.Native.Nat.{ℕ}
-use lib.ListN.{length, set}
+use lib.ListN.{set}
 use Rattle.lists.specs.Words.{Bytes}
 use Rattle.commands.specs.declared.plans.Answer.the-variants as answer
 use Rattle.worlds.specs.Coupled.{Coupled, Rig, deckAt, mountAt}

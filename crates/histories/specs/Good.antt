@@ -1,17 +1,16 @@
 -- What every moment of a shared history has. (02, [9])
-use mathlib.Core.Bool.{Bool, false}
+use mathlib.Core.Bool.{true, false}
 use mathlib.Core.List.{List, [], _∷_}
 use mathlib.Core.Path.{_≡_}
-use Prim.Native.Nat.{ℕ, _<_}
+use Prim.Native.Nat.{ℕ}
 use lib.ListN.{length}
-use Rattle.unit.specs.Steps.{stepOf}
 use Rattle.unit.specs.Stores.{StepBytes, Stores, bytesOf, noBytes}
 use Rattle.unit.specs.Asks.{host-store}
 use Rattle.entries.specs.Entries.{entryLength}
-use Rattle.worlds.specs.Coupled.{Coupled, Rig, coreOf, couplerIn, isAbsent, viewOf}
+use Rattle.worlds.specs.Coupled.{Coupled, Rig, coreOf, couplerIn, deckAt, isAbsent, viewOf}
 use Rattle.worlds.specs.Passes.{Fit}
-use Rattle.worlds.specs.Rows.{couplerChecked}
-use Rattle.sessions.specs.Good.{CoreFormed, CoreIndexed, Each, longFor}
+use Rattle.worlds.specs.Rows.{couplerChecked, isMounted}
+use Rattle.sessions.specs.Good.{CoreFormed, CoreIndexed, longFor}
 use Rattle.sessions.specs.Session.{Standing}
 use Rattle.histories.specs.Calling.{Call, Here, calls, coreFor, coupledFrom, doing, entryAt, read-register, step, store}
 
@@ -40,6 +39,10 @@ pub record Fresh (n : ℕ) (ks : List ℕ) (s : Here) : Type 0 where
 -- "every unit in the row by then mounted": each transport that is present is one of ks
 abbrev pub Every : List ℕ → Here → Type 0
 Every ks s = (k : ℕ) → isAbsent (coupledFrom 0 s) k ≡ false → Among k ks
+
+-- a transport in the row that was never mounted is passed over by a step back: it is enough for it that each that is mounted is one of ks
+abbrev pub EveryMounted : List ℕ → Here → Type 0
+EveryMounted ks s = (k : ℕ) → isAbsent (coupledFrom 0 s) k ≡ false → isMounted (deckAt (s .core) k .transport) ≡ true → Among k ks
 
 -- "of exactly 128 bytes plus the memory and reel bytes that step stored", and eight for each object written: the entry of a step that stands, and the bytes that it stored
 unfoldable pub bytesAt : Call → Rig → StepBytes

@@ -2,3 +2,5 @@
 pub mod Calling
 pub mod Good
 pub mod Eras
+pub mod Room
+pub mod History

@@ -108,8 +108,8 @@ module _ (n u : ℕ) (ks : List ℕ) (here : Among u ks) (s t : Here) (b : Besid
       present-answer f =
           goes-t
           ∙ taken-alike (viewOf u w) (viewOf u w′) x x′ (places-alike a (coreOf u (s .core)) (coreOf u (t .core)) (cores-alike u (s .core) (t .core) (b .rig)) unit-alike) (unit-alike .touched) refl (b .fewer) (unit-alike .answer)
-            (λ e. f (inl (goes-s ∙ e)))
-            (λ e. f (inr (goes-s ∙ e)))
+          (λ e. f (inl (goes-s ∙ e)))
+          (λ e. f (inr (goes-s ∙ e)))
           ∙ sym goes-s
 
   both-absent : (a : Ask) → isAbsent w u ≡ true → stepAt w′ n u a .answer ≡ stepAt w n u a .answer
@@ -149,6 +149,6 @@ module _ (n u : ℕ) (ks : List ℕ) (here : Among u ks) (s t : Here) (b : Besid
       let l = stores-alike place bytes in
       stored-t place bytes
       ∙ taken-alike (viewOfNone w) (viewOfNone w′) (stepOf (host-store place bytes) (coreOfNone (s .core))) (stepOf (host-store place bytes) (coreOfNone (t .core))) (places-alike (host-store place bytes) _ _ (none-alike u (s .core) (t .core) (b .rig)) l) (l .touched) refl (b .fewer) (l .answer)
-        (λ e. f (inl (stored-s place bytes ∙ e)))
-        (λ e. f (inr (stored-s place bytes ∙ e)))
+      (λ e. f (inl (stored-s place bytes ∙ e)))
+      (λ e. f (inr (stored-s place bytes ∙ e)))
       ∙ sym (stored-s place bytes)

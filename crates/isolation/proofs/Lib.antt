@@ -16,3 +16,4 @@ pub mod Running
 pub mod Beside
 pub mod Onward
 pub mod Isolated
+pub mod Aparts

@@ -53,7 +53,7 @@ unfolding lengthOf notedAt
 grown c s = refl
 
 -- a reading takes no step
-is-read : {P : Type 0} (n k : ℕ) (q : Register) (s : Here) → kindNow n (read-register k q) s ≡ stepped → P
+pub is-read : {P : Type 0} (n k : ℕ) (q : Register) (s : Here) → kindNow n (read-register k q) s ≡ stepped → P
 unfolding callKind
 is-read n k q s e = read-none _ e
 

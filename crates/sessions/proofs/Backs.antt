@@ -28,11 +28,11 @@ use Rattle.sessions.specs.Calling.{Left, stepKind}
 use Rattle.sessions.specs.Session.{stepped}
 use Rattle.sessions.proofs.Taken.{guarded-left}
 
-length-memory-back : (t : Touched) (b m : List ℕ) → length (memoryBack t b m) ≡ length m
+pub length-memory-back : (t : Touched) (b m : List ℕ) → length (memoryBack t b m) ≡ length m
 unfolding memoryBack
 length-memory-back t b m = length-placed _ _ _ _ ∙ length-placed _ _ _ _
 
-length-reel-back : (t : Touched) (b r : List ℕ) → length (reelBack t b r) ≡ length r
+pub length-reel-back : (t : Touched) (b r : List ℕ) → length (reelBack t b r) ≡ length r
 unfolding reelBack
 length-reel-back t b r = length-placed _ _ _ _
 

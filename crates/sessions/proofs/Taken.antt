@@ -12,7 +12,7 @@ use Rattle.state.proofs.Tests.{either}
 use Rattle.index.specs.Table.{placesLimit}
 use Rattle.commands.specs.declared.plans.Answer.{Answer}
 use Rattle.commands.specs.declared.plans.Answer.the-variants as answer
-use Rattle.unit.specs.Asks.{Ask}
+use Rattle.unit.specs.Asks.{Ask, Asked}
 use Rattle.unit.specs.Cores.{Admitted}
 use Rattle.unit.specs.Steps.{Sound, Step, stepOf}
 use Rattle.unit.proofs.Rows.{enough-after}
@@ -107,19 +107,30 @@ module _ (n : ℕ) (w : World) (fit : Fit n w) where
   pub accepts : Admitted (w .core)
   accepts = core-accepted w n (passed (sessionOf w) (length (w .core .memory)) (length (w .core .reel)) n (fit .sound))
 
+  -- of any ask
+  pub asked-sound : (a : Ask) → Asked a → Sound (w .core) (stepOf a (w .core))
+  asked-sound a h = sound (w .core) accepts a h
+
+  pub asked-keeps : (a : Ask) → CoreFormed (w .core) → CoreFormed (stepOf a (w .core) .after)
+  asked-keeps a f = keeping (w .core) f accepts a
+
+  pub asked-indexed : (a : Ask) → stepKind (stepOn w n a .answer) ≡ stepped → CoreFormed (w .core) → CoreIndexed (w .core) → CoreIndexed (stepOf a (w .core) .after)
+  asked-indexed a k f x = indexing (w .core) f x accepts a (took-asked n a w k .places)
+
+  -- and of any call
   pub doing-sound : (c : Call) → callKind c (onCall n c w .answer) ≡ stepped → Sound (w .core) (doing c (w .core))
   unfolding doing callKind onCall
-  doing-sound (step a h) k = sound (w .core) accepts a h
+  doing-sound (step a h) k = asked-sound a h
   doing-sound (read-register r) k = read-none _ k
 
   pub doing-keeps : (c : Call) → callKind c (onCall n c w .answer) ≡ stepped → CoreFormed (w .core) → CoreFormed (doing c (w .core) .after)
   unfolding doing callKind onCall
-  doing-keeps (step a h) k f = keeping (w .core) f accepts a
+  doing-keeps (step a h) k f = asked-keeps a f
   doing-keeps (read-register r) k f = read-none _ k
 
   pub doing-indexed : (c : Call) → callKind c (onCall n c w .answer) ≡ stepped → CoreFormed (w .core) → CoreIndexed (w .core) → CoreIndexed (doing c (w .core) .after)
-  unfolding doing
-  doing-indexed (step a h) k f x = indexing (w .core) f x accepts a (took n (step a h) w k .places)
+  unfolding doing callKind onCall
+  doing-indexed (step a h) k f x = asked-indexed a k f x
   doing-indexed (read-register r) k f x = x
 
   -- the step x took the world to the next
@@ -131,7 +142,12 @@ module _ (n : ℕ) (w : World) (fit : Fit n w) where
         let free : long ≤ w .ledger .length - w .ledger .used = ltb-false (w .ledger .length - w .ledger .used) long (t .room) in
         omega (arith, p .used)
 
+    -- the places that are used after it can be counted in four bytes
+    pub took-few : next .core .objects ≤ placesLimit
+    took-few = rw (t .is) (enough-after (length (w .core .table)) (w .core .objects) (x .after .objects) (t .places) .few)
+
     module _ (s : Sound (w .core) x) where
+      -- the step back after a step gives the world before it
       pub took-undone : backOn next n ≡ answered (answer.Done false) w
       took-undone = rw (t .is) (taken-undone n w x fit s has-room (t .places))
 
@@ -145,7 +161,7 @@ module _ (n : ℕ) (w : World) (fit : Fit n w) where
 
     -- the places that are used after it can be counted in four bytes
     pub step-few : onCall n c w .world .core .objects ≤ placesLimit
-    step-few = rw (took n c w k .is) (enough-after (length (w .core .table)) (w .core .objects) (doing c (w .core) .after .objects) (took n c w k .places) .few)
+    step-few = took-few (onCall n c w .world) (doing c (w .core)) (took n c w k)
 
     pub step-fit : Fit n (onCall n c w .world)
     step-fit = took-fit (onCall n c w .world) (doing c (w .core)) (took n c w k) (doing-sound c k)

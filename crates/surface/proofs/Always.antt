@@ -38,9 +38,9 @@ module _ {h₀ h : Host} {d : List Line} (s : Begins h₀) (r : Hosted h₀ d h)
       }
 
   -- a step is refused for room exactly when its entry doesn't fit, and for places exactly when the table is too small
-  pub host-room : (c : Call) → Steppable c (worldIn h .core) → Exactly (worldIn h) (doing c (worldIn h .core)) (entryAt c (worldIn h .core)) (given c h)
+  pub host-room : (c : Call) → Steppable c (worldIn h .core) → Exactly (worldIn h) (doing c (worldIn h .core)) (entryAt 0 c (worldIn h .core)) (given c h)
   host-room c x =
-      subst (Exactly (worldIn h) (doing c (worldIn h .core)) (entryAt c (worldIn h .core))) (sym (given-is c h (follows .here .block))) (room-exactly (length (h .journal)) c (worldIn h) (host-good .fit) x)
+      subst (Exactly (worldIn h) (doing c (worldIn h .core)) (entryAt 0 c (worldIn h .core))) (sym (given-is c h (follows .here .block))) (room-exactly (length (h .journal)) c (worldIn h) (host-good .fit) x)
 
 -- Whatever session of the model the host's log follows; `host-ran` says that there is one.
 module _ {h₀ h : Host} {d : List Line} (s : Begins h₀) (f : Follows (length (h₀ .journal)) (first h₀) d h) where

@@ -19,7 +19,7 @@ unfolding stepKind undone
 went-as n w x stayed-back = stayed refl
 went-as n w x (brought-back e d p v f) =
     let q = back-passed n w e p v in
-    went refl (small-legal (sessionOf (backTo w e)) (q .legal) (q .used) (q .limit) (enough-after (length (w .core .table)) (w .core .objects) (e .objects) f .few))
+    went refl (small-legal (sessionOf (backTo w e)) (q .legal) (q .used) (q .limit) (enough-after (length (w .core .table)) (w .core .objects) (e .objects) f .few)) refl
 
 module _ (h : Host) (k : Block (h .block)) where
   abbrev does : Answered

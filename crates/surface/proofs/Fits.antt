@@ -23,6 +23,7 @@ fit-in h sound =
     record {
       sound = sound;
       whole = length-used (s .used) (h .journal) (omega (arith, p .used, p .journal-is));
+      named = omega arith;
     }
 
 -- a session that the checks let pass, and whose places a table has, has numbers of four bytes
@@ -43,6 +44,7 @@ small-legal s l used limit few =
       reel-at = omega arith;
       reel-blocks = omega arith;
       objects = omega arith;
+      transport = omega arith;
     }
 
 pub small-fit : (n : ℕ) (w : World) → Fit n w → w .core .objects ≤ placesLimit → Small (entryWith (sessionOf w))

@@ -39,28 +39,29 @@ block-same b (answer.BadBlock why n) k = refl
 
 -- a call took a step, to a session whose numbers have four bytes, or it left the world w
 pub data Went (w : World) (x : Answered) : Type 0 where
-  went : stepKind (x .answer) ≡ stepped → Small (entryWith (sessionOf (x .world))) → Went w x
+  went : stepKind (x .answer) ≡ stepped → Small (entryWith (sessionOf (x .world))) → x .world .number ≡ w .number → Went w x
   stayed : x .world ≡ w → Went w x
 
 module _ {h h′ : Host} {x : Answered} {n : ℕ} (k : Block (h .block)) (g : Gives h x n h′) (bytes : Bytes (h′ .block)) where
   -- the buffers of the world after it, with the session that the block is read as
-  buffers : sessionIn (h′ .block) ≡ sessionOf (x .world) → worldIn h′ ≡ x .world
-  buffers e =
+  buffers : 0 ≡ x .world .number → sessionIn (h′ .block) ≡ sessionOf (x .world) → worldIn h′ ≡ x .world
+  buffers z e =
       let journal : usedIn (sessionIn (h′ .block) .used) (h′ .journal) ≡ x .world .ledger .bytes = ap (λ (s : Session). usedIn (s .used) (h′ .journal)) e ∙ g .journal in
       λ i. record {
+        number = z i;
         core = record { unit = e i .unit; objects = e i .objects; memory = g .memory i; reel = g .reel i; table = g .table i };
         ledger = record { used = e i .used; length = e i .journal; bytes = journal i };
       }
 
   pub leaves : Went (worldIn h) x → Block (h′ .block) × (worldIn h′ ≡ x .world)
-  leaves (went step small) =
+  leaves (went step small number) =
       let s : Session = sessionOf (x .world) in
       let is : h′ .block ≡ stateBlock s = g .state ∙ block-stepped (h .block) (x .answer) s step in
-      (subst Block (sym is) (block-is s (subst Bytes is bytes)), buffers (ap sessionIn is ∙ block-back s small))
+      (subst Block (sym is) (block-is s (subst Bytes is bytes)), buffers (sym number) (ap sessionIn is ∙ block-back s small))
   leaves (stayed e) =
       let old : sessionOf (x .world) ≡ sessionIn (h .block) = ap sessionOf e in
       let is : h′ .block ≡ h .block = g .state ∙ ap (blockAfter (h .block) (x .answer)) old ∙ block-same (h .block) (x .answer) k in
-      (subst Block (sym is) k, buffers (ap sessionIn is ∙ sym old))
+      (subst Block (sym is) k, buffers (sym (ap (λ (w : World). w .number) e)) (ap sessionIn is ∙ sym old))
 
 -- two blocks of one world are one: a host that holds the world of another holds its bytes
 pub world-bytes : {h h′ : Host} → Block (h .block) → Block (h′ .block) → worldIn h′ ≡ worldIn h → Unchanged h h′

@@ -1,12 +1,12 @@
 -- One exported call is one call of the session, from any block.
-use mathlib.Core.Path.{_≡_, refl, sym, subst, _∙_}
+use mathlib.Core.Path.{_≡_, refl, sym, ap, subst, _∙_}
 use Prim.Native.Nat.{ℕ}
 use lib.ListN.{length}
-use Rattle.worlds.specs.Worlds.{Answered}
+use Rattle.worlds.specs.Worlds.{Answered, World}
 use Rattle.worlds.specs.Passes.{Fit}
 use Rattle.sessions.specs.Session.{Kind, looked, refused, stepped}
 use Rattle.sessions.specs.Calling.{Call, callKind, onCall}
-use Rattle.sessions.proofs.Taken.{looked-none, refused-none, sound-step, stays, step-done, step-few, step-fit}
+use Rattle.sessions.proofs.Taken.{looked-none, refused-none, sound-step, stays, step-done, step-few, step-fit, took}
 use Rattle.stateblock.specs.Block.{Block}
 use Rattle.ts11.specs.Given.{Gives, Host, worldIn}
 use Rattle.surface.specs.Hosting.{Returned, given}
@@ -30,7 +30,7 @@ module _ (c : Call) (h : Host) (k : Block (h .block)) where
   fit-before t = fit-in h (sound-step n (worldIn h) c t)
 
   call-went-by : (z : Kind) → callKind c (does .answer) ≡ z → Went (worldIn h) does
-  call-went-by stepped t = went (step-done c (does .answer) t) (small-fit n (does .world) (step-fit n (worldIn h) (fit-before t) c t) (step-few n (worldIn h) (fit-before t) c t))
+  call-went-by stepped t = went (step-done c (does .answer) t) (small-fit n (does .world) (step-fit n (worldIn h) (fit-before t) c t) (step-few n (worldIn h) (fit-before t) c t)) (ap (λ (w : World). w .number) (took n c (worldIn h) t .is))
   call-went-by refused t = stayed (stays n c (worldIn h) (λ s. refused-none (sym t ∙ s)))
   call-went-by looked t = stayed (stays n c (worldIn h) (λ s. looked-none (sym t ∙ s)))
 

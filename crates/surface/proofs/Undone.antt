@@ -38,7 +38,7 @@ module _ (c : Call) (h : Host) (k : Block (h .block)) (t : callKind c (given c h
     unfolding numberOf stepKind
     world-undone =
         let brought : Gives h′ (answered (answer.Done false) (worldIn h)) i h″ = subst (λ (x : Answered). Gives h′ x i h″) back-gives (g .gives) in
-        let z = leaves b brought (g .bytes) (went refl (small-in (h .block) (k .bytes))) in
+        let z = leaves b brought (g .bytes) (went refl (small-in (h .block) (k .bytes)) refl) in
         (brought .answer, z .0, z .1)
 
   pub undone-bytes : {h′ h″ : Host} {i j : ℕ} → Returned h (given c h) i h′ → Returned h′ (backGiven h′) j h″ → (j ≡ 0) × Unchanged h h″

@@ -51,12 +51,12 @@ module _ (h : Host) (right : Bool) (told : right ≡ isBlock (h .block)) where
 
   -- the call f was made with the session that the block is read as
   module _ (s : Session) (o : Outcome) (m′ r′ tb′ j′ : List ℕ) (t : not right ≡ false) (read : s ≡ sessionIn (h .block)) where
-    module _ (f : World → ℕ → Answered) (left : Leaves (f (worldOf s (h .memory) (h .reel) (h .table) (h .journal)) (length (h .journal))) (h .journal) o m′ r′ tb′ j′) where
+    module _ (f : World → ℕ → Answered) (left : Leaves (f (worldOf 0 s (h .memory) (h .reel) (h .table) (h .journal)) (length (h .journal))) (h .journal) o m′ r′ tb′ j′) where
       abbrev answers : Answered
       answers = f (worldIn h) (length (h .journal))
 
       there : Leaves answers (h .journal) o m′ r′ tb′ j′
-      there = subst (λ (x : Session). Leaves (f (worldOf x (h .memory) (h .reel) (h .table) (h .journal)) (length (h .journal))) (h .journal) o m′ r′ tb′ j′) read left
+      there = subst (λ (x : Session). Leaves (f (worldOf 0 x (h .memory) (h .reel) (h .table) (h .journal)) (length (h .journal))) (h .journal) o m′ r′ tb′ j′) read left
 
       goes : {n : ℕ} {b′ : List ℕ} → n ≡ numberOf (o .answer) → b′ ≡ blockAfter (h .block) (o .answer) (o .session) → Gives h (opened h answers) n (holding b′ m′ r′ tb′ j′)
       unfolding opened
@@ -83,7 +83,7 @@ module _ (h : Host) (right : Bool) (told : right ≡ isBlock (h .block)) where
             fault = v ∙ ap faultIn (there .answer);
           })
 
-    module _ (a : Ask) (left : Leaves (stepOn (worldOf s (h .memory) (h .reel) (h .table) (h .journal)) (length (h .journal)) a) (h .journal) o m′ r′ tb′ j′) where
+    module _ (a : Ask) (left : Leaves (stepOn (worldOf 0 s (h .memory) (h .reel) (h .table) (h .journal)) (length (h .journal)) a) (h .journal) o m′ r′ tb′ j′) where
       pub step-goes : {n : ℕ} {b′ : List ℕ} → n ≡ numberOf (o .answer) → b′ ≡ blockAfter (h .block) (o .answer) (o .session) → Gives h (stepGiven a h) n (holding b′ m′ r′ tb′ j′)
       unfolding stepGiven
       step-goes p q = goes (λ w n. stepOn w n a) left p q
@@ -92,7 +92,7 @@ module _ (h : Host) (right : Bool) (told : right ≡ isBlock (h .block)) where
       unfolding stepGiven
       step-told x y z v = goes-told (λ w n. stepOn w n a) left x y z v
 
-    pub back-goes : Leaves (backOn (worldOf s (h .memory) (h .reel) (h .table) (h .journal)) (length (h .journal))) (h .journal) o m′ r′ tb′ j′ → {n : ℕ} {b′ : List ℕ} → n ≡ numberOf (o .answer) → b′ ≡ blockAfter (h .block) (o .answer) (o .session) → Gives h (backGiven h) n (holding b′ m′ r′ tb′ j′)
+    pub back-goes : Leaves (backOn (worldOf 0 s (h .memory) (h .reel) (h .table) (h .journal)) (length (h .journal))) (h .journal) o m′ r′ tb′ j′ → {n : ℕ} {b′ : List ℕ} → n ≡ numberOf (o .answer) → b′ ≡ blockAfter (h .block) (o .answer) (o .session) → Gives h (backGiven h) n (holding b′ m′ r′ tb′ j′)
     unfolding backGiven
     back-goes left p q = goes backOn left p q
 
