@@ -97,6 +97,10 @@ module _ (c : Coupler) (m j : List ℕ) (place : ℕ) (bytes : List ℕ) (k : St
         entered
         (store-after core place bytes right m′ pm)
 
+-- the number of its refusal, by the session of none as the code makes it
+pub none-number : (c : Coupler) (t : Transport) (s : Session) (e : Entry) (memory n : ℕ) → t ≡ noTransport → s ≡ sessionOver c t → n ≡ undoRefusal true s e memory 0 0 → n ≡ undoRefusal true (sessionOver c noTransport) e memory 0 0
+none-number c t s e memory n dt ds dn = dn ∙ ap (λ (x : Session). undoRefusal true x e memory 0 0) (ds ∙ ap (sessionOver c) dt)
+
 -- the newest entry e, with the number n of its refusal: refused, or brought back
 module _ (c : Coupler) (m j : List ℕ) (k : NoneUndoable c (length m) (length j)) (e : Entry) (n : ℕ) (de : e ≡ newestEntry 0 (usedIn (c .used) j)) (dn : n ≡ undoRefusal true (sessionOver c noTransport) e (length m) 0 0) where
   abbrev lengths : Lengths
