@@ -23,8 +23,11 @@ use worlds::look_at;
 use worlds::no_look;
 use worlds::session_over;
 use worlds::transport_of;
+ghost use mathlib.Core.List.{List, [], _∷_};
 ghost use mathlib.Core.Path.{_≡_};
-ghost use Rattle.ts11.specs.Backs.{StoreGives, TakesBack, couplerAfter, four, isBroken, keptBack, rowFrom, seatIn, storeGiven};
+ghost use lib.ListN.{getD, length};
+ghost use Rattle.entries.specs.Entries.{savedIn, usedIn};
+ghost use Rattle.ts11.specs.Backs.{BackGives, BringReady, Buffers, RestoredAt, StoreGives, TakesBack, couplerAfter, four, givenBack, keptBack, lookIn, rowFrom, storeGiven};
 ghost use Rattle.ts11.specs.Rows.{noRecord};
 
 fn share(shared: &mut [u32; 3], answer: Answer, c: Coupler)
@@ -87,7 +90,7 @@ fn look(present: bool, record: UnitRecord, reel: usize, memory: usize) -> Look
 }
 
 fn chosen(k: usize, a: UnitRecord, b: UnitRecord, c: UnitRecord, d: UnitRecord) -> UnitRecord
-    ensures { λ r. ⌜ r ≡ ofFour k a b c d ⌝ }
+    ensures { λ r. ⌜ r ≡ getD (a ∷ b ∷ c ∷ d ∷ []) k noRecord ⌝ }
 {
     match k {
         0 => a,
@@ -99,7 +102,7 @@ fn chosen(k: usize, a: UnitRecord, b: UnitRecord, c: UnitRecord, d: UnitRecord) 
 }
 
 fn length_of(k: usize, a: usize, b: usize, c: usize, d: usize) -> usize
-    ensures { λ r. ⌜ r ≡ ofFour k a b c d ⌝ }
+    ensures { λ r. ⌜ r ≡ getD (a ∷ b ∷ c ∷ d ∷ []) k 0 ⌝ }
 {
     match k {
         0 => a,
@@ -108,15 +111,6 @@ fn length_of(k: usize, a: usize, b: usize, c: usize, d: usize) -> usize
         3 => d,
         _ => 0,
     }
-}
-
-// The newest entry, which names no transport, brought back, or its refusal.
-fn back_none(shared: &mut [u32; 3], memory: &mut [u8], journal: &[u8]) -> usize
-{
-    let o = undo_none(coupler_in(shared), memory, journal);
-    let answer = o.answer;
-    share(shared, answer, o.coupler);
-    number_in(answer)
 }
 
 // The entry's old bytes go back to memory, and to the reel and table of transport k.
@@ -134,7 +128,10 @@ fn bring_back_at(
     table2: &mut [u8],
     reel3: &mut [u8],
     table3: &mut [u8],
-) {
+)
+    requires { ⌜ BringReady k used e (length (now journal)) (length (now memory)) (four (now reel0) (now table0) (now reel1) (now table1) (now reel2) (now table2) (now reel3) (now table3)) ⌝ }
+    ensures { λ _. ⌜ RestoredAt k e (savedIn e (usedIn used (now (journal .entry)))) (now (memory .entry)) (four (now (reel0 .entry)) (now (table0 .entry)) (now (reel1 .entry)) (now (table1 .entry)) (now (reel2 .entry)) (now (table2 .entry)) (now (reel3 .entry)) (now (table3 .entry))) (now (memory .exit)) (four (now (reel0 .exit)) (now (table0 .exit)) (now (reel1 .exit)) (now (table1 .exit)) (now (reel2 .exit)) (now (table2 .exit)) (now (reel3 .exit)) (now (table3 .exit))) ⌝ }
+{
     match k {
         0 => bring_entry_back(journal, used, e, memory, reel0, table0),
         1 => bring_entry_back(journal, used, e, memory, reel1, table1),
@@ -149,7 +146,9 @@ fn bring_back_at(
 }
 
 // What the entry of transport k brings back of the row: its record.
-fn given_back(k: usize, e: Entry) -> Back {
+fn given_back(k: usize, e: Entry) -> Back
+    ensures { λ r. ⌜ r ≡ givenBack k e ⌝ }
+{
     let unit = e.unit;
     let s = Session {
         unit,
@@ -236,13 +235,19 @@ pub fn step_back(
 }
 
 // The step back over a row of none, which is lent no reel and no table.
-pub fn step_back_none(shared: &mut [u32; 3], memory: &mut [u8], journal: &[u8]) -> usize {
+pub fn step_back_none(shared: &mut [u32; 3], memory: &mut [u8], journal: &[u8]) -> usize
+    ensures { λ r. ⌜ (bs : List Buffers) → BackGives [] (now (shared .entry)) (now (memory .entry)) (now (journal .entry)) bs r [] (now (shared .exit)) (now (memory .exit)) bs ⌝ }
+{
+    let c = coupler_in(shared);
     let none = no_look();
-    let r = looks_refusal(coupler_in(shared), none, none, none, none, memory.len(), journal);
+    let r = looks_refusal(c, none, none, none, none, memory.len(), journal);
     if r != 0 {
         return r;
     }
-    back_none(shared, memory, journal)
+    let o = undo_none(c, memory, journal);
+    let answer = o.answer;
+    share(shared, answer, o.coupler);
+    number_in(answer)
 }
 
 fn no_record() -> UnitRecord
