@@ -105,6 +105,10 @@ pub record BackGives (row : List UnitRecord) (sh m j : List ℕ) (bs : List Buff
   pub memory : m′ ≡ backGiven row sh m j bs .coupled .rig .memory
   pub buffers : (i : ℕ) → i < transports → getD bs′ i noBuffers ≡ buffersAfter row (backGiven row sh m j bs .coupled .rig) i (getD bs i noBuffers)
 
+-- over a row of none it is lent no buffers, and leaves any as they are
+abbrev pub GivesNone : List ℕ → List ℕ → List ℕ → ℕ → List ℕ → List ℕ → Type 0
+GivesNone sh m j number sh′ m′ = (bs : List Buffers) → BackGives [] sh m j bs number [] sh′ m′ bs
+
 abbrev pub four : (r0 t0 r1 t1 r2 t2 r3 t3 : List ℕ) → List Buffers
 four r0 t0 r1 t1 r2 t2 r3 t3 =
     record { reel = r0; table = t0 } ∷ record { reel = r1; table = t1 } ∷ record { reel = r2; table = t2 } ∷ record { reel = r3; table = t3 } ∷ []

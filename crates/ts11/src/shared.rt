@@ -23,11 +23,11 @@ use worlds::look_at;
 use worlds::no_look;
 use worlds::session_over;
 use worlds::transport_of;
-ghost use mathlib.Core.List.{List, [], _∷_};
+ghost use mathlib.Core.List.{[], _∷_};
 ghost use mathlib.Core.Path.{_≡_};
 ghost use lib.ListN.{getD, length};
 ghost use Rattle.entries.specs.Entries.{savedIn, usedIn};
-ghost use Rattle.ts11.specs.Backs.{BackGives, BringReady, Buffers, RestoredAt, StoreGives, TakesBack, couplerAfter, four, givenBack, keptBack, lookIn, rowFrom, storeGiven};
+ghost use Rattle.ts11.specs.Backs.{BringReady, GivesNone, RestoredAt, StoreGives, TakesBack, couplerAfter, four, givenBack, keptBack, lookIn, rowFrom, storeGiven};
 ghost use Rattle.ts11.specs.Rows.{noRecord};
 
 fn share(shared: &mut [u32; 3], answer: Answer, c: Coupler)
@@ -64,7 +64,7 @@ pub struct Back {
 }
 
 fn kept(number: usize, record: UnitRecord) -> Back
-    ensures { λ r. ⌜ r ≡ keptBack number record ⌝ }
+    ensures { λ r. ⌜ r ≡ keptBack number «record» ⌝ }
 {
     Back {
         put: false,
@@ -76,7 +76,7 @@ fn kept(number: usize, record: UnitRecord) -> Back
 
 // What is asked of a record: of one that is not in the row, or not mounted, nothing.
 fn look(present: bool, record: UnitRecord, reel: usize, memory: usize) -> Look
-    ensures { λ r. ⌜ r ≡ lookIn present memory record reel ⌝ }
+    ensures { λ r. ⌜ r ≡ lookIn present memory «record» reel ⌝ }
 {
     if present & (record.numbers[19] != 0) {
         let l = look_at(transport_in(record), reel, memory);
@@ -236,7 +236,7 @@ pub fn step_back(
 
 // The step back over a row of none, which is lent no reel and no table.
 pub fn step_back_none(shared: &mut [u32; 3], memory: &mut [u8], journal: &[u8]) -> usize
-    ensures { λ r. ⌜ (bs : List Buffers) → BackGives [] (now (shared .entry)) (now (memory .entry)) (now (journal .entry)) bs r [] (now (shared .exit)) (now (memory .exit)) bs ⌝ }
+    ensures { λ r. ⌜ GivesNone (now (shared .entry)) (now (memory .entry)) (now (journal .entry)) r (now (shared .exit)) (now (memory .exit)) ⌝ }
 {
     let c = coupler_in(shared);
     let none = no_look();

@@ -22,10 +22,10 @@ looks-refusal-requires c κs = search needs
 
 returns : tie.Need-returns
 returns c =
-    let s = c .before in
+    let s = c .before .before .before .before .before .before in
     let a = s .args in
     c .looks-refusal .ensures
-    ∙ rw (c .look-of .ensures, c .look-of2 .ensures, c .look-of3 .ensures, c .look-of4 .ensures) (looks-refused (a .c) (a .n) (a .s0) (a .s1) (a .s2) (a .s3) _ _ _)
+    ∙ rw (c .before .before .before .before .look-of .ensures, c .before .before .before .look-of2 .ensures, c .before .before .look-of3 .ensures, c .before .look-of4 .ensures) (looks-refused (a .c) (a .n) (a .s0) (a .s1) (a .s2) (a .s3) _ _ _)
 
 pub back-refusal-spec : {M : Type 1} → statement M
 back-refusal-spec =
