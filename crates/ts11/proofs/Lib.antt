@@ -1,2 +1,2 @@
--- Laws of the state's block, and the ways out of an exported call.
+-- Laws of the ways out of a call of one unit, of a host store and of a step back.
 pub mod Ways

@@ -111,7 +111,7 @@ abbrev pub seatIn : UnitRecord → ℕ → Seat
 seatIn u reel = record { transport = transportIn (u .numbers); reel = reel }
 
 abbrev pub keptBack : ℕ → UnitRecord → Back
-keptBack number u = record { put = false; unit = 0; number = number; record = u }
+keptBack number u = record { put = false; unit = 0; number = number; «record» = u }
 
 -- what the function on four records by value hands back, r: which record comes back, if one does
 pub record TakesBack (row : List UnitRecord) (sh m j : List ℕ) (bs : List Buffers) (r : Back) (sh′ m′ : List ℕ) (bs′ : List Buffers) : Type 0 where

@@ -1,13 +1,11 @@
 // Look-ups in a unit's table: they change nothing.
 use crate::answers::number_in;
+use crate::units::session_in;
 use commands::Answer;
 use index::Found;
 use records::UnitRecord;
-use records::coupler_in;
 use records::record_right;
-use records::transport_in;
 use worlds::Finding;
-use worlds::session_over;
 ghost use mathlib.Core.Bool.{false};
 ghost use mathlib.Core.Path.{_≡_};
 ghost use Rattle.ts11.specs.Finds.{Finds, blockGiven, fileGiven, isFound, noFinding, placeFound};
@@ -42,29 +40,21 @@ fn no_finding() -> Finding
 }
 
 fn file_given(record: UnitRecord, shared: &[u32; 3], table: &[u8], file: usize) -> Finding
-    ensures { λ r. ⌜ r ≡ fileGiven (record .numbers) (now (shared .entry)) (now (table .entry)) file ⌝ }
+    ensures { λ r. ⌜ r ≡ fileGiven («record» .numbers) (now (shared .entry)) (now (table .entry)) file ⌝ }
 {
     if !record_right(record) {
         return no_finding();
     }
-    journal::file_place(
-        session_over(transport_in(record), coupler_in(shared)),
-        table,
-        file,
-    )
+    journal::file_place(session_in(record, shared), table, file)
 }
 
 fn block_given(record: UnitRecord, shared: &[u32; 3], table: &[u8], block: usize) -> Finding
-    ensures { λ r. ⌜ r ≡ blockGiven (record .numbers) (now (shared .entry)) (now (table .entry)) block ⌝ }
+    ensures { λ r. ⌜ r ≡ blockGiven («record» .numbers) (now (shared .entry)) (now (table .entry)) block ⌝ }
 {
     if !record_right(record) {
         return no_finding();
     }
-    journal::block_place(
-        session_over(transport_in(record), coupler_in(shared)),
-        table,
-        block,
-    )
+    journal::block_place(session_in(record, shared), table, block)
 }
 
 // The place where file `file` begins.
@@ -76,7 +66,7 @@ pub fn find_file(
     found: &mut bool,
     place: &mut usize,
 ) -> usize
-    ensures { λ r. ⌜ Finds (fileGiven (record .numbers) (now (shared .entry)) (now (table .entry)) file) r (now (found .exit)) (now (place .exit)) ⌝ }
+    ensures { λ r. ⌜ Finds (fileGiven («record» .numbers) (now (shared .entry)) (now (table .entry)) file) r (now (found .exit)) (now (place .exit)) ⌝ }
 {
     let r = file_given(record, shared, table, file);
     let answer = r.answer;
@@ -95,7 +85,7 @@ pub fn find_block(
     found: &mut bool,
     place: &mut usize,
 ) -> usize
-    ensures { λ r. ⌜ Finds (blockGiven (record .numbers) (now (shared .entry)) (now (table .entry)) block) r (now (found .exit)) (now (place .exit)) ⌝ }
+    ensures { λ r. ⌜ Finds (blockGiven («record» .numbers) (now (shared .entry)) (now (table .entry)) block) r (now (found .exit)) (now (place .exit)) ⌝ }
 {
     let r = block_given(record, shared, table, block);
     let answer = r.answer;

@@ -31,15 +31,15 @@ pub struct Given {
 }
 
 // A session taken out of the row.
-fn session_in(record: UnitRecord, shared: &[u32; 3]) -> Session
-    ensures { λ r. ⌜ r ≡ sessionIn (record .numbers) (now (shared .entry)) ⌝ }
+pub fn session_in(record: UnitRecord, shared: &[u32; 3]) -> Session
+    ensures { λ r. ⌜ r ≡ sessionIn («record» .numbers) (now (shared .entry)) ⌝ }
 {
     session_over(transport_in(record), coupler_in(shared))
 }
 
 // The session after a step is put back; any other answer leaves both alone.
-fn close(record: UnitRecord, shared: &mut [u32; 3], answer: Answer, s: Session) -> Given
-    ensures { λ r. ⌜ (r .stepped ≡ isStep answer) × (r .number ≡ numberOf answer) × (r .record .numbers ≡ recordAfter (record .numbers) answer s) × (now (shared .exit) ≡ sharedAfter (now (shared .entry)) answer s) ⌝ }
+pub fn close(record: UnitRecord, shared: &mut [u32; 3], answer: Answer, s: Session) -> Given
+    ensures { λ r. ⌜ (r .stepped ≡ isStep answer) × (r .number ≡ numberOf answer) × (r .record .numbers ≡ recordAfter («record» .numbers) answer s) × (now (shared .exit) ≡ sharedAfter (now (shared .entry)) answer s) ⌝ }
 {
     match answer {
         Answer::Done(_) => {
@@ -60,7 +60,7 @@ fn close(record: UnitRecord, shared: &mut [u32; 3], answer: Answer, s: Session) 
 
 // A record that is no transport's is refused with 1.
 fn no_record(record: UnitRecord) -> Given
-    ensures { λ r. ⌜ (r .stepped ≡ false) × (r .number ≡ 1) × (r .record ≡ record) ⌝ }
+    ensures { λ r. ⌜ (r .stepped ≡ false) × (r .number ≡ 1) × (r .record ≡ «record») ⌝ }
 {
     Given {
         stepped: false,
@@ -82,7 +82,7 @@ pub fn mount(
     block: &mut usize,
     fault: &mut u8,
 ) -> Given
-    ensures { λ r. ⌜ TakesMount (record .numbers) (now (shared .entry)) (mountGiven (record .numbers) (now (shared .entry)) «memory_length» (now (reel .entry)) (now (table .entry)) «journal_length» end online locked) (tableGiven (mountGiven (record .numbers) (now (shared .entry)) «memory_length» (now (reel .entry)) (now (table .entry)) «journal_length» end online locked) (now (reel .entry)) (now (table .entry)) end) r (now (shared .exit)) (now (table .exit)) (now (block .exit)) (now (fault .exit)) ⌝ }
+    ensures { λ r. ⌜ TakesMount («record» .numbers) (now (shared .entry)) (mountGiven («record» .numbers) (now (shared .entry)) «memory_length» (now (reel .entry)) (now (table .entry)) «journal_length» end online locked) (tableGiven (mountGiven («record» .numbers) (now (shared .entry)) «memory_length» (now (reel .entry)) (now (table .entry)) «journal_length» end online locked) (now (reel .entry)) (now (table .entry)) end) r (now (shared .exit)) (now (table .exit)) (now (block .exit)) (now (fault .exit)) ⌝ }
 {
     let session = session_in(record, shared);
     let o = journal::mount(
@@ -111,7 +111,7 @@ pub fn write_tsdb(
     journal: &mut [u8],
     word: u16,
 ) -> Given
-    ensures { λ r. ⌜ Takes (holding (record .numbers) (now (shared .entry)) (now (memory .entry)) (now (reel .entry)) (now (table .entry)) (now (journal .entry))) (stepGiven unit (Ask.write-tsdb word) (holding (record .numbers) (now (shared .entry)) (now (memory .entry)) (now (reel .entry)) (now (table .entry)) (now (journal .entry)))) r (now (shared .exit)) (now (memory .exit)) (now (reel .exit)) (now (table .entry)) (now (journal .exit)) ⌝ }
+    ensures { λ r. ⌜ Takes (holding («record» .numbers) (now (shared .entry)) (now (memory .entry)) (now (reel .entry)) (now (table .entry)) (now (journal .entry))) (stepGiven unit (Ask.write-tsdb word) (holding («record» .numbers) (now (shared .entry)) (now (memory .entry)) (now (reel .entry)) (now (table .entry)) (now (journal .entry)))) r (now (shared .exit)) (now (memory .exit)) (now (reel .exit)) (now (table .entry)) (now (journal .exit)) ⌝ }
 {
     if !record_right(record) {
         return no_record(record);
@@ -138,7 +138,7 @@ pub fn write_tssr(
     table: &[u8],
     journal: &mut [u8],
 ) -> Given
-    ensures { λ r. ⌜ Takes (holding (record .numbers) (now (shared .entry)) (now (memory .entry)) (now (reel .entry)) (now (table .entry)) (now (journal .entry))) (stepGiven unit Ask.write-tssr (holding (record .numbers) (now (shared .entry)) (now (memory .entry)) (now (reel .entry)) (now (table .entry)) (now (journal .entry)))) r (now (shared .exit)) (now (memory .exit)) (now (reel .exit)) (now (table .entry)) (now (journal .exit)) ⌝ }
+    ensures { λ r. ⌜ Takes (holding («record» .numbers) (now (shared .entry)) (now (memory .entry)) (now (reel .entry)) (now (table .entry)) (now (journal .entry))) (stepGiven unit Ask.write-tssr (holding («record» .numbers) (now (shared .entry)) (now (memory .entry)) (now (reel .entry)) (now (table .entry)) (now (journal .entry)))) r (now (shared .exit)) (now (memory .exit)) (now (reel .exit)) (now (table .entry)) (now (journal .exit)) ⌝ }
 {
     if !record_right(record) {
         return no_record(record);
@@ -166,7 +166,7 @@ pub fn operate(
     write_lock: bool,
     on: bool,
 ) -> Given
-    ensures { λ r. ⌜ Takes (holding (record .numbers) (now (shared .entry)) (now (memory .entry)) (now (reel .entry)) (now (table .entry)) (now (journal .entry))) (stepGiven unit (Ask.operate (actOf «write_lock» on)) (holding (record .numbers) (now (shared .entry)) (now (memory .entry)) (now (reel .entry)) (now (table .entry)) (now (journal .entry)))) r (now (shared .exit)) (now (memory .exit)) (now (reel .exit)) (now (table .entry)) (now (journal .exit)) ⌝ }
+    ensures { λ r. ⌜ Takes (holding («record» .numbers) (now (shared .entry)) (now (memory .entry)) (now (reel .entry)) (now (table .entry)) (now (journal .entry))) (stepGiven unit (Ask.operate (actOf «write_lock» on)) (holding («record» .numbers) (now (shared .entry)) (now (memory .entry)) (now (reel .entry)) (now (table .entry)) (now (journal .entry)))) r (now (shared .exit)) (now (memory .exit)) (now (reel .exit)) (now (table .entry)) (now (journal .exit)) ⌝ }
 {
     if !record_right(record) {
         return no_record(record);
@@ -197,7 +197,7 @@ pub fn advance(
     block: &mut usize,
     fault: &mut u8,
 ) -> Given
-    ensures { λ r. ⌜ TakesTelling (holding (record .numbers) (now (shared .entry)) (now (memory .entry)) (now (reel .entry)) (now (table .entry)) (now (journal .entry))) (stepGiven unit Ask.advance (holding (record .numbers) (now (shared .entry)) (now (memory .entry)) (now (reel .entry)) (now (table .entry)) (now (journal .entry)))) r (now (shared .exit)) (now (memory .exit)) (now (reel .exit)) (now (table .exit)) (now (journal .exit)) (now (stepped .exit)) (now (interrupt .exit)) (now (block .exit)) (now (fault .exit)) ⌝ }
+    ensures { λ r. ⌜ TakesTelling (holding («record» .numbers) (now (shared .entry)) (now (memory .entry)) (now (reel .entry)) (now (table .entry)) (now (journal .entry))) (stepGiven unit Ask.advance (holding («record» .numbers) (now (shared .entry)) (now (memory .entry)) (now (reel .entry)) (now (table .entry)) (now (journal .entry)))) r (now (shared .exit)) (now (memory .exit)) (now (reel .exit)) (now (table .exit)) (now (journal .exit)) (now (stepped .exit)) (now (interrupt .exit)) (now (block .exit)) (now (fault .exit)) ⌝ }
 {
     if !record_right(record) {
         *stepped = false;
@@ -217,7 +217,7 @@ pub fn advance(
 }
 
 pub fn read_register(record: UnitRecord, shared: &[u32; 3], tssr: bool, word: &mut u16) -> usize
-    ensures { λ r. ⌜ Reads (registerGiven (record .numbers) (now (shared .entry)) tssr) r (now (word .exit)) ⌝ }
+    ensures { λ r. ⌜ Reads (registerGiven («record» .numbers) (now (shared .entry)) tssr) r (now (word .exit)) ⌝ }
 {
     if !record_right(record) {
         *word = 0;
