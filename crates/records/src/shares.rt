@@ -10,20 +10,25 @@ fn low(x: usize) -> u32
     (x % 4294967296) as u32
 }
 
+// The elements of an array by value are known to be of their type; of one behind a reference they are not.
+fn coupler_by(n: [u32; 3]) -> Coupler
+    ensures { λ r. ⌜ r ≡ couplerIn n ⌝ }
+{
+    Coupler {
+        used: n[0] as usize,
+        memory: n[1] as usize,
+        journal: n[2] as usize,
+    }
+}
+
 pub fn coupler_in(shared: &[u32; 3]) -> Coupler
     ensures { λ r. ⌜ r ≡ couplerIn (now (shared .entry)) ⌝ }
 {
-    Coupler {
-        used: shared[0] as usize,
-        memory: shared[1] as usize,
-        journal: shared[2] as usize,
-    }
+    coupler_by(*shared)
 }
 
 pub fn put_coupler(shared: &mut [u32; 3], c: Coupler)
     ensures { λ _. ⌜ now (shared .exit) ≡ sharesOf c ⌝ }
 {
-    shared[0] = low(c.used);
-    shared[1] = low(c.memory);
-    shared[2] = low(c.journal);
+    *shared = [low(c.used), low(c.memory), low(c.journal)];
 }

@@ -90,6 +90,7 @@ small-entry b top h =
       reel-at = s 26;
       reel-blocks = s 27;
       objects = s 28;
+      transport = s 30;
     }
 
 -- what a block is read as has numbers of at most four bytes
@@ -111,6 +112,7 @@ small-in b h =
       reel-at = omega arith;
       reel-blocks = omega arith;
       objects = s .objects;
+      transport = omega arith;
     }
 
 -- the bytes of the numbers that were read are the bytes

@@ -33,6 +33,7 @@ entryWith s =
             «place_at» = 0;
             places = 0;
           };
+      transport = 0;
     }
 
 unfoldable pub sessionWith : Entry → Session

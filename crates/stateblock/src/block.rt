@@ -37,6 +37,7 @@ fn entry_with(s: Session) -> Entry
         unit,
         objects: s.objects,
         touched,
+        transport: 0,
     }
 }
 
