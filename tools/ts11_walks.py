@@ -1,11 +1,12 @@
 """The exported calls of one unit of a row, and the step back: descriptions for walks.py. `tools/walks.py tools/ts11_walks.py` writes their proofs; run it again after a change of crates/ts11/src/rows.rt.
-The laws are in crates/ts11/proofs/Walking.antt."""
+The laws are in crates/ts11/proofs/Walking.antt and WalkingBack.antt."""
 ROWS = "use Rattle.ts11.specs.Rows.{noRecord}"
-LAWS = "use Rattle.ts11.proofs.Walking.{%s}"
+FOUR = " ∷ ".join(f"getD ys {i} noRecord" for i in ("0", "r₁", "r₂", "r₃")) + " ∷ []"
 
 
-def walk(function, laws, **more):
-    return dict(crate="ts11", function=f"rows::{function}", use=[ROWS, LAWS % ", ".join(laws.values())], blank="noRecord", **laws, **more)
+def walk(function, laws, laws_in="Walking", also=(), **more):
+    names = ", ".join([*laws.values(), *also])
+    return dict(crate="ts11", function=f"rows::{function}", use=[ROWS, f"use Rattle.ts11.proofs.{laws_in}.{{{names}}}"], blank="noRecord", **laws, **more)
 
 
 def puts(function, name):
@@ -25,6 +26,6 @@ WALKS = [
     looks("ts11_read_register", "register"),
     looks("ts11_find_file", "file"),
     looks("ts11_find_block", "block"),
-    walk("ts11_step_back", {"held": "back-none", "put": "back-put", "kept": "back-kept"}, fields={"Back": ["put", "unit", "number", "record"]},
-         inside={"clamp": "e .inside", "step_back": "back-inside ys e taken"}, requires={"clamp": ("0 < length ys", "nonempty")}),
+    walk("ts11_step_back", {"held": "back-none", "put": "back-put", "kept": "back-kept"}, laws_in="WalkingBack", also=["back-inside"], fields={"Back": ["put", "unit", "number", "record"]},
+         inside={"clamp": "e .inside", "step_back": f"back-inside (length ys) (r₄ .unit) ({FOUR}) (e .inside taken)"}, requires={"clamp": ("0 < length ys", "nonempty")}),
 ]

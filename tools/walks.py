@@ -17,7 +17,7 @@ DESCRIPTIONS is a Python file with a list WALKS of dicts, one for each thin func
     fields            {struct: [its fields' names, in order]} of each struct that a callee returns
     held, failed      the law that closes each arm: of `if test { held } else { failed }`
     put, kept         instead of the law of an arm that ends in a branch of its own, `if o.stepped { row[i] = o.record; return o.number; } else { return o.number; }`: the laws of the two
-    inside            {callee: a term that begins with e}, for a callee whose result (a number, or a field of a struct) is used as an index:
+    inside            {callee: a term with e}, for a callee whose result (a number, or a field of a struct) is used as an index:
                       from e, which is that callee's `ensures`, the proof of `index < length row`, as "e .inside" (of several clauses, as "e-2 .inside"). Without it, "e".
                       In the arm `put`, `taken : o .stepped ≡ true` is in scope, as for "e .inside taken"
     requires          {callee: (the fact, its proof)} for a callee with a `requires`: the fact as antt has it at the arguments (`ys` is the row), and its proof.
@@ -359,7 +359,7 @@ class Arm:
             v = self.value(o)
             args.append(("lent", v[1]) if v[0] in ("lent", "param") else v)
         c = dict(path=path, fn=fn, r=f"r{sub(n)}", e=f"e{sub(n)}", ls=f"ls{sub(n)}", v=f"v{sub(n)}", n=n, args=args, operands=operands, to=k,
-                 struct=t[1] if t[0] == "named" else None, width=t[1] if t[0] == "int" else None, inside="(" + self.walk.d.get("inside", {}).get(fn, "e").replace("e", f"e{sub(n)}", 1) + ")")  # of several clauses: "e-2 .inside"
+                 struct=t[1] if t[0] == "named" else None, width=t[1] if t[0] == "int" else None, inside="(" + re.sub(r"(?<![\w.-])e(?!\w)", f"e{sub(n)}", self.walk.d.get("inside", {}).get(fn, "e")) + ")")  # of several clauses: "e-2 .inside"
         c["names"] = self.walk.d.get("fields", {}).get(c["struct"].rsplit("::", 1)[1]) if c["struct"] else None
         self.calls.append(c)
         self.sym[k] = ("out", c) if c["struct"] else ("int", c["r"], f"is-{c['r']} .1", c["width"])

@@ -2,3 +2,4 @@
 pub mod Ways
 pub mod Lent
 pub mod Walking
+pub mod WalkingBack
