@@ -13,3 +13,4 @@ pub use steps::host_step;
 pub use steps::refused;
 pub use steps::step;
 pub use steps::undo;
+pub use steps::undo_refusal;

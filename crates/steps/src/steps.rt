@@ -27,10 +27,11 @@ use worlds::check;
 ghost use mathlib.Core.Bool.{false};
 ghost use mathlib.Core.Path.{_≡_};
 ghost use lib.ListN.{length};
+ghost use Rattle.touched.specs.Touches.{Sizes};
 ghost use Rattle.unit.specs.Steps.{carried, changed, stored};
 ghost use Rattle.worlds.specs.Worlds.{Leaves, worldOf};
 ghost use Rattle.worlds.specs.Calls.{takenAs};
-ghost use Rattle.steps.specs.Readiness.{CutReady, HostReady, Ready, Undoable, Undoes, changeRefusal};
+ghost use Rattle.steps.specs.Readiness.{CutReady, HostReady, Ready, Undoable, Undoes, changeRefusal, undoRefusal};
 
 // Refusal n changes nothing.
 pub fn refused(s: Session, n: usize) -> Outcome
@@ -204,24 +205,49 @@ pub fn host_step(
     }
 }
 
-// The newest entry brought back: 8 if its numbers don't fit or the state it holds is one that 1 refuses, 11 if the table is too small for the objects now or
-// for those that come back.
+// 8 if the entry's numbers don't fit; of a transport's, 8 if the state it holds is one that 1 refuses, and 11 if the table is too small for the objects now or for those
+// that come back. Or 0.
+pub fn undo_refusal(
+    none: bool,
+    s: Session,
+    e: Entry,
+    memory: usize,
+    reel: usize,
+    table: usize,
+) -> usize
+    requires { ⌜ Sizes memory reel ⌝ }
+    ensures { λ r. ⌜ r ≡ undoRefusal none s e memory reel table ⌝ }
+{
+    let unit = e.unit;
+    let mounted = s.unit.lengths;
+    if !entry_fits(e, s.used, mounted, memory, reel, s.objects) {
+        return 8;
+    }
+    if none {
+        return 0;
+    }
+    if state::state_wrong(unit) {
+        return 8;
+    }
+    if too_small(table, s.objects, e.objects) {
+        return 11;
+    }
+    0
+}
+
+// The newest entry brought back, or refusal 8 or 11.
 pub fn undo(s: Session, mem: &mut [u8], reel: &mut [u8], table: &mut [u8], jrnl: &[u8]) -> Outcome
     requires { ⌜ Undoable s (length (now mem)) (length (now reel)) (length (now jrnl)) ⌝ }
     ensures { λ r. ⌜ Undoes s (now (mem .entry)) (now (reel .entry)) (now (table .entry)) (now (jrnl .entry)) r (now (mem .exit)) (now (reel .exit)) (now (table .exit)) ⌝ }
 {
     let e = newest_entry(jrnl, s.used, s.objects);
-    let unit = e.unit;
-    let mounted = s.unit.lengths;
-    if !(entry_fits(e, s.used, mounted, mem.len(), reel.len(), s.objects)
-        & !state::state_wrong(unit)) {
-        return refused(s, 8);
-    }
-    if too_small(table.len(), s.objects, e.objects) {
-        return refused(s, 11);
+    let x = undo_refusal(false, s, e, mem.len(), reel.len(), table.len());
+    if x != 0 {
+        return refused(s, x);
     }
     let n = entry_length(e, mem.len(), reel.len());
     bring_entry_back(jrnl, s.used, e, mem, reel, table);
+    let unit = e.unit;
     Outcome {
         answer: Answer::Done(false),
         session: Session {

@@ -2,19 +2,25 @@
 use mathlib.Core.Bool.{Bool, true, false, _&&_, _||_, not}
 use mathlib.Core.List.{List, [], _∷_}
 use mathlib.Core.Path.{_≡_}
-use Prim.Native.Nat.{ℕ, _<_}
+use Prim.Native.Nat.{ℕ, _≤_, _<_}
 use lib.Dec.{eqb, ltb}
 use lib.ListN.{getD, length, set, take}
 use Rattle.lists.specs.Pick.{pick}
 use Rattle.commands.specs.Answers.{isStep, numberOf}
 use Rattle.commands.specs.declared.plans.Answer.{Answer}
 use Rattle.commands.specs.declared.plans.Answer.the-variants as answer
-use Rattle.entries.specs.Entries.{transports, usedIn}
+use Rattle.touched.specs.Touches.{PlacesIn, TouchedIn, memoryBack, reelBack, tableBack}
+use Rattle.entries.specs.Entries.{entryLength, transports, usedIn}
+use Rattle.entries.specs.declared.Entry.{Entry}
+use Rattle.worlds.specs.Calls.{session}
 use Rattle.worlds.specs.Coupled.{Coupled, CoupledAnswer, Deck, Rig, backOver, couplerIn, deckAt, hostOn, namedIn, refusedWith, worldOfNone}
-use Rattle.worlds.specs.Rows.{isMounted}
+use Rattle.worlds.specs.Looks.{lookAt, noLook}
+use Rattle.worlds.specs.Rows.{isMounted, transportOf}
 use Rattle.worlds.specs.Worlds.{Answered, sessionOf}
 use Rattle.worlds.specs.declared.Coupler.{Coupler}
+use Rattle.worlds.specs.declared.Look.{Look}
 use Rattle.worlds.specs.declared.Seat.{Seat}
+use Rattle.worlds.specs.declared.Transport.{Transport}
 use Rattle.records.specs.Records.{isRecord, numbersOf, transportIn}
 use Rattle.records.specs.Shares.{sharesOf}
 use Rattle.records.specs.Shares as shares
@@ -99,6 +105,10 @@ pub record BackGives (row : List UnitRecord) (sh m j : List ℕ) (bs : List Buff
   pub memory : m′ ≡ backGiven row sh m j bs .coupled .rig .memory
   pub buffers : (i : ℕ) → i < transports → getD bs′ i noBuffers ≡ buffersAfter row (backGiven row sh m j bs .coupled .rig) i (getD bs i noBuffers)
 
+-- over a row of none it is lent no buffers, and leaves any as they are
+abbrev pub GivesNone : List ℕ → List ℕ → List ℕ → ℕ → List ℕ → List ℕ → Type 0
+GivesNone sh m j number sh′ m′ = (bs : List Buffers) → BackGives [] sh m j bs number [] sh′ m′ bs
+
 abbrev pub four : (r0 t0 r1 t1 r2 t2 r3 t3 : List ℕ) → List Buffers
 four r0 t0 r1 t1 r2 t2 r3 t3 =
     record { reel = r0; table = t0 } ∷ record { reel = r1; table = t1 } ∷ record { reel = r2; table = t2 } ∷ record { reel = r3; table = t3 } ∷ []
@@ -107,11 +117,46 @@ four r0 t0 r1 t1 r2 t2 r3 t3 =
 abbrev pub rowFrom : ℕ → UnitRecord → UnitRecord → UnitRecord → UnitRecord → List UnitRecord
 rowFrom n a b c d = take n (a ∷ b ∷ c ∷ d ∷ [])
 
+-- a record as a seat
 abbrev pub seatIn : UnitRecord → ℕ → Seat
 seatIn u reel = record { transport = transportIn (u .numbers); reel = reel }
 
 abbrev pub keptBack : ℕ → UnitRecord → Back
 keptBack number u = record { put = false; unit = 0; number = number; «record» = u }
+
+-- what is asked of a record: as of its seat, and 1 also where a mounted unit's numbers are no transport's record
+unfoldable pub lookIn : Bool → ℕ → UnitRecord → ℕ → Look
+lookIn present memory u reel =
+    pick (present && isMounted (transportIn (u .numbers)))
+    (record {
+      mounted = true;
+      wrong = not (isRecord (u .numbers)) || lookAt memory (transportIn (u .numbers)) reel .wrong;
+      short = lookAt memory (transportIn (u .numbers)) reel .short;
+    })
+    noLook
+
+-- the transport of an entry
+abbrev pub transportBack : Entry → Transport
+transportBack e = transportOf (session (e .unit) (e .objects) 0 0)
+
+-- the record of unit k comes back as the entry e has it; of none, no record
+abbrev pub givenBack : ℕ → Entry → Back
+givenBack k e = record { put = not (eqb k transports); unit = k; number = 0; «record» = record { numbers = numbersOf (transportBack e) } }
+
+-- the entry's places lie in the journal, in memory, and in the buffers of unit k
+pub record BringReady (k used : ℕ) (e : Entry) (journal memory : ℕ) (bs : List Buffers) : Type 0 where
+  pub used-in : used ≤ journal
+  pub inside : entryLength e ≤ used
+  pub touched-in : TouchedIn (e .touched) memory (length (getD bs k noBuffers .reel))
+  pub places-in : PlacesIn (e .touched) (length (getD bs k noBuffers .table))
+
+abbrev pub buffersBack : Entry → List ℕ → Buffers → Buffers
+buffersBack e saved b = record { reel = reelBack (e .touched) saved (b .reel); table = tableBack (e .touched) saved (b .table) }
+
+-- the bytes that the entry e saved are back in memory and in the buffers of unit k, and the other buffers are as they were
+pub record RestoredAt (k : ℕ) (e : Entry) (saved m : List ℕ) (bs : List Buffers) (m′ : List ℕ) (bs′ : List Buffers) : Type 0 where
+  pub memory : m′ ≡ memoryBack (e .touched) saved m
+  pub buffers : (i : ℕ) → i < transports → getD bs′ i noBuffers ≡ pick (eqb i k) (buffersBack e saved (getD bs i noBuffers)) (getD bs i noBuffers)
 
 -- what the function on four records by value hands back, r: which record comes back, if one does
 pub record TakesBack (row : List UnitRecord) (sh m j : List ℕ) (bs : List Buffers) (r : Back) (sh′ m′ : List ℕ) (bs′ : List Buffers) : Type 0 where

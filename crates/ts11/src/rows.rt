@@ -3,8 +3,8 @@
 use crate::finds::find_block;
 use crate::finds::find_file;
 use crate::finds::not_found;
-use crate::shared::no_record;
 use crate::shared::step_back;
+use crate::shared::step_back_none;
 use crate::units::advance;
 use crate::units::mount;
 use crate::units::operate;
@@ -305,26 +305,7 @@ pub extern "C" fn ts11_step_back(
 {
     let n = row.len();
     if n == 0 {
-        let none = no_record();
-        let o = step_back(
-            n,
-            none,
-            none,
-            none,
-            none,
-            shared,
-            memory,
-            journal,
-            reel0,
-            table0,
-            reel1,
-            table1,
-            reel2,
-            table2,
-            reel3,
-            table3,
-        );
-        return o.number;
+        return step_back_none(shared, memory, journal);
     } else {
         let o = step_back(
             n,

@@ -1,24 +1,33 @@
 // The calls of no unit: the host store, and the step back on four records by value.
 use crate::answers::number_in;
 use commands::Answer;
-use coupler::back_refusal;
+use coupler::looks_refusal;
 use coupler::named;
+use entries::Entry;
+use entries::TRANSPORTS;
+use entries::bring_entry_back;
+use entries::entry_length;
+use entries::newest_entry;
 use records::UnitRecord;
 use records::coupler_in;
 use records::put_coupler;
 use records::record_of;
 use records::record_right;
 use records::transport_in;
-use steps::undo;
 use steps::undo_none;
+use steps::undo_refusal;
 use worlds::Coupler;
-use worlds::Seat;
-use worlds::Shared;
-use worlds::coupler_of;
+use worlds::Look;
+use worlds::Session;
+use worlds::look_at;
+use worlds::no_look;
 use worlds::session_over;
 use worlds::transport_of;
+ghost use mathlib.Core.List.{[], _∷_};
 ghost use mathlib.Core.Path.{_≡_};
-ghost use Rattle.ts11.specs.Backs.{StoreGives, TakesBack, couplerAfter, four, isBroken, keptBack, rowFrom, seatIn, storeGiven};
+ghost use lib.ListN.{getD, length};
+ghost use Rattle.entries.specs.Entries.{savedIn, usedIn};
+ghost use Rattle.ts11.specs.Backs.{BringReady, GivesNone, RestoredAt, StoreGives, TakesBack, couplerAfter, four, givenBack, keptBack, lookIn, rowFrom, storeGiven};
 ghost use Rattle.ts11.specs.Rows.{noRecord};
 
 fn share(shared: &mut [u32; 3], answer: Answer, c: Coupler)
@@ -54,24 +63,8 @@ pub struct Back {
     pub record: UnitRecord,
 }
 
-fn seat(record: UnitRecord, reel: usize) -> Seat
-    ensures { λ r. ⌜ r ≡ seatIn record reel ⌝ }
-{
-    Seat {
-        transport: transport_in(record),
-        reel,
-    }
-}
-
-// A record of a mounted unit that is no transport's.
-fn broken(record: UnitRecord) -> bool
-    ensures { λ r. ⌜ r ≡ isBroken record ⌝ }
-{
-    (record.numbers[19] != 0) & !record_right(record)
-}
-
 fn kept(number: usize, record: UnitRecord) -> Back
-    ensures { λ r. ⌜ r ≡ keptBack number record ⌝ }
+    ensures { λ r. ⌜ r ≡ keptBack number «record» ⌝ }
 {
     Back {
         put: false,
@@ -81,48 +74,94 @@ fn kept(number: usize, record: UnitRecord) -> Back
     }
 }
 
-fn back_of(
-    record: UnitRecord,
-    unit: usize,
-    shared: &mut [u32; 3],
-    memory: &mut [u8],
-    reel: &mut [u8],
-    table: &mut [u8],
-    journal: &[u8],
-) -> Back {
-    let o = undo(
-        session_over(transport_in(record), coupler_in(shared)),
-        memory,
-        reel,
-        table,
-        journal,
-    );
-    let answer = o.answer;
-    let s = o.session;
-    match answer {
-        Answer::Done(_) => {
-            put_coupler(shared, coupler_of(s));
-            Back {
-                put: true,
-                unit,
-                number: 0,
-                record: record_of(transport_of(s)),
-            }
-        }
-        _ => kept(number_in(answer), record),
+// What is asked of a record: of one that is not in the row, or not mounted, nothing.
+fn look(present: bool, record: UnitRecord, reel: usize, memory: usize) -> Look
+    ensures { λ r. ⌜ r ≡ lookIn present memory «record» reel ⌝ }
+{
+    if present & (record.numbers[19] != 0) {
+        let l = look_at(transport_in(record), reel, memory);
+        return Look {
+            mounted: true,
+            wrong: !record_right(record) | l.wrong,
+            short: l.short,
+        };
+    }
+    no_look()
+}
+
+fn chosen(k: usize, a: UnitRecord, b: UnitRecord, c: UnitRecord, d: UnitRecord) -> UnitRecord
+    ensures { λ r. ⌜ r ≡ getD (a ∷ b ∷ c ∷ d ∷ []) k noRecord ⌝ }
+{
+    match k {
+        0 => a,
+        1 => b,
+        2 => c,
+        3 => d,
+        _ => no_record(),
     }
 }
 
-fn back_of_none(
-    record: UnitRecord,
-    shared: &mut [u32; 3],
-    memory: &mut [u8],
+fn length_of(k: usize, a: usize, b: usize, c: usize, d: usize) -> usize
+    ensures { λ r. ⌜ r ≡ getD (a ∷ b ∷ c ∷ d ∷ []) k 0 ⌝ }
+{
+    match k {
+        0 => a,
+        1 => b,
+        2 => c,
+        3 => d,
+        _ => 0,
+    }
+}
+
+// The entry's old bytes go back to memory, and to the reel and table of transport k.
+fn bring_back_at(
+    k: usize,
     journal: &[u8],
-) -> Back {
-    let o = undo_none(coupler_in(shared), memory, journal);
-    let answer = o.answer;
-    share(shared, answer, o.coupler);
-    kept(number_in(answer), record)
+    used: usize,
+    e: Entry,
+    memory: &mut [u8],
+    reel0: &mut [u8],
+    table0: &mut [u8],
+    reel1: &mut [u8],
+    table1: &mut [u8],
+    reel2: &mut [u8],
+    table2: &mut [u8],
+    reel3: &mut [u8],
+    table3: &mut [u8],
+)
+    requires { ⌜ BringReady k used e (length (now journal)) (length (now memory)) (four (now reel0) (now table0) (now reel1) (now table1) (now reel2) (now table2) (now reel3) (now table3)) ⌝ }
+    ensures { λ _. ⌜ RestoredAt k e (savedIn e (usedIn used (now (journal .entry)))) (now (memory .entry)) (four (now (reel0 .entry)) (now (table0 .entry)) (now (reel1 .entry)) (now (table1 .entry)) (now (reel2 .entry)) (now (table2 .entry)) (now (reel3 .entry)) (now (table3 .entry))) (now (memory .exit)) (four (now (reel0 .exit)) (now (table0 .exit)) (now (reel1 .exit)) (now (table1 .exit)) (now (reel2 .exit)) (now (table2 .exit)) (now (reel3 .exit)) (now (table3 .exit))) ⌝ }
+{
+    match k {
+        0 => bring_entry_back(journal, used, e, memory, reel0, table0),
+        1 => bring_entry_back(journal, used, e, memory, reel1, table1),
+        2 => bring_entry_back(journal, used, e, memory, reel2, table2),
+        3 => bring_entry_back(journal, used, e, memory, reel3, table3),
+        _ => {
+            let mut no_reel = [0u8; 0];
+            let mut no_table = [0u8; 0];
+            bring_entry_back(journal, used, e, memory, &mut no_reel, &mut no_table);
+        }
+    }
+}
+
+// What the entry of transport k brings back of the row: its record.
+fn given_back(k: usize, e: Entry) -> Back
+    ensures { λ r. ⌜ r ≡ givenBack k e ⌝ }
+{
+    let unit = e.unit;
+    let s = Session {
+        unit,
+        objects: e.objects,
+        used: 0,
+        journal: 0,
+    };
+    Back {
+        put: k != TRANSPORTS,
+        unit: k,
+        number: 0,
+        record: record_of(transport_of(s)),
+    }
 }
 
 pub fn step_back(
@@ -145,35 +184,73 @@ pub fn step_back(
 ) -> Back
     ensures { λ r. ⌜ TakesBack (rowFrom n a b c d) (now (shared .entry)) (now (memory .entry)) (now (journal .entry)) (four (now (reel0 .entry)) (now (table0 .entry)) (now (reel1 .entry)) (now (table1 .entry)) (now (reel2 .entry)) (now (table2 .entry)) (now (reel3 .entry)) (now (table3 .entry))) r (now (shared .exit)) (now (memory .exit)) (four (now (reel0 .exit)) (now (table0 .exit)) (now (reel1 .exit)) (now (table1 .exit)) (now (reel2 .exit)) (now (table2 .exit)) (now (reel3 .exit)) (now (table3 .exit))) ⌝ }
 {
-    let lower = ((0 < n) & broken(a)) | ((1 < n) & broken(b));
-    let upper = ((2 < n) & broken(c)) | ((3 < n) & broken(d));
-    if lower | upper {
-        return kept(1, a);
-    }
     let co = coupler_in(shared);
-    let r = back_refusal(
+    let m = memory.len();
+    let r = looks_refusal(
         co,
-        n,
-        seat(a, reel0.len()),
-        seat(b, reel1.len()),
-        seat(c, reel2.len()),
-        seat(d, reel3.len()),
-        memory.len(),
+        look(0 < n, a, reel0.len(), co.memory),
+        look(1 < n, b, reel1.len(), co.memory),
+        look(2 < n, c, reel2.len(), co.memory),
+        look(3 < n, d, reel3.len(), co.memory),
+        m,
         journal,
     );
     if r != 0 {
         return kept(r, a);
     }
-    match named(co, journal) {
-        0 => back_of(a, 0, shared, memory, reel0, table0, journal),
-        1 => back_of(b, 1, shared, memory, reel1, table1, journal),
-        2 => back_of(c, 2, shared, memory, reel2, table2, journal),
-        3 => back_of(d, 3, shared, memory, reel3, table3, journal),
-        _ => back_of_none(a, shared, memory, journal),
+    let k = named(co, journal);
+    let s = session_over(transport_in(chosen(k, a, b, c, d)), co);
+    let e = newest_entry(journal, co.used, s.objects);
+    let reel = length_of(k, reel0.len(), reel1.len(), reel2.len(), reel3.len());
+    let table = length_of(k, table0.len(), table1.len(), table2.len(), table3.len());
+    let x = undo_refusal(k == TRANSPORTS, s, e, m, reel, table);
+    if x != 0 {
+        return kept(x, a);
     }
+    let used = co.used - entry_length(e, m, reel);
+    put_coupler(
+        shared,
+        Coupler {
+            used,
+            memory: co.memory,
+            journal: co.journal,
+        },
+    );
+    bring_back_at(
+        k,
+        journal,
+        co.used,
+        e,
+        memory,
+        reel0,
+        table0,
+        reel1,
+        table1,
+        reel2,
+        table2,
+        reel3,
+        table3,
+    );
+    given_back(k, e)
 }
 
-pub fn no_record() -> UnitRecord
+// The step back over a row of none, which is lent no reel and no table.
+pub fn step_back_none(shared: &mut [u32; 3], memory: &mut [u8], journal: &[u8]) -> usize
+    ensures { λ r. ⌜ GivesNone (now (shared .entry)) (now (memory .entry)) (now (journal .entry)) r (now (shared .exit)) (now (memory .exit)) ⌝ }
+{
+    let c = coupler_in(shared);
+    let none = no_look();
+    let r = looks_refusal(c, none, none, none, none, memory.len(), journal);
+    if r != 0 {
+        return r;
+    }
+    let o = undo_none(c, memory, journal);
+    let answer = o.answer;
+    share(shared, answer, o.coupler);
+    number_in(answer)
+}
+
+fn no_record() -> UnitRecord
     ensures { λ r. ⌜ r ≡ noRecord ⌝ }
 {
     UnitRecord {

@@ -93,7 +93,7 @@ pub record RowPassed (c : Coupler) (row : List Seat) (memory journal : ℕ) : Ty
 
 -- what is shared, as facts about its numbers
 module _ (c : Coupler) (memory journal : ℕ) where
-  shared-right : couplerWrong c ≡ false → not (eqb memory (c .memory)) ≡ false → not (eqb journal (c .journal)) ≡ false → CouplerPassed c memory journal
+  pub shared-right : couplerWrong c ≡ false → not (eqb memory (c .memory)) ≡ false → not (eqb journal (c .journal)) ≡ false → CouplerPassed c memory journal
   unfolding couplerWrong
   shared-right h m j =
       let p = neither (not (memoryRight (c .memory))) (ltb (c .journal) (c .used) || ltb journalLimit (c .journal)) h in
