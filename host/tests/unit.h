@@ -131,6 +131,12 @@ static inline ts11_unit *row_of(const struct unit *u)
 	return (ts11_unit *)u->row.at;
 }
 
+/* The unit's own; the row has it. */
+static inline ts11_unit *record_of(const struct unit *u)
+{
+	return row_of(u) + u->number;
+}
+
 static inline ts11_shared *shared_of(const struct unit *u)
 {
 	return (ts11_shared *)u->shared.at;
@@ -148,7 +154,7 @@ static inline uint32_t *number_at(const struct unit *u, size_t at)
 {
 	if (at >= TS11_UNIT_NUMBERS)
 		return shared_of(u)->numbers + (at - TS11_UNIT_NUMBERS);
-	return u->number < units(u) ? row_of(u)[u->number].numbers + at : NULL;
+	return u->number < units(u) ? record_of(u)->numbers + at : NULL;
 }
 
 static inline uint32_t number(const struct unit *u, size_t at)
@@ -241,7 +247,7 @@ static inline size_t used_table_by(const struct unit *u, const ts11_unit *record
 
 static inline size_t used_table(const struct unit *u)
 {
-	return u->number < units(u) ? used_table_by(u, row_of(u) + u->number) : 0;
+	return u->number < units(u) ? used_table_by(u, record_of(u)) : 0;
 }
 
 /* ---- the calls as values ----------------------------------------------------------------------------------------- */
@@ -661,7 +667,7 @@ static inline void scribble(struct unit *u, size_t entry)
 }
 
 /* The last number of the newest entry names its unit; that of a host store names none. */
-enum { NO_UNIT = TS11_UNITS_MAX };
+enum { NAMES_NONE = TS11_UNITS_MAX };
 
 static inline uint32_t named(const struct unit *u)
 {
@@ -671,7 +677,7 @@ static inline uint32_t named(const struct unit *u)
 
 static inline uint32_t named_by(const struct unit *u, const struct call *c)
 {
-	return c->kind == HOST_STORE ? NO_UNIT : (uint32_t)u->number;
+	return c->kind == HOST_STORE ? NAMES_NONE : (uint32_t)u->number;
 }
 
 /* A step back is refused where a mounted unit of the row has a wrong record, or another reel, whichever it would undo. */
@@ -729,7 +735,7 @@ static inline void expect_table_kept(const struct unit *u, const struct call *c,
 {
 	const struct copy *table = &before->tables[u->number];
 	bool fills = c->kind == MOUNT || c->kind == ADVANCE || c->kind == STEP_BACK;
-	size_t to = used_table_by(u, c->kind == STEP_BACK ? record_in(before, u->number) : row_of(u) + u->number);
+	size_t to = used_table_by(u, c->kind == STEP_BACK ? record_in(before, u->number) : record_of(u));
 	size_t most = c->kind == MOUNT ? to : 2 * TS11_PLACE_BYTES, from = to < most ? 0 : to - most;
 	if (!fills)
 		from = to = 0;
@@ -755,11 +761,11 @@ static inline void expect_others_kept(const struct unit *u, size_t changed, cons
 static inline void expect_read_only(const struct unit *u, const struct call *c, const struct picture *before)
 {
 	size_t changed = changed_by(u, c, before);
-	if (!EXPECT("a unit's number, or none's", changed <= NO_UNIT, true))
+	if (!EXPECT("a unit's number, or none's", changed <= NAMES_NONE, true))
 		return;
 	struct unit v = seen_from(u, changed);
 	expect_others_kept(u, changed, before);
-	if (changed != NO_UNIT)
+	if (changed != NAMES_NONE)
 		expect_table_kept(&v, c, before);
 	if (c->kind == MOUNT) {
 		EXPECT_BYTES("mount: memory", u->memory.at, before->memory.bytes, before->memory.length);
