@@ -11,6 +11,7 @@ library=${1:?usage: spoil.sh LIBRARY [all]}
 # One directory with a ts11.h: prints how it went.
 try() {
 	local directory=$1 status=0
+	awk -f "$tests/prototypes.awk" "$directory/ts11.h" >"$directory/prototypes.h"
 	if ! ${CC:-gcc} -std=c11 -O0 -Wall -Wextra -Werror -DSTOP_AT_FIRST -I"$directory" "$tests/header.c" "$library" \
 		-o "$directory/header" >"$directory/out" 2>&1; then
 		echo compile
