@@ -1,9 +1,9 @@
 /*
  * header: shows by the library's behaviour that every constant of ts11.h is the library's. Most are measured: what the
  * unit does or shows gives a number, and that must be the constant, so that any other value in the header is noticed.
- * All of it is done twice, by the calls themselves and by the functions over a machine. Compile with -I host/include and
- * the directory of prototypes.h (names.h), and link with libts11.a; spoil.sh shows that this program notices what it
- * should.
+ * All of it is done twice, by the calls themselves and by the functions over a machine. Compile with -I host/include
+ * and -I the directory of prototypes.h (names.h), and link with libts11.a; spoil.sh shows that this program notices what
+ * it should.
  */
 #include "names.h"
 
@@ -423,7 +423,7 @@ static void test_no_faults(void)
 	expect_no_fault("an advance of it", &absent, ADVANCE, TS11_NO_UNIT);
 }
 
-/* ---- the record and what is shared: fields driven ------------------------------------------------------------------------------------ */
+/* ---- numbers of the record, and shared ones: driven -------------------------------------------------------------- */
 
 /* In the order of number_places. */
 union numbers {
@@ -576,7 +576,7 @@ static void drive_tape(void)
 	expect_state("erase");
 }
 
-/* ---- the record and what is shared: fields made up ----------------------------------------------------------------------------------- */
+/* ---- numbers of the record, and shared ones: made up ------------------------------------------------------------- */
 
 static uint64_t seen_tssr(void)
 {

@@ -38,7 +38,7 @@ static void expect_mounted(const struct unit *u, const struct lengths *l)
 	EXPECT("used journal", number(u, AT_USED), 0);
 }
 
-/* Mounts over a row and shared numbers of any bytes, with a reel of exactly its length; so many whole gaps stand on it. */
+/* Mounts over a row of any bytes, shared numbers too, with a reel of exactly its length; so many gaps stand on it. */
 static void expect_mount(const struct lengths *l, size_t gaps, ts11_answer wanted)
 {
 	context("mount: memory %zu, reel %zu, journal %zu, recorded end %zu", l->memory, l->reel, l->journal,
@@ -330,7 +330,7 @@ static const struct {
 	{ "huge objects", TS11_AT_OBJECTS, UINT32_MAX, TS11_SMALL_TABLE },
 };
 
-/* A host store asks of the shared numbers alone; a step back passes over a unit with no blocks, whose entry is then 8. */
+/* A host store asks the shared numbers alone; a step back passes over a unit with no blocks, and its entry is then 8. */
 static ts11_answer made_up_answer(size_t k, const struct call *c)
 {
 	ts11_answer answer = made_up[k].answer;
@@ -1091,7 +1091,7 @@ static void test_table_room(void)
 	context("");
 }
 
-/* 11 comes after 6, 7 and 8 and before 9; step back asks it of both counts, and a host store asks nothing of a table. */
+/* 11 comes after 6, 7 and 8 and before 9; step back asks it of both counts, and a host store not at all. */
 static void test_table_order(void)
 {
 	struct unit u = indexed_at(0), small = with_table(&u, INDEXED_OBJECTS * TS11_PLACE_BYTES - 1);
@@ -1582,6 +1582,23 @@ static void test_entries_of_absent_units(void)
 	context("");
 }
 
+/* An entry that is made to name another unit, with a reel of another length, or none, doesn't fit; nor a store's a unit. */
+static void test_entries_renamed(void)
+{
+	for (size_t own = 0; own <= 4; own++) {
+		struct unit u = own < 4 ? row_with_step(4, own) : mounted_row(4, 0);
+		if (own == 4)
+			expect_store(&u, 7, 33, TS11_DONE);
+		for (uint32_t k = 0; k <= 4; k++) {
+			context("an entry of unit %zu that is made to name unit %u", own, (unsigned)k);
+			set_named(&u, k);
+			expect_back("step back", &u, k == own ? TS11_DONE : TS11_BAD_ENTRY);
+		}
+		free_unit(&u);
+	}
+	context("");
+}
+
 /* A host store has no row: none is asked, and its step back goes over any, an empty one too. */
 static void test_store_of_no_unit(void)
 {
@@ -1631,7 +1648,8 @@ static void test_store_order(void)
 static void test_mount_beside(void)
 {
 	for (size_t third = 0; third < 4; third++) {
-		struct unit u = mounted_row(4, 0), waiting = seen_from(&u, (third + 1) % 4), idle = seen_from(&u, (third + 2) % 4);
+		struct unit u = mounted_row(4, 0);
+		struct unit waiting = seen_from(&u, (third + 1) % 4), idle = seen_from(&u, (third + 2) % 4);
 		context("a mount of unit %zu beside others", third);
 		characteristics(&idle, TS11_CVC, MESSAGE + 0x400, TS11_MESSAGE_BYTES, TS11_EAI);
 		operate(&idle, TS11_SWITCH_ONLINE, false);
@@ -2432,6 +2450,7 @@ int main(void)
 	test_step_back_asks();
 	test_half_mounted();
 	test_entries_of_absent_units();
+	test_entries_renamed();
 	test_store_of_no_unit();
 	test_store_order();
 	test_mount_beside();

@@ -1,8 +1,8 @@
 /*
  * The prototypes of ts11.h once more, with the parameters' names: each name is made to give its parameter a type of its
- * own, so that a declaration with two names exchanged has another type and does not compile. The library's order is that
- * here. The prototypes stand in prototypes.h, taken out of ts11.h by prototypes.awk: with names that are types, the
- * functions that the header has with their bodies would not compile.
+ * own, so that a declaration with two names exchanged has another type and does not compile. The library's order is
+ * that here. They are read from prototypes.h, which prototypes.awk takes out of ts11.h: the bodies of the functions that
+ * the header defines would not compile with such names.
  */
 #ifndef NAMES_H
 #define NAMES_H

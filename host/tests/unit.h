@@ -1,8 +1,8 @@
 /*
- * A row of units and all that a host keeps for it, seen from one unit; the library's calls as values; and what every call
- * promises: nothing outside the handed buffers changes, nor anything of the other units, a refused call changes nothing, a
- * step is undone and done again exactly, and in a session from a unit's mount on its table is the one that is worked out
- * afresh from its reel.
+ * A row of units and all that a host keeps for it, seen from one unit; the library's calls as values; and what every
+ * call promises: nothing outside the handed buffers changes, nor anything of the other units, a refused call changes
+ * nothing, a step is undone and done again exactly, and in a session from a unit's mount on its table is the one that is
+ * worked out afresh from its reel.
  */
 #ifndef UNIT_H
 #define UNIT_H
@@ -193,8 +193,8 @@ static inline void make_up_blank(struct unit *u, size_t k, size_t guard)
 }
 
 /*
- * One after the other the units have all numbers, in rows of all lengths up to one more than the library looks at. Units
- * before it in the row are mounted, those behind it were never; what would be the fifth has a mounted unit's blocks.
+ * One after the other the units have all numbers, in rows of all lengths up to one more than the library looks at. Those
+ * before it in the row are mounted, those behind it never were; what would be the fifth has a mounted unit's blocks.
  */
 static inline struct unit make_unit_with(size_t memory, size_t reel, size_t table, size_t journal, size_t guard)
 {
@@ -400,7 +400,7 @@ static inline bool is_step(const struct call *c, const struct result *r)
 	return c->kind != ADVANCE || r->stepped;
 }
 
-/* ---- pictures: what the row's bytes were -------------------------------------------------------------------------- */
+/* ---- pictures: what the row's bytes were ------------------------------------------------------------------------- */
 
 struct copy {
 	uint8_t *bytes;
@@ -559,8 +559,8 @@ static inline void expect_afresh(struct unit *u)
 }
 
 /*
- * A unit's session goes on while nothing but calls has changed its record, reel and used table, nor the used journal: they
- * are those that the last accepted call left.
+ * A unit's session goes on while nothing but calls has changed its record, reel and used table, nor the used journal:
+ * they are those that the last accepted call left.
  */
 static struct {
 	struct copy used;
@@ -680,7 +680,7 @@ static inline uint32_t named_by(const struct unit *u, const struct call *c)
 	return c->kind == HOST_STORE ? NAMES_NONE : (uint32_t)u->number;
 }
 
-/* A step back is refused where a mounted unit of the row has a wrong record, or another reel, whichever it would undo. */
+/* A step back is refused where any mounted unit of the row has a wrong record, or another reel than at its mount. */
 static inline ts11_answer row_refusal(const struct unit *u)
 {
 	ts11_answer refusal = TS11_DONE;
