@@ -1545,6 +1545,8 @@ static void test_half_mounted(void)
 /* Puts another unit's number, or no unit's, into the newest entry. */
 static void set_named(struct unit *u, uint32_t value)
 {
+	if (!EXPECT("an entry", used(u) >= TS11_ENTRY_HEAD, true))
+		return;
 	for (int i = 0; i < 4; i++)
 		u->journal.at[used(u) - 4 + (size_t)i] = (uint8_t)(value >> 8 * i);
 }

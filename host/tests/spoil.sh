@@ -12,6 +12,12 @@ library=${1:?usage: spoil.sh LIBRARY [all]}
 try() {
 	local directory=$1 status=0
 	awk -f "$tests/prototypes.awk" "$directory/ts11.h" >"$directory/prototypes.h"
+	# What names.h alone makes an error need not be tried with the program that includes it.
+	if ! ${CC:-gcc} -std=c11 -Wall -Wextra -Werror -fsyntax-only -I"$directory" -include "$tests/names.h" -x c /dev/null \
+		>"$directory/out" 2>&1; then
+		echo compile
+		return
+	fi
 	if ! ${CC:-gcc} -std=c11 -O0 -Wall -Wextra -Werror -DSTOP_AT_FIRST -I"$directory" "$tests/header.c" "$library" \
 		-o "$directory/header" >"$directory/out" 2>&1; then
 		echo compile
