@@ -1542,6 +1542,28 @@ static void test_half_mounted(void)
 	context("");
 }
 
+/* Buffers of units that are not mounted, or not there, are nowhere: a step back does not look. */
+static void test_buffers_not_looked_at(void)
+{
+	const struct buffer nowhere = { (uint8_t *)1, 777, 0 };
+	for (size_t own = 0; own < 3; own++) {
+		struct unit u = row_of_units(3, 0), v = seen_from(&u, own);
+		context("unit %zu is mounted, and nothing else is there", own);
+		EXPECT("the mount", mount(&v, own, true, false).answer, TS11_DONE);
+		characteristics(&v, TS11_CVC, MESSAGE, TS11_MESSAGE_BYTES, 0);
+		command(&v, TS11_ERASE | TS11_ACK, 0, 0);
+		struct unit alone = v;
+		for (size_t k = 0; k < SEATS; k++)
+			alone.seats[k] = (struct seat){ nowhere, nowhere };
+		for (int k = 0; k < 7; k++)
+			EXPECT("step back", perform(&alone, &(struct call){ .kind = STEP_BACK }).answer, TS11_DONE);
+		EXPECT("used journal", used(&v), 0);
+		expect_afresh(&v);
+		free_unit(&u);
+	}
+	context("");
+}
+
 /* Puts another unit's number, or no unit's, into the newest entry. */
 static void set_named(struct unit *u, uint32_t value)
 {
@@ -2451,6 +2473,7 @@ int main(void)
 	test_others_not_asked();
 	test_step_back_asks();
 	test_half_mounted();
+	test_buffers_not_looked_at();
 	test_entries_of_absent_units();
 	test_entries_renamed();
 	test_store_of_no_unit();
