@@ -271,17 +271,30 @@ static struct unit handed(size_t memory_less, size_t reel_less, size_t journal_l
 	return v;
 }
 
-static void test_answers_to_lengths(void)
+static void expect_answers_to_lengths(const struct call *c)
 {
 	ready(0, HERE);
 	struct unit memory = handed(2, 0, 0, 0), reel = handed(0, TS11_BLOCK, 0, 0), journal = handed(0, 0, 1, 0);
 	struct unit table = handed(0, 0, 0, 1), enough = handed(0, 0, 0, 0);
-	EXPECT("the lengths of the mount", write_tsdb(&u, 0).answer, TS11_DONE);
-	EXPECT("a table with just the places", write_tsdb(&enough, 0).answer, TS11_DONE);
-	EXPECT("a table with a byte less", write_tsdb(&table, 0).answer, TS11_SMALL_TABLE);
-	EXPECT("another memory length", write_tsdb(&memory, 0).answer, TS11_BAD_MEMORY);
-	EXPECT("another reel length", write_tsdb(&reel, 0).answer, TS11_BAD_REEL);
-	EXPECT("another journal length", write_tsdb(&journal, 0).answer, TS11_BAD_JOURNAL);
+	context("call %d of unit %zu", (int)c->kind, u.number);
+	EXPECT("a table with a byte less", make(&table, c).answer, TS11_SMALL_TABLE);
+	EXPECT("another memory length", make(&memory, c).answer, TS11_BAD_MEMORY);
+	EXPECT("another reel length", make(&reel, c).answer, TS11_BAD_REEL);
+	EXPECT("another journal length", make(&journal, c).answer, TS11_BAD_JOURNAL);
+	EXPECT("a table with just the places", make(&enough, c).answer, TS11_DONE);
+	EXPECT("the lengths of the mount", make(&u, c).answer, TS11_DONE);
+	context("");
+}
+
+/* By units of every number: with each unit that is made, it is another. */
+static void test_answers_to_lengths(void)
+{
+	static const struct call asked[] = { { .kind = WRITE_TSDB }, { .kind = WRITE_TSSR }, { .kind = OPERATE },
+		                                 { .kind = STEP_BACK } };
+	for (size_t n = 0; n < TS11_UNITS_MAX; n++)
+		ROWS(k, asked)
+			expect_answers_to_lengths(&asked[(k + n) % COUNT(asked)]);
+	ready(0, HERE);
 	set_number(&u, TS11_AT_CLASS, 7);
 	EXPECT("a record that none is", write_tsdb(&u, 0).answer, TS11_BAD_STATE);
 	EXPECT("a register of it", read_register(&u, TS11_REGISTER_TSBA).answer, TS11_BAD_STATE);
