@@ -2,8 +2,8 @@
  * header: shows by the library's behaviour that every constant of ts11.h is the library's. Most are measured: what the
  * unit does or shows gives a number, and that must be the constant, so that any other value in the header is noticed.
  * All of it is done twice, by the calls themselves and by the functions over a machine. Compile with -I host/include
- * and -I the directory of prototypes.h (names.h), and link with libts11.a; spoil.sh shows that this program notices what
- * it should.
+ * and -I the directory of prototypes.h (names.h), and link with libts11.a; spoil.sh shows that this program, and
+ * handed.c, notice what they should.
  */
 #include "names.h"
 
