@@ -1,7 +1,7 @@
 /*
  * handed: what the functions of ts11.h over a machine hand on to the calls. The calls here are others, which note what
- * they are handed: so each argument is seen, also one of which the library makes no use. Compile with -I host/include; no
- * library is needed.
+ * they are handed: so each argument is seen, also one of which the library makes no use. Compile with -I host/include;
+ * no library is needed.
  */
 #include "expect.h"
 #include "ts11.h"
