@@ -330,7 +330,7 @@ static const struct {
 	{ "huge objects", TS11_AT_OBJECTS, UINT32_MAX, TS11_SMALL_TABLE },
 };
 
-/* A host store asks the shared numbers alone; a step back passes over a unit with no blocks, and its entry is then 8. */
+/* A host store asks the shared numbers alone; a step back passes over a unit with no blocks, then its entry is 8. */
 static ts11_answer made_up_answer(size_t k, const struct call *c)
 {
 	ts11_answer answer = made_up[k].answer;
@@ -1600,7 +1600,7 @@ static void test_entries_of_absent_units(void)
 	context("");
 }
 
-/* An entry that is made to name another unit, with a reel of another length, or none, doesn't fit; nor a store's a unit. */
+/* An entry that is made to name another unit, with a reel of another length, or none, doesn't fit; nor does a store's. */
 static void test_entries_renamed(void)
 {
 	static const uint32_t names[] = { 0, 1, 2, 3, 4, 5, 6, 256, 260, 0x10004, UINT32_MAX };
