@@ -1600,7 +1600,7 @@ static void test_entries_of_absent_units(void)
 	context("");
 }
 
-/* An entry that is made to name another unit, with a reel of another length, or none, doesn't fit; nor does a store's. */
+/* An entry that is made to name another unit, with a reel of another length, or none, is 8; so is a store's. */
 static void test_entries_renamed(void)
 {
 	static const uint32_t names[] = { 0, 1, 2, 3, 4, 5, 6, 256, 260, 0x10004, UINT32_MAX };
