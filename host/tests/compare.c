@@ -10,7 +10,7 @@
  * worked out afresh. Now and then the steps of all units are stepped back over, and everything must be as it was before
  * the first. The first difference is told, with exit status 1; so is a run in which some refusal, class, command or status
  * bit never occurred, or some fault in a mount, forward or in reverse, or one of the ways in which a packet ends past
- * memory, a long record is moved, the table matters or the row does (some 4,000 rounds have them all). The same seed makes
+ * memory, a long record is moved, the table matters or the row does (some 2,000 rounds have them all). The same seed makes
  * the same calls.
  */
 #include "objects.h"
@@ -22,7 +22,7 @@
 #include <stdlib.h>
 #include <string.h>
 
-#define ROUNDS 6000
+#define ROUNDS 8000
 #define SEED 11
 #define SLACK 4096     /* bytes behind each buffer, which are compared too; wrong lengths reach into them */
 #define TABLE_ROOM ((size_t)TS11_REEL_BLOCKS_MAX * TS11_PLACE_BYTES + SLACK)
@@ -194,6 +194,7 @@ enum row_way {
 	SHORT_ROW,           /* 12: by a number below 4 */
 	FIFTH,               /* .. by that of the fifth record, which is there */
 	EMPTY_ROW,           /* .. in a row of none */
+	NO_UNIT_BEFORE_1,    /* .. and not 1, which the shared numbers would have given any unit */
 	BACK_OF_0,           /* a step back by the unit whose step it undoes; the last is a host store's */
 	BACK_OF_1,
 	BACK_OF_2,
@@ -580,6 +581,13 @@ static bool is_wrong(size_t unit)
 	return plain_read_register(worlds[1].row, UNITS, unit, &worlds[1].shared, false, &word) == TS11_BAD_STATE;
 }
 
+/* Would every call be refused with 1? */
+static bool shared_is_wrong(void)
+{
+	ts11_shared shared = worlds[1].shared;
+	return plain_host_store(&shared, worlds[1].memory, 0, worlds[1].journal, 0, 0, worlds[1].memory, 0) == TS11_BAD_STATE;
+}
+
 /* A unit of the row but this one is mounted, and would be refused. */
 static bool beside_wrong(size_t unit)
 {
@@ -599,6 +607,7 @@ static void count_row(const char *call, const struct out *o, enum row_way way)
 	row_ways[SHORT_ROW] += absent && number < UNITS;
 	row_ways[FIFTH] += absent && number < handed.units;
 	row_ways[EMPTY_ROW] += absent && handed.units == 0;
+	row_ways[NO_UNIT_BEFORE_1] += absent && shared_is_wrong();
 	if (o->answer == TS11_DONE && o->stepped && way != NO_UNIT_TO_MOUNT && one_in(8))
 		row_ways[STEP_BESIDE_WRONG] += beside_wrong(number);
 }
@@ -1735,37 +1744,6 @@ static size_t close_length(void)
 	return (objects < 2 ? 0 : objects - 2) * TS11_PLACE_BYTES + below(5 * TS11_PLACE_BYTES);
 }
 
-/* A call with lengths that are not all those of the buffers; a step back may be handed a wrong one of any unit. */
-static void with_wrong_lengths(void)
-{
-	size_t unit = one_in(2) ? turn : below(UNITS);
-	if (one_in(2))
-		handed.memory = wrong_length(held.memory, TS11_MEMORY_MAX + SLACK);
-	if (one_in(2))
-		handed.reel[unit] = wrong_length(held.reel[unit], TS11_REEL_BLOCKS_MAX * TS11_BLOCK + SLACK);
-	if (one_in(2))
-		handed.journal = wrong_length(held.journal, TS11_JOURNAL_MAX + SLACK);
-	if (one_in(4))
-		handed.table[unit] = wrong_length(held.table[unit], TABLE_ROOM);
-	if (one_in(3))
-		try_back();
-	else
-		any_call();
-	handed = held;
-}
-
-/* A step back that is handed one reel or table of another length, of any unit. */
-static void back_with_wrong_length(void)
-{
-	size_t unit = below(UNITS);
-	if (one_in(2))
-		handed.reel[unit] = wrong_length(held.reel[unit], TS11_REEL_BLOCKS_MAX * TS11_BLOCK + SLACK);
-	else
-		handed.table[unit] = below(held.table[unit] + 1);
-	try_back();
-	handed = held;
-}
-
 /* A call over a row of another length, or of a number that is no unit's. */
 static void with_wrong_row(void)
 {
@@ -1779,6 +1757,44 @@ static void with_wrong_row(void)
 		any_call();
 	handed = held;
 	number = turn;
+}
+
+/* What is wrong by now may meet any call, also one of no unit, which is refused for that first. */
+static void call_anything(void)
+{
+	switch (below(6)) {
+	case 0: with_wrong_row(); break;
+	case 1: case 2: try_back(); break;
+	default: any_call(); break;
+	}
+}
+
+/* A call with lengths that are not all those of the buffers; a step back may be handed a wrong one of any unit. */
+static void with_wrong_lengths(void)
+{
+	size_t unit = one_in(2) ? turn : below(UNITS);
+	if (one_in(2))
+		handed.memory = wrong_length(held.memory, TS11_MEMORY_MAX + SLACK);
+	if (one_in(2))
+		handed.reel[unit] = wrong_length(held.reel[unit], TS11_REEL_BLOCKS_MAX * TS11_BLOCK + SLACK);
+	if (one_in(2))
+		handed.journal = wrong_length(held.journal, TS11_JOURNAL_MAX + SLACK);
+	if (one_in(4))
+		handed.table[unit] = wrong_length(held.table[unit], TABLE_ROOM);
+	call_anything();
+	handed = held;
+}
+
+/* A step back that is handed one reel or table of another length, of any unit. */
+static void back_with_wrong_length(void)
+{
+	size_t unit = below(UNITS);
+	if (one_in(2))
+		handed.reel[unit] = wrong_length(held.reel[unit], TS11_REEL_BLOCKS_MAX * TS11_BLOCK + SLACK);
+	else
+		handed.table[unit] = below(held.table[unit] + 1);
+	try_back();
+	handed = held;
 }
 
 /* A number of one record made up, or all of them, or none left: never mounted. */
@@ -1803,10 +1819,7 @@ static void with_spoiled_state(void)
 	case 1: spoil_record(below(ROW_MOST)); break;
 	default: spoil_record(turn); break;
 	}
-	if (one_in(3))
-		try_back();
-	else
-		any_call();
+	call_anything();
 }
 
 /* Would all further calls of the unit be refused, that was mounted before? */
