@@ -6,9 +6,9 @@
  * Each round makes up a row of 0 to 5 records, buffers, reels and states, and then makes some 150 calls on both, of all
  * units in turn. After each call answer, out-parameters, all records, shared numbers, memory, every reel, every table and
  * the used journal must be the same, byte for byte; what a call has no business with, and all of it where the call was
- * refused, must be as it was before; and where nothing was made up since a unit's mount, its table is the one that is
- * worked out afresh. Now and then the steps of all units are stepped back over, and everything must be as it was before
- * the first. The first difference is told, with exit status 1; so is a run in which some refusal, class, command or status
+ * refused, must be as it was before (memory, reels and journal where they are small); and where nothing was made up since
+ * a unit's mount, its table is the one that is worked out afresh. Now and then the steps of all units are stepped back
+ * over, and everything must be as it was before the first. The first difference is told, with exit status 1; so is a run in which some refusal, class, command or status
  * bit never occurred, or some fault in a mount, forward or in reverse, or one of the ways in which a packet ends past
  * memory, a long record is moved, the table matters or the row does (some 2,000 rounds have them all). The same seed makes
  * the same calls.
@@ -22,7 +22,7 @@
 #include <stdlib.h>
 #include <string.h>
 
-#define ROUNDS 8000
+#define ROUNDS 6000
 #define SEED 11
 #define SLACK 4096     /* bytes behind each buffer, which are compared too; wrong lengths reach into them */
 #define TABLE_ROOM ((size_t)TS11_REEL_BLOCKS_MAX * TS11_PLACE_BYTES + SLACK)
@@ -223,7 +223,7 @@ enum row_way {
 
 static uint64_t seed;
 static size_t round_number, round_calls;
-static size_t calls_made, idles, undone;
+static size_t calls_made, calls_whole, idles, undone;
 static size_t answers[TS11_NO_UNIT + 1], classes[TS11_CLASS_LOST + 1], carried_out[COMMANDS];
 static unsigned xst0_seen, xst3_seen;
 static size_t overhung[OVERHANG_WAYS], long_given[LONG_WAYS], table_ways[TABLE_WAYS], row_ways[ROW_WAYS], worked_out;
@@ -531,6 +531,7 @@ static struct out alike(const char *call, const struct out o[2], size_t unit)
 	else
 		alike_touched(call, before.shared.numbers[TS11_SHARED_USED]);
 	expect_kept(call, stepped, unit);
+	calls_whole += before.whole;
 	if (o[0].answer > TS11_NO_UNIT)
 		differ(call, "answer %zu", o[0].answer);
 	if (stepped && unit < UNITS && in_session[unit])
@@ -988,9 +989,12 @@ static void give_words(size_t at, const uint16_t *words, size_t n)
 }
 
 static bool long_round; /* memory holds the longest record; reel and journal have room for it, or a little less */
+static bool small_round; /* all buffers are small */
 
 static size_t pick_memory(void)
 {
+	if (small_round)
+		return 64 + 2 * below(one_in(4) ? 4096 : 225);
 	if (long_round)
 		return one_in(3) ? TS11_MEMORY_MAX : TS11_RECORD_MAX + 1 + 2 * below(4000);
 	switch (below(12)) {
@@ -1004,6 +1008,8 @@ static size_t pick_memory(void)
 
 static size_t pick_blocks(void)
 {
+	if (small_round)
+		return 1 + below(20);
 	if (one_in(100))
 		return TS11_REEL_BLOCKS_MAX;
 	switch (below(long_round ? 4 : 6)) {
@@ -1016,6 +1022,8 @@ static size_t pick_blocks(void)
 
 static size_t pick_journal(void)
 {
+	if (small_round)
+		return below(one_in(4) ? 4096 : 20000);
 	if (one_in(100))
 		return TS11_JOURNAL_MAX - below(2) * below(1000);
 	if (long_round)
@@ -2018,6 +2026,7 @@ static void run_round(void)
 {
 	ts11_unit fifth;
 	long_round = one_in(LONG_ROUNDS);
+	small_round = !long_round && one_in(2);
 	held.units = handed.units = one_in(3) ? below(ROW_MOST + 1) : UNITS;
 	held.memory = handed.memory = pick_memory();
 	held.journal = handed.journal = pick_journal();
@@ -2130,8 +2139,8 @@ int main(int argc, char **argv)
 		run_round();
 	if (anything_missed())
 		return 1;
-	printf("compare: %zu calls, both alike (%zu steps back, %zu idle; refusals 1 to 9, 11 and 12:", calls_made, undone,
-	       idles);
+	printf("compare: %zu calls, both alike (%zu of them with all that was before, %zu steps back, %zu idle; refusals 1 to 9, 11 and 12:", calls_made,
+	       calls_whole, undone, idles);
 	for (size_t i = TS11_BAD_STATE; i <= TS11_NO_UNIT; i++)
 		if (i != 10)
 			printf(" %zu", answers[i]);
