@@ -79,8 +79,8 @@ static ts11_answer no_store(UNUSED ts11_shared *s, MEMORY, JOURNAL, UNUSED size_
 
 static bool no_step = true; /* what an advance that does nothing tells */
 
-static ts11_answer no_advance(ROW, MEMORY, REEL, TABLE, JOURNAL, bool *stepped, UNUSED bool *interrupt, UNUSED size_t *k,
-                              UNUSED uint8_t *f)
+static ts11_answer no_advance(ROW, MEMORY, REEL, TABLE, JOURNAL, bool *stepped, UNUSED bool *interrupt,
+                              UNUSED size_t *k, UNUSED uint8_t *f)
 {
 	*stepped = no_step;
 	return TS11_DONE;
@@ -730,8 +730,8 @@ static void back_in(const char *name, const shape *of, size_t memory, size_t jou
 }
 
 /*
- * The same step back at three sizes of the unit's buffers, and with those of the others at full size: its time is that of
- * the bytes it brings back, not theirs. And in rows of one and of four: the other records are looked at.
+ * The same step back at three sizes of the unit's buffers, and with those of the others at full size: its time is that
+ * of the bytes it brings back, not theirs. And in rows of one and of four: the other records are looked at.
  */
 static void bench_back(void)
 {

@@ -1,9 +1,9 @@
 /*
  * plain.c: the row of tape units of ts11.h in ordinary C, see plain.h.
  *
- * From the bottom up: words and runs of bytes, blocks of the reel, motion over the reel, the table of its objects, a
- * unit's record and the shared numbers, the journal, how commands end, the commands, the steps of an advance, the calls.
- * An advance is planned first, and nothing is stored before the last refusal is past.
+ * From the bottom up: words and runs of bytes, blocks of the reel, motion over the reel, the table of its objects, the
+ * record and the shared numbers, the journal, how commands end, the commands, the steps of an advance, the calls. An
+ * advance is planned first, and nothing is stored before the last refusal is past.
  */
 #include "plain.h"
 
@@ -355,8 +355,8 @@ static void fill_table(uint8_t *table, const uint8_t *reel, uint32_t objects)
 /* ---- a unit's record, and what the units share ------------------------------------------------------------------- */
 
 /*
- * The numbers that a journal entry's head begins with. A record has those before the lengths at the same places. The flags
- * among them are 0 or 1.
+ * The numbers that a journal entry's head begins with. A record has those before the lengths at the same places. The
+ * flags among them are 0 or 1.
  */
 struct unit {
 	uint32_t position, end;
@@ -507,10 +507,10 @@ static void close_session(const struct session *s, ts11_unit *row)
 
 /*
  * An entry is its length in four bytes, the old data bytes, the old message bytes, the old blocks and the old places of a
- * step, and then this head: the unit before the step, where those bytes came from, and the unit's number. Of what a step
- * does not store, place and length are 0, and SWB is; but a Read that passes its record names its place and SWB even where
- * its count is 0. The places are the last ones of the table that the step leaves. Of a host store, which is no unit's, the
- * head has the memory's length, the place of the data, and NO_UNIT; all else is 0.
+ * step, and then this head: the unit before the step, where those bytes came from, and the unit's number. Of what a
+ * step does not store, place and length are 0, and SWB is; but a Read that passes its record names its place and SWB
+ * even where its count is 0. The places are the last ones of the table that the step leaves. Of a host store, which is
+ * no unit's, the head has the memory's length, the place of the data, and NO_UNIT; all else is 0.
  */
 struct entry {
 	struct unit unit;
@@ -547,7 +547,7 @@ static uint8_t *take_room(ts11_shared *shared, uint8_t *journal, size_t length)
 	return put_length(journal + used, length);
 }
 
-/* Adds an entry of a unit with the bytes that stand at its places, those of the table from `places` on, or answers 9. */
+/* Adds a unit's entry with the bytes that stand at its places, those of the table from `places` on, or answers 9. */
 static ts11_answer add_entry(ts11_shared *shared, uint8_t *journal, const struct entry *e, const uint8_t *memory,
                              const uint8_t *reel, const uint8_t *places)
 {
@@ -598,8 +598,8 @@ static bool run_fits(uint32_t at, uint32_t n, uint32_t limit)
 }
 
 /*
- * Refusal 8, of an entry's numbers beside the lengths, places and used journal that it must fit: a made-up entry may say
- * anything. That of a host store must fit as if no unit had a block or an object; there is no state in it.
+ * Refusal 8, of an entry's numbers beside the lengths, places and used journal that it must fit: a made-up entry may
+ * say anything. That of a host store must fit as if no unit had a block or an object; there is no state in it.
  */
 static bool entry_wrong(const struct entry *e, const struct unit *u, uint32_t objects, uint32_t used)
 {

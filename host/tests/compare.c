@@ -3,15 +3,15 @@
  *
  *   compare [rounds [seed]]
  *
- * Each round makes up a row of 0 to 5 records, buffers, reels and states, and then makes some 150 calls on both, of all
- * units in turn. After each call answer, out-parameters, all records, shared numbers, memory, every reel, every table and
- * the used journal must be the same, byte for byte; what a call has no business with, and all of it where the call was
- * refused, must be as it was before (memory, reels and journal where they are small); and where nothing was made up since
- * a unit's mount, its table is the one that is worked out afresh. Now and then the steps of all units are stepped back
- * over, and everything must be as it was before the first. The first difference is told, with exit status 1; so is a run in which some refusal, class, command or status
- * bit never occurred, or some fault in a mount, forward or in reverse, or one of the ways in which a packet ends past
- * memory, a long record is moved, the table matters or the row does (some 2,000 rounds have them all). The same seed makes
- * the same calls.
+ * Each round makes up a row of 0 to 5 records, buffers, reels and states, and then makes some 180 calls on both, of all
+ * units in turn. After each call answer, out-parameters, all records, shared numbers, memory, every reel, every table
+ * and the used journal must be the same, byte for byte; what a call has no business with, and all of it where the call
+ * was refused, must be as it was before (memory, reels and journal where they are small); and where nothing was made up
+ * since a unit's mount, its table is the one that is worked out afresh. Now and then the steps of all units are stepped
+ * back over, and everything must be as it was before the first. The first difference is told, with exit status 1; so is
+ * a run in which some refusal, class, command or status bit never occurred, or some fault in a mount, forward or in
+ * reverse, or one of the ways in which a packet ends past memory, a long record is moved, the table matters or the row
+ * does (some 2,000 rounds have them all). The same seed makes the same calls.
  */
 #include "objects.h"
 #include "plain.h"
@@ -352,11 +352,11 @@ static uint32_t newest_unit(void)
 }
 
 /* The entry that was added or removed, if any, and the places that it names; a byte more for the flipped address. */
-static void alike_touched(const char *call, uint32_t before)
+static void alike_touched(const char *call, uint32_t was_used)
 {
-	uint32_t after = shared_at(TS11_SHARED_USED);
-	size_t low = before < after ? before : after;
-	size_t high = before < after ? after : before;
+	uint32_t used = shared_at(TS11_SHARED_USED);
+	size_t low = was_used < used ? was_used : used;
+	size_t high = was_used < used ? used : was_used;
 	if (high > held.journal || high - low < TS11_ENTRY_HEAD)
 		return;
 	alike_journal(call, low, high - low);
@@ -462,7 +462,7 @@ static void expect_whole(const char *call, const struct shot *shot, bool with_me
 static void expect_kept(const char *call, bool stepped, size_t unit)
 {
 	const struct world *w = &worlds[0];
-	size_t but = stepped ? unit : SIZE_MAX;
+	size_t but = stepped && unit < UNITS ? unit : SIZE_MAX;
 	for (size_t k = 0; k < ROW_MOST; k++)
 		if (k != but && memcmp(&before.row[k], &w->row[k], sizeof w->row[k]) != 0)
 			differ(call, "record %zu changed", k);
@@ -516,7 +516,7 @@ static void expect_afresh(const char *call, size_t unit)
 	worked_out++;
 }
 
-/* After a call of both: all alike, and what the call has no business with as it was. Only that unit may have changed. */
+/* After a call of both: all alike, and what the call has no business with as it was. Only that unit may change. */
 static struct out alike(const char *call, const struct out o[2], size_t unit)
 {
 	bool stepped = o[0].answer == TS11_DONE && o[0].stepped;
@@ -585,8 +585,9 @@ static bool is_wrong(size_t unit)
 /* Would every call be refused with 1? */
 static bool shared_is_wrong(void)
 {
-	ts11_shared shared = worlds[1].shared;
-	return plain_host_store(&shared, worlds[1].memory, 0, worlds[1].journal, 0, 0, worlds[1].memory, 0) == TS11_BAD_STATE;
+	struct world *w = &worlds[1];
+	ts11_shared shared = w->shared;
+	return plain_host_store(&shared, w->memory, 0, w->journal, 0, 0, w->memory, 0) == TS11_BAD_STATE;
 }
 
 /* A unit of the row but this one is mounted, and would be refused. */
@@ -1571,7 +1572,8 @@ static uint32_t class_of_long(const struct long_way *w, size_t at)
 		return TS11_CLASS_NORMAL;
 	if (w->place == A_BLOCK_SHORT)
 		return TS11_CLASS_REJECT;
-	return at + blocks_needed(w) + TS11_EOT_MARGIN >= held.reel[turn] / TS11_BLOCK ? TS11_CLASS_STATUS : TS11_CLASS_NORMAL;
+	bool eot = at + blocks_needed(w) + TS11_EOT_MARGIN >= held.reel[turn] / TS11_BLOCK;
+	return eot ? TS11_CLASS_STATUS : TS11_CLASS_NORMAL;
 }
 
 /* How it ended. What has no room on the reel finds EOT set (step 11). */
@@ -1593,8 +1595,8 @@ static void expect_long_end(const struct long_way *w, size_t at, const struct ou
 }
 
 /*
- * Each way in its turn; one that the buffers have no room for comes again. The round goes on with the record as it stood,
- * over what was laid and stored.
+ * Each way in its turn; one that the buffers have no room for comes again. The round goes on with the record as it
+ * stood, over what was laid and stored.
  */
 static void give_long(void)
 {
@@ -1684,15 +1686,14 @@ static void mount(void)
 static void remount(void)
 {
 	struct lengths kept = held;
-	size_t end = in_session[turn] ? state_at(TS11_AT_END) : pick_end();
+	size_t blocks = held.reel[turn] / TS11_BLOCK, end = in_session[turn] ? state_at(TS11_AT_END) : pick_end();
 	if (one_in(3)) {
 		held.memory = one_in(2) ? 2 + 2 * below(held.memory / 2) : held.memory;
 		held.journal = one_in(2) ? below(held.journal + 1) : held.journal;
 	}
 	handed.memory = held.memory;
 	handed.journal = held.journal;
-	if (try_mount(end < held.reel[turn] / TS11_BLOCK ? end : held.reel[turn] / TS11_BLOCK, !one_in(6), one_in(6)).answer ==
-	    TS11_DONE)
+	if (try_mount(end < blocks ? end : blocks, !one_in(6), one_in(6)).answer == TS11_DONE)
 		return;
 	handed.memory = held.memory = kept.memory;
 	handed.journal = held.journal = kept.journal;
@@ -2139,8 +2140,9 @@ int main(int argc, char **argv)
 		run_round();
 	if (anything_missed())
 		return 1;
-	printf("compare: %zu calls, both alike (%zu of them with all that was before, %zu steps back, %zu idle; refusals 1 to 9, 11 and 12:", calls_made,
+	printf("compare: %zu calls, both alike (%zu of them with all that was before, %zu steps back, %zu idle; ", calls_made,
 	       calls_whole, undone, idles);
+	printf("refusals 1 to 9, 11 and 12:");
 	for (size_t i = TS11_BAD_STATE; i <= TS11_NO_UNIT; i++)
 		if (i != 10)
 			printf(" %zu", answers[i]);
