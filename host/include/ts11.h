@@ -252,9 +252,10 @@ ts11_answer ts11_host_store(ts11_shared *shared, uint8_t *memory, size_t memory_
 /*
  * A unit goes on by one move: it carries out the command that waits, whole. Or, where an attention is pending and
  * the unit owns the message buffer (since a release, or by the ACK of the command that waits), it sends that
- * instead, and a command that waits is lost, its CVC too; its IE holds. *stepped is false if there was nothing to do (idle; answer 0, nothing
- * changed), *interrupt true if the unit interrupts the CPU. Refusals 12, 1 to 4, 7 with *block and *fault, 11, 9; refused,
- * *stepped and *interrupt are false. *block and *fault are 0 unless the answer is 7. A step, if *stepped.
+ * instead, and a command that waits is lost: its IE counts, its CVC does not. *stepped is false if there was nothing to
+ * do (idle; answer 0, nothing changed), *interrupt true if the unit interrupts the CPU. Refusals 12, 1 to 4, 7 with
+ * *block and *fault, 11, 9; refused, *stepped and *interrupt are false. *block and *fault are 0 unless the answer is 7.
+ * A step, if *stepped.
  *
  * A write cuts the table off where the first block is no longer below its own, and fills a place there for what it has
  * written, a retry two: one for its gap. The entry has eight bytes for each.
@@ -300,8 +301,8 @@ typedef struct ts11_transport {
 
 /*
  * The coupler with its units. Set it to zeros, then units, the buffers of each unit below that, memory and journal; then
- * mount each unit. The buffers of units that are not there are not looked at, and may be null; a unit that has no reel yet
- * is lent buffers of length 0, at any address but null.
+ * mount each unit. The buffers of units that are not there are not looked at, and may be null; a unit that has no reel
+ * yet is lent buffers of length 0, at any address but null.
  */
 typedef struct ts11_machine {
 	ts11_unit row[TS11_UNITS_MAX];
@@ -509,8 +510,8 @@ static inline ts11_answer ts11_machine_find_block(const ts11_machine *machine, s
 
 /*
  * The residual is what is left of the count: bytes for Read, records or marks for Space and Skip. One of these that is
- * rejected by ILA, by NXM of its data or by NEF leaves the whole count, one rejected before leaves 0. For all else, Write
- * too, it is 0.
+ * rejected by ILA, by NXM of its data or by NEF leaves the whole count, one rejected before leaves 0. For all else,
+ * Write too, it is 0.
  */
 #define TS11_MESSAGE_HEADER 0   /* offset of the header: one of the TS11_END_.. words */
 #define TS11_MESSAGE_LENGTH 2   /* the word 10 */
