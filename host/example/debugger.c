@@ -2,9 +2,9 @@
  * A small host: what a debugger does with the library, over a coupler with four transports.
  *
  * A reel is recorded, and a copy of it comes to harm. Then four reels are mounted: the recorded one on unit 0, what is whole of the other on
- * unit 2, empty ones on units 1 and 3. The driver copies unit 0 to unit 1, record by record; unit 2 spaces forward and is told to rewind; the
- * operator takes unit 3 off line, and that sends an attention. At the end the user goes back over all of it, and at each stop every unit is
- * what it was.
+ * unit 2, empty ones on units 1 and 3. The driver copies unit 0 to unit 1, record by record; unit 2 spaces forward, writes a mark and is told to
+ * rewind; unit 3 writes a record, and the operator takes it off line, which sends an attention. At the end the user goes back over all of it, and
+ * at each stop every unit is what it was.
  *
  * The functions that a host needs are ts11_machine_..; main, at the end, has the whole story.
  */
@@ -353,11 +353,14 @@ static void start_drivers(void)
 		give_message_buffer(unit, unit == 3 ? TS11_EAI : 0);
 }
 
-/* All four units at work: unit 2 rewinds only when it is advanced, and the copy doesn't wait for it. */
+/* All four units at work. What is left of unit 2's reel gets a second mark at its end; the rewind then waits, and the copy goes on meanwhile. */
 static void work(void)
 {
 	command(2, TS11_SPACE_RECORDS, 2, 0);
+	command(2, TS11_SKIP_MARKS, 1, 0);
+	command(2, TS11_WRITE_MARK, 0, 0);
 	give(2, TS11_REWIND, 0, 0);
+	command(3, TS11_WRITE, DATA, 80);
 	command(3, TS11_RELEASE | TS11_IE, 0, 0); /* the unit keeps the message buffer, and so can send an attention */
 	copy(0, 1);
 	must("switch", ts11_machine_operate(&machine, 3, TS11_SWITCH_ONLINE, false));

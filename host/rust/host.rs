@@ -131,7 +131,7 @@ fn mount_both(m: &mut Two) {
 fn main() {
     let (mut memory, mut journal) = (vec![0; 8192], vec![0; 65536]);
     let (mut reel_0, mut table_0) = (vec![0; 256 * 512], vec![0; 256 * 8]);
-    let (mut reel_1, mut table_1) = (vec![0; 256 * 512], vec![0; 256 * 8]);
+    let (mut reel_1, mut table_1) = (vec![0; 300 * 512], vec![0; 300 * 8]);
     let transports = [
         Transport { reel: &mut reel_0, table: &mut table_0 },
         Transport { reel: &mut reel_1, table: &mut table_1 },
@@ -163,6 +163,7 @@ fn main() {
     command(m, 1, WRITE, BACK + 1, 9);
     assert!(m.transports[0].reel[..512] == m.transports[1].reel[..512]);
     assert_eq!((m.row[0], m.row[0].numbers[AT_POSITION], m.row[1].numbers[AT_POSITION]), (unit_0, 0, 1));
+    expect_found(m, 1);
     m.operate(1, Switch::WriteLock, true).unwrap();
     m.operate(0, Switch::Online, false).unwrap();
     assert_eq!(m.row.map(|u| (u.numbers[AT_ONLINE], u.numbers[AT_LOCKED])), [(0, 0), (1, 1)]);
