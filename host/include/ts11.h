@@ -93,8 +93,9 @@ typedef size_t ts11_answer;
  *    *fault. A command goes on waiting: mend the reel, and advance again.
  * 8: .. or it names a unit that is not in the row, or not mounted.
  * 11: the table has fewer places (its length / 8, rounded down, and no more than 2^32 - 1) than there are objects, in
- *     the record handed in or in the one that the call would leave. Every mount, step and step back of a unit asks it, after
- *     8 and before 9, and the look-ups do; an idle advance does not, nor what belongs to no unit. As many places as the reel has blocks are always enough.
+ *     the record handed in or in the one that the call would leave. Every mount, step and step back of a unit asks it,
+ *     after 8 and before 9, and the look-ups do; an idle advance does not, nor what belongs to no unit. As many places as
+ *     the reel has blocks are always enough.
  */
 #define TS11_DONE 0
 #define TS11_BAD_STATE 1    /* the record or the shared numbers: see above */
@@ -251,9 +252,10 @@ ts11_answer ts11_host_store(ts11_shared *shared, uint8_t *memory, size_t memory_
 /*
  * A unit goes on by one move: it carries out the command that waits, whole. Or, where an attention is pending and
  * the unit owns the message buffer (since a release, or by the ACK of the command that waits), it sends that
- * instead, and a command that waits is lost. *stepped is false if there was nothing to do (idle; answer 0, nothing
- * changed), *interrupt true if the unit interrupts the CPU. Refusals 12, 1 to 4, 7 with *block and *fault, 11, 9; refused,
- * *stepped and *interrupt are false. *block and *fault are 0 unless the answer is 7. A step, if *stepped.
+ * instead, and a command that waits is lost: its IE counts, its CVC does not. *stepped is false if there was nothing to
+ * do (idle; answer 0, nothing changed), *interrupt true if the unit interrupts the CPU. Refusals 12, 1 to 4, 7 with
+ * *block and *fault, 11, 9; refused, *stepped and *interrupt are false. *block and *fault are 0 unless the answer is 7.
+ * A step, if *stepped.
  *
  * A write cuts the table off where the first block is no longer below its own, and fills a place there for what it has
  * written, a retry two: one for its gap. The entry has eight bytes for each.
@@ -299,7 +301,8 @@ typedef struct ts11_transport {
 
 /*
  * The coupler with its units. Set it to zeros, then units, the buffers of each unit below that, memory and journal; then
- * mount each unit. The buffers of units that are not there are not looked at, and may be null.
+ * mount each unit. The buffers of units that are not there are not looked at, and may be null; a unit that has no reel
+ * yet is lent buffers of length 0, at any address but null.
  */
 typedef struct ts11_machine {
 	ts11_unit row[TS11_UNITS_MAX];
@@ -320,7 +323,7 @@ typedef struct ts11_told {
 	uint8_t fault;
 } ts11_told;
 
-/* Buffers that no call looks at. */
+/* A unit's buffers; of a unit that is not there, some that no call looks at. */
 static inline ts11_transport ts11_machine_transport(const ts11_machine *machine, size_t unit)
 {
 	static uint8_t none;
@@ -451,7 +454,7 @@ static inline ts11_answer ts11_machine_find_block(const ts11_machine *machine, s
 
 /*
  * Word 0 is the header. Then for Read, Write and Write Characteristics: pointer low, pointer high (A17 and A16), byte
- * count; for Space and Skip: the count. A word that the command has no use for may hold anything, but all four are
+ * count; for Space and Skip word 1 is the count. A word that the command has no use for may hold anything, but all four are
  * fetched: where one of the eight bytes lies outside memory, any command that has got so far (known, not dropped, not lost
  * to an attention, and with a message buffer or giving one) ends with NXM, class 5, and is not carried out. Data that by the
  * whole count would end outside memory is NXM too.
@@ -506,8 +509,9 @@ static inline ts11_answer ts11_machine_find_block(const ts11_machine *machine, s
 /* ---- the message packet: seven words in the message buffer --------------------------------------------------- */
 
 /*
- * The residual is what is left of the count: bytes for Read, records or marks for Space and Skip, 0 for all else. A
- * command rejected by ILA, by NXM of its data or by NEF leaves the whole count, one rejected before leaves 0.
+ * The residual is what is left of the count: bytes for Read, records or marks for Space and Skip. One of these that is
+ * rejected by ILA, by NXM of its data or by NEF leaves the whole count, one rejected before leaves 0. For all else,
+ * Write too, it is 0.
  */
 #define TS11_MESSAGE_HEADER 0   /* offset of the header: one of the TS11_END_.. words */
 #define TS11_MESSAGE_LENGTH 2   /* the word 10 */
