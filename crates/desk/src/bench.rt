@@ -19,7 +19,7 @@ use worlds::session_over;
 use worlds::transport_of;
 ghost use mathlib.Core.Path.{_≡_};
 ghost use Prim.Native.Nat.{_<_};
-ghost use Rattle.desk.specs.Benches.{beyondBuffers, cursorAt, freshAt, handedAt, nextLine, noCoupler, noStation, putBack, putTurn, sizesAt, stationOf, toldAt, viewOf, withCoupler};
+ghost use Rattle.desk.specs.Benches.{beyondBuffers, cursorAt, freshAt, handedAt, nextLine, noCoupler, noStation, putBack, putTurn, sizesAt, stationOf, toldAt, viewOf, withCoupler, withSession};
 
 // There are buffers for so many units, and so much of them is each unit's: the part of unit u starts at u times that.
 pub const STATIONS: usize = 5;
@@ -186,6 +186,16 @@ pub fn put_back(b: Bench, u: usize, d: Desk) -> Bench
     e
 }
 
+// The session that unit u's call left is kept.
+pub fn with_session(b: Bench, u: usize, s: Session) -> Bench
+    requires { ⌜ u < 5 ⌝ }
+    ensures { λ r. ⌜ r ≡ withSession b u s ⌝ }
+{
+    let mut d = view(b, u);
+    d.session = s;
+    put_back(b, u, d)
+}
+
 // The block that unit u's next object is laid at.
 pub fn cursor_at(b: Bench, u: usize) -> usize
     ensures { λ r. ⌜ r ≡ cursorAt b u ⌝ }
@@ -216,17 +226,23 @@ pub fn with_coupler(b: Bench, coupler: Coupler) -> Bench
     e
 }
 
-// A call's line of unit u, which tells so much: with the fields of a unit that is present.
+// What a call's line prints for unit u, after this answer: its fields, if it is present.
 pub fn told_at(b: Bench, u: usize, answer: Answer, also: Also) -> Round
     ensures { λ r. ⌜ r ≡ toldAt b u answer also ⌝ }
 {
+    let c = b.coupler;
     if absent(b.units, u) {
-        let said = Said::Absent(answer, also);
+        let t = no_transport();
+        let session = session_over(t, c);
+        let said = Said::Absent(Told {
+            answer,
+            also,
+            session,
+        });
         return Round { bench: b, said };
     }
     let s = b.stations[u];
     let t = s.transport;
-    let c = b.coupler;
     let session = session_over(t, c);
     let said = Said::Result(Told {
         answer,

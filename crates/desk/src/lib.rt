@@ -20,11 +20,10 @@ pub use bench::refused;
 pub use bench::told_at;
 pub use bench::view;
 pub use bench::with_coupler;
+pub use bench::with_session;
 pub use builds::build;
-use commands::Answer;
 pub use desk::Desk;
 pub use desk::trim;
-use results::Also;
 use results::Told;
 use script::Fault;
 pub use tables::tabled;
@@ -35,9 +34,11 @@ pub enum Said {
     // The line itself.
     Itself,
     Result(Told),
-    // A call's line, with no fields.
-    Absent(Answer, Also),
+    // The same of a unit that is not present.
+    Absent(Told),
     Wrong(Fault),
+    // A prefix stands before a line that takes none.
+    Misplaced,
 }
 
 // What a line of one unit came to.

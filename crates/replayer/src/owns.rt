@@ -1,0 +1,113 @@
+// A unit's own lines over all the buffers: it has its part of the reels and of the tables.
+use crate::asks::Task;
+use crate::hands::carry;
+use commands::Answer;
+use desk::Bench;
+use desk::REEL_ROOM;
+use desk::Round;
+use desk::STATIONS;
+use desk::TABLE_ROOM;
+use desk::build;
+use desk::put_turn;
+use desk::refused;
+use desk::tabled;
+use desk::told_at;
+use desk::view;
+use desk::with_session;
+use lines::Build;
+use lines::Table;
+use results::Also;
+use results::Told;
+use worlds::absent;
+
+// Unit k's task told: its session is kept, and unit u's fields are printed.
+pub fn tell(b: Bench, k: usize, t: Told, u: usize) -> Round {
+    let session = t.session;
+    let answer = t.answer;
+    let also = t.also;
+    told_at(with_session(b, k, session), u, answer, also)
+}
+
+// The task of unit k over its parts.
+pub fn carry_for(
+    b: Bench,
+    k: usize,
+    c: Task,
+    mem: &mut [u8],
+    reels: &mut [u8],
+    tables: &mut [u8],
+    jrnl: &mut [u8],
+) -> Told {
+    let r = REEL_ROOM * k;
+    let t = TABLE_ROOM * k;
+    let d = view(b, k);
+    carry(
+        d,
+        k,
+        c,
+        mem,
+        &mut reels[r..r + REEL_ROOM],
+        &mut tables[t..t + TABLE_ROOM],
+        jrnl,
+    )
+}
+
+// "Reading a register .. refusal 1 and word 0": of a unit not present 12 and word 0.
+fn lacking(c: Task) -> Also {
+    match c {
+        Task::Read(_) => Also::Word(0),
+        _ => Also::Nothing,
+    }
+}
+
+// A call of unit u: "12 for a unit not present, checked first".
+pub fn own(
+    b: Bench,
+    u: usize,
+    c: Task,
+    mem: &mut [u8],
+    reels: &mut [u8],
+    tables: &mut [u8],
+    jrnl: &mut [u8],
+) -> Round {
+    if absent(b.units, u) {
+        return told_at(b, u, Answer::Refused(12), lacking(c));
+    }
+    let t = carry_for(b, u, c, mem, reels, tables, jrnl);
+    tell(b, u, t, u)
+}
+
+pub fn build_for(
+    b: Bench,
+    u: usize,
+    k: Build,
+    data: &[u8],
+    n: usize,
+    mem: &mut [u8],
+    reels: &mut [u8],
+) -> Round {
+    if STATIONS <= u {
+        return refused(b);
+    }
+    let r = REEL_ROOM * u;
+    let d = view(b, u);
+    let t = build(d, k, data, n, mem, &mut reels[r..r + REEL_ROOM]);
+    put_turn(b, u, t)
+}
+
+pub fn table_for(
+    b: Bench,
+    u: usize,
+    t: Table,
+    data: &[u8],
+    n: usize,
+    tables: &mut [u8],
+) -> Round {
+    if STATIONS <= u {
+        return refused(b);
+    }
+    let p = TABLE_ROOM * u;
+    let d = view(b, u);
+    let t = tabled(d, t, data, n, &mut tables[p..p + TABLE_ROOM]);
+    put_turn(b, u, t)
+}
