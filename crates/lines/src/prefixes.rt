@@ -1,7 +1,6 @@
 // The unit that a line is for: `u` and one digit before the line proper.
 use crate::Prefix;
 use crate::texts::has_word;
-use lists::wide;
 use script::find_word;
 use script::nth;
 ghost use mathlib.Core.Path.{_≡_};
@@ -10,7 +9,7 @@ ghost use lib.ListN.{length};
 ghost use Rattle.script.specs.Words.{wordEnd, wordStart};
 ghost use Rattle.lines.specs.Prefixes.{prefixOf, takesUnit, unitIn};
 
-// The unit that word 0 names, or 10 where it names none.
+// The unit that word 0 names; more than 9 where it names none.
 fn unit_in(text: &[u8]) -> usize
     ensures { λ r. ⌜ r ≡ unitIn (now (text .entry)) ⌝ }
 {
