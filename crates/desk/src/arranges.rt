@@ -23,7 +23,7 @@ ghost use Prim.Native.Nat.{_<_};
 ghost use Rattle.script.specs.Fills.{wiped};
 ghost use Rattle.desk.specs.Desks.{roomOf};
 ghost use Rattle.desk.specs.Benches.{still};
-ghost use Rattle.desk.specs.Arranges.{Span, arrangedFor, arranged, clearedBy, cutTo, noSpan, ownSpan, reeled, resized, resizedSpan, reelSpan, setTo, startedCase, uncutOf, unitRoom, unmounted, withUnits, wholeSpan};
+ghost use Rattle.desk.specs.Arranges.{arranged, arrangedFor, clearedBy, cutTo, noSpan, reelSpan, reeled, resized, resizedSpan, setTo, startedCase, stationSized, uncutOf, unitRoom, unmounted, wholeSpan, withUnits};
 
 // Places from which and to which the buffers go back to zero.
 pub struct Span {
@@ -57,7 +57,9 @@ fn start_case(b: Bench) -> Round
 }
 
 // A station with its record, a reel and a table of other sizes.
-fn resized_station(s: Station, reel: usize, table: usize) -> Station {
+fn resized_station(s: Station, reel: usize, table: usize) -> Station
+    ensures { λ r. ⌜ r ≡ stationSized s reel table ⌝ }
+{
     let mut e = s;
     e.reel = reel;
     e.table = table;
@@ -84,9 +86,12 @@ fn resize(b: Bench, s: Sizes, room: Sizes) -> Round
     unsaid(e)
 }
 
-fn unmounted_station(s: Station) -> Station {
+fn unmounted_station(s: Station) -> Station
+    ensures { λ r. ⌜ r ≡ unmounted s ⌝ }
+{
+    let transport = no_transport();
     let mut e = s;
-    e.transport = no_transport();
+    e.transport = transport;
     e
 }
 
@@ -206,7 +211,10 @@ fn resized_span(s: Sizes, room: Sizes) -> Span
 fn reel_span(b: Bench, u: usize, n: usize) -> Span
     ensures { λ r. ⌜ r ≡ reelSpan b u n ⌝ }
 {
-    if (STATIONS <= u) | (REEL_ROOM < n) {
+    if STATIONS <= u {
+        return no_span();
+    }
+    if REEL_ROOM < n {
         return no_span();
     }
     let s = b.stations[u];
@@ -249,7 +257,10 @@ pub fn arrange(
     jrnl: &mut [u8],
 ) -> Round
     ensures round { λ r. ⌜ r ≡ arranged b u a (roomOf (now (mem .entry)) (now (reels .entry)) (now (tables .entry)) (now (jrnl .entry))) ⌝ }
-    ensures memory { λ _. ⌜ now (mem .exit) ≡ clearedIn Sizes.memory (clearedBy b u a (roomOf (now (mem .entry)) (now (reels .entry)) (now (tables .entry)) (now (jrnl .entry)))) (now (mem .entry)) ⌝ }
+    ensures memory { λ _. ⌜ now (mem .exit) ≡ wiped (now (mem .entry)) (clearedBy b u a (roomOf (now (mem .entry)) (now (reels .entry)) (now (tables .entry)) (now (jrnl .entry))) .from .memory) (clearedBy b u a (roomOf (now (mem .entry)) (now (reels .entry)) (now (tables .entry)) (now (jrnl .entry))) .to .memory) ⌝ }
+    ensures reels { λ _. ⌜ now (reels .exit) ≡ wiped (now (reels .entry)) (clearedBy b u a (roomOf (now (mem .entry)) (now (reels .entry)) (now (tables .entry)) (now (jrnl .entry))) .from .reel) (clearedBy b u a (roomOf (now (mem .entry)) (now (reels .entry)) (now (tables .entry)) (now (jrnl .entry))) .to .reel) ⌝ }
+    ensures tables { λ _. ⌜ now (tables .exit) ≡ wiped (now (tables .entry)) (clearedBy b u a (roomOf (now (mem .entry)) (now (reels .entry)) (now (tables .entry)) (now (jrnl .entry))) .from .table) (clearedBy b u a (roomOf (now (mem .entry)) (now (reels .entry)) (now (tables .entry)) (now (jrnl .entry))) .to .table) ⌝ }
+    ensures journal { λ _. ⌜ now (jrnl .exit) ≡ wiped (now (jrnl .entry)) (clearedBy b u a (roomOf (now (mem .entry)) (now (reels .entry)) (now (tables .entry)) (now (jrnl .entry))) .from .journal) (clearedBy b u a (roomOf (now (mem .entry)) (now (reels .entry)) (now (tables .entry)) (now (jrnl .entry))) .to .journal) ⌝ }
 {
     let room = Sizes {
         memory: mem.len(),

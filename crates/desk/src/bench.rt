@@ -19,6 +19,7 @@ use worlds::session_over;
 use worlds::transport_of;
 ghost use mathlib.Core.Path.{_≡_};
 ghost use Prim.Native.Nat.{_<_};
+ghost use Rattle.lists.specs.Pick.{pick};
 ghost use Rattle.desk.specs.Benches.{beyondBuffers, cursorAt, freshAt, handedAt, nextLine, noCoupler, noStation, putBack, putTurn, sizesAt, stationOf, toldAt, viewOf, withCoupler, withSession};
 
 // There are buffers for so many units, and so much of them is each unit's: the part of unit u starts at u times that.
@@ -120,23 +121,26 @@ fn sizes_at(b: Bench, u: usize) -> Sizes
     }
 }
 
+fn either(c: bool, m: usize, n: usize) -> usize
+    ensures { λ r. ⌜ r ≡ pick c m n ⌝ }
+{
+    if c { m } else { n }
+}
+
 // The lengths that calls of unit u are handed: memory and journal are cut for every unit.
 pub fn handed_at(b: Bench, u: usize) -> Sizes
     requires { ⌜ u < 5 ⌝ }
     ensures { λ r. ⌜ r ≡ handedAt b u ⌝ }
 {
-    let mut h = sizes_at(b, u);
-    if b.cut {
-        h.memory = b.cuts.memory;
-        h.journal = b.cuts.journal;
-        if u == b.cut_unit {
-            h.reel = b.cuts.reel;
-            if b.table_cut {
-                h.table = b.cuts.table;
-            }
-        }
+    let s = sizes_at(b, u);
+    let cuts = b.cuts;
+    let own = b.cut & (u == b.cut_unit);
+    Sizes {
+        memory: either(b.cut, cuts.memory, s.memory),
+        reel: either(own, cuts.reel, s.reel),
+        table: either(own & b.table_cut, cuts.table, s.table),
+        journal: either(b.cut, cuts.journal, s.journal),
     }
-    h
 }
 
 // Unit u taken out with what it shares.

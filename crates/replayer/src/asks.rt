@@ -12,10 +12,10 @@ ghost use mathlib.Core.Path.{_≡_};
 ghost use lib.ListN.{length};
 ghost use Rattle.worlds.specs.Worlds.{Leaves, worldOf};
 ghost use Rattle.worlds.specs.Calls.{stepOn};
-ghost use Rattle.replayer.specs.Asks.{askOf, whoseOf, whoseAsk};
-ghost use Rattle.replayer.specs.Calls.{Fitting, callOn};
+ghost use Rattle.replayer.specs.Asks.{askOf, ownStep, whoseAsk, whoseOf};
+ghost use Rattle.replayer.specs.Calls.{Fitting, callOn, entered, ownEntered, ownOn};
 ghost use Rattle.replayer.specs.Journals.{JournalLeft};
-ghost use Rattle.replayer.specs.Tells.{readTold, stepTold, toldAs, toldOn};
+ghost use Rattle.replayer.specs.Tells.{ownTold, readTold, stepTold, toldAs, toldOn};
 
 // A step that is a unit's.
 pub enum Deed {
@@ -25,17 +25,22 @@ pub enum Deed {
     Advance,
 }
 
-// What is done for one unit: its calls, and its newest step undone.
-pub enum Task {
+// A call that is a unit's.
+pub enum Own {
     Mount(usize, bool, bool),
     Read(Register),
     Step(Deed),
-    Undo,
+}
+
+// What is done for one unit: a call of its own, or its newest step undone.
+pub enum Task {
+    Makes(Own),
+    Undoes,
 }
 
 // Whose a call is: a unit's own, or of none, a host store at a place or a step back.
 pub enum Whose {
-    Own(Task),
+    Unit(Own),
     Store(usize),
     Back,
 }
@@ -43,7 +48,7 @@ pub enum Whose {
 fn own_step(d: Deed) -> Whose
     ensures { λ r. ⌜ r ≡ ownStep d ⌝ }
 {
-    Whose::Own(Task::Step(d))
+    Whose::Unit(Own::Step(d))
 }
 
 fn whose_ask(a: Ask) -> Whose
@@ -62,9 +67,9 @@ pub fn whose(c: Call) -> Whose
     ensures { λ r. ⌜ r ≡ whoseOf c ⌝ }
 {
     match c {
-        Call::Mount(e, online, locked) => Whose::Own(Task::Mount(e, online, locked)),
-        Call::ReadTsba => Whose::Own(Task::Read(Register::Tsba)),
-        Call::ReadTssr => Whose::Own(Task::Read(Register::Tssr)),
+        Call::Mount(e, online, locked) => Whose::Unit(Own::Mount(e, online, locked)),
+        Call::ReadTsba => Whose::Unit(Own::Read(Register::Tsba)),
+        Call::ReadTssr => Whose::Unit(Own::Read(Register::Tssr)),
         Call::Step(a) => whose_ask(a),
         Call::StepBack => Whose::Back,
     }
@@ -127,6 +132,32 @@ fn read(s: Session, register: Register) -> Told
     }
 }
 
+// The call of unit k over what it is handed.
+fn make(
+    s: Session,
+    k: usize,
+    c: Own,
+    mem: &mut [u8],
+    reel: &mut [u8],
+    table: &mut [u8],
+    jrnl: &mut [u8],
+) -> Told
+    ensures told { λ r. ⌜ r ≡ ownTold c k s (now (mem .entry)) (now (reel .entry)) (now (table .entry)) (now (jrnl .entry)) ⌝ }
+    ensures memory { λ _. ⌜ now (mem .exit) ≡ ownOn c k s (now (mem .entry)) (now (reel .entry)) (now (table .entry)) (now (jrnl .entry)) .world .core .memory ⌝ }
+    ensures reel { λ _. ⌜ now (reel .exit) ≡ ownOn c k s (now (mem .entry)) (now (reel .entry)) (now (table .entry)) (now (jrnl .entry)) .world .core .reel ⌝ }
+    ensures table { λ _. ⌜ now (table .exit) ≡ ownOn c k s (now (mem .entry)) (now (reel .entry)) (now (table .entry)) (now (jrnl .entry)) .world .core .table ⌝ }
+    ensures journal { λ _. ⌜ JournalLeft (ownEntered c (ownOn c k s (now (mem .entry)) (now (reel .entry)) (now (table .entry)) (now (jrnl .entry)) .answer)) (ownOn c k s (now (mem .entry)) (now (reel .entry)) (now (table .entry)) (now (jrnl .entry))) (now (jrnl .entry)) (now (jrnl .exit)) ⌝ }
+{
+    match c {
+        Own::Mount(e, online, locked) => told(
+            journal::mount(s, mem.len(), reel, table, jrnl.len(), e, online, locked),
+            Also::Nothing,
+        ),
+        Own::Read(r) => read(s, r),
+        Own::Step(a) => step(s, a, ask(s, k, a, mem, reel, table, jrnl)),
+    }
+}
+
 // The task of unit k over what it is handed.
 pub fn call(
     s: Session,
@@ -142,15 +173,10 @@ pub fn call(
     ensures memory { λ _. ⌜ now (mem .exit) ≡ callOn c k s (now (mem .entry)) (now (reel .entry)) (now (table .entry)) (now (jrnl .entry)) .world .core .memory ⌝ }
     ensures reel { λ _. ⌜ now (reel .exit) ≡ callOn c k s (now (mem .entry)) (now (reel .entry)) (now (table .entry)) (now (jrnl .entry)) .world .core .reel ⌝ }
     ensures table { λ _. ⌜ now (table .exit) ≡ callOn c k s (now (mem .entry)) (now (reel .entry)) (now (table .entry)) (now (jrnl .entry)) .world .core .table ⌝ }
-    ensures journal { λ _. ⌜ JournalLeft c (callOn c k s (now (mem .entry)) (now (reel .entry)) (now (table .entry)) (now (jrnl .entry))) (now (jrnl .entry)) (now (jrnl .exit)) ⌝ }
+    ensures journal { λ _. ⌜ JournalLeft (entered c (callOn c k s (now (mem .entry)) (now (reel .entry)) (now (table .entry)) (now (jrnl .entry)) .answer)) (callOn c k s (now (mem .entry)) (now (reel .entry)) (now (table .entry)) (now (jrnl .entry))) (now (jrnl .entry)) (now (jrnl .exit)) ⌝ }
 {
     match c {
-        Task::Mount(e, online, locked) => told(
-            journal::mount(s, mem.len(), reel, table, jrnl.len(), e, online, locked),
-            Also::Nothing,
-        ),
-        Task::Read(r) => read(s, r),
-        Task::Step(a) => step(s, a, ask(s, k, a, mem, reel, table, jrnl)),
-        Task::Undo => told(steps::undo(s, mem, reel, table, jrnl), Also::Nothing),
+        Task::Makes(c) => make(s, k, c, mem, reel, table, jrnl),
+        Task::Undoes => told(steps::undo(s, mem, reel, table, jrnl), Also::Nothing),
     }
 }

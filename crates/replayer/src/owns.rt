@@ -1,4 +1,5 @@
 // A unit's own lines over all the buffers: it has its part of the reels and of the tables.
+use crate::asks::Own;
 use crate::asks::Task;
 use crate::hands::carry;
 use commands::Answer;
@@ -53,10 +54,13 @@ pub fn carry_for(
 }
 
 // "Reading a register .. refusal 1 and word 0": of a unit not present 12 and word 0.
-fn lacking(c: Task) -> Also {
+fn lacking(c: Own) -> Also
+    ensures { λ r. ⌜ r ≡ lackingAlso c ⌝ }
+{
     match c {
-        Task::Read(_) => Also::Word(0),
-        _ => Also::Nothing,
+        Own::Mount(_, _, _) => Also::Nothing,
+        Own::Read(_) => Also::Word(0),
+        Own::Step(_) => Also::Nothing,
     }
 }
 
@@ -64,7 +68,7 @@ fn lacking(c: Task) -> Also {
 pub fn own(
     b: Bench,
     u: usize,
-    c: Task,
+    c: Own,
     mem: &mut [u8],
     reels: &mut [u8],
     tables: &mut [u8],
@@ -73,7 +77,7 @@ pub fn own(
     if absent(b.units, u) {
         return told_at(b, u, Answer::Refused(12), lacking(c));
     }
-    let t = carry_for(b, u, c, mem, reels, tables, jrnl);
+    let t = carry_for(b, u, Task::Makes(c), mem, reels, tables, jrnl);
     tell(b, u, t, u)
 }
 

@@ -129,6 +129,6 @@ pub fn back(
     if k == TRANSPORTS {
         return back_none(b, u, mem, jrnl);
     }
-    let t = carry_for(b, k, Task::Undo, mem, reels, tables, jrnl);
+    let t = carry_for(b, k, Task::Undoes, mem, reels, tables, jrnl);
     tell(b, k, t, u)
 }

@@ -41,7 +41,7 @@ fn make_call(
     jrnl: &mut [u8],
 ) -> Round {
     match w {
-        Whose::Own(c) => own(b, u, c, mem, reels, tables, jrnl),
+        Whose::Unit(c) => own(b, u, c, mem, reels, tables, jrnl),
         Whose::Store(at) => store(b, u, at, bytes, mem, jrnl),
         Whose::Back => back(b, u, mem, reels, tables, jrnl),
     }

@@ -1,71 +1,69 @@
--- `cleared_by` is its definition, for each such line.
-use Rattle.desk.specs.Arranges.{clearedBy}
-use borrow.Author.Needs.{needs}
-use Rattle.desk.proofs.arranges.cleared_by.Statement.{statement}
-use Rattle.desk.proofs.arranges.cleared_by.Tie as tie
-
-enum-told : tie.Need-enum-told
-enum-told c = search needs
-
-enum-known-a : tie.Need-enum-known-a
-enum-known-a c = search needs
-
-cleared-unless-requires : tie.Need-cleared-unless-requires
-cleared-unless-requires c κs = search needs
-
-enum-told-2 : tie.Need-enum-told-2
-enum-told-2 c = search needs
-
-no-sizes-requires : tie.Need-no-sizes-requires
-no-sizes-requires c κs = search needs
-
-enum-told-3 : tie.Need-enum-told-3
-enum-told-3 c = search needs
-
-no-sizes-requires-2 : tie.Need-no-sizes-requires-2
-no-sizes-requires-2 c κs = search needs
-
-enum-told-4 : tie.Need-enum-told-4
-enum-told-4 c = search needs
-
-no-sizes-requires-3 : tie.Need-no-sizes-requires-3
-no-sizes-requires-3 c κs = search needs
-
-returns : tie.Need-returns
-unfolding clearedBy
-returns c = rw (c .enum-told .given .1)
-
-returns-2 : tie.Need-returns-2
-unfolding clearedBy
-returns-2 c = rw (c .before .before .a .given .1) (c .cleared-unless .ensures)
-
-returns-3 : tie.Need-returns-3
-unfolding clearedBy
-returns-3 c = rw (c .before .enum-told2 .given .1) (c .no-sizes .ensures)
-
-returns-4 : tie.Need-returns-4
-unfolding clearedBy
-returns-4 c = rw (c .before .enum-told3 .given .1) (c .no-sizes2 .ensures)
-
-returns-5 : tie.Need-returns-5
-unfolding clearedBy
-returns-5 c = rw (c .before .enum-told4 .given .1) (c .no-sizes3 .ensures)
-
-pub cleared-by-spec : {M : Type 1} → statement M
-cleared-by-spec =
-    tie.close
-    (tie.spec
-    enum-told
-    enum-known-a
-    cleared-unless-requires
-    enum-told-2
-    no-sizes-requires
-    enum-told-3
-    no-sizes-requires-2
-    enum-told-4
-    no-sizes-requires-3
-    returns
-    returns-2
-    returns-3
-    returns-4
-    returns-5)
+  use borrow.Author.Needs.{needs}
+  use Rattle.desk.proofs.arranges.cleared_by.Statement.{statement}
+  use Rattle.desk.proofs.arranges.cleared_by.Tie as tie
+  use Rattle.desk.proofs.arranges.cleared_by.Reads as reads
+  use Rattle.desk.proofs.arranges.cleared_by.Lts as lts
+  use Rattle.desk.proofs.arranges.no_span.Reads as no-span-reads
+  use Rattle.desk.proofs.arranges.reel_span.Reads as reel-span-reads
+  use Rattle.desk.proofs.arranges.resized_span.Reads as resized-span-reads
+  use Rattle.desk.proofs.arranges.whole_span.Reads as whole-span-reads
+  
+  -- src/arranges.rt:240:26
+  enum-told : tie.Need-enum-told
+  enum-told c = search needs
+  
+  -- src/arranges.rt:240:26
+  whole-span-requires : tie.Need-whole-span-requires
+  whole-span-requires c κs = search needs
+  
+  -- src/arranges.rt:241:24
+  enum-known-a : tie.Need-enum-known-a
+  enum-known-a c = search needs
+  
+  -- src/arranges.rt:241:30
+  resized-span-requires : tie.Need-resized-span-requires
+  resized-span-requires c κs = search needs
+  
+  -- src/arranges.rt:242:23
+  enum-known-a-2 : tie.Need-enum-known-a-2
+  enum-known-a-2 c = search needs
+  
+  -- src/arranges.rt:242:29
+  reel-span-requires : tie.Need-reel-span-requires
+  reel-span-requires c κs = search needs
+  
+  -- src/arranges.rt:243:14
+  no-span-requires : tie.Need-no-span-requires
+  no-span-requires c κs = search needs
+  
+  -- src/arranges.rt:236:1
+  returns : tie.Need-returns
+  returns c = ?
+  
+  -- src/arranges.rt:236:1
+  returns-2 : tie.Need-returns-2
+  returns-2 c = ?
+  
+  -- src/arranges.rt:236:1
+  returns-3 : tie.Need-returns-3
+  returns-3 c = ?
+  
+  -- src/arranges.rt:236:1
+  returns-4 : tie.Need-returns-4
+  returns-4 c = ?
+  
+  pub cleared-by-spec : {M : Type 1} → statement M
+  cleared-by-spec =
+      tie.close
+      (tie.spec
+      enum-told
+      whole-span-requires
+      enum-known-a
+      resized-span-requires
+      enum-known-a-2
+      reel-span-requires
+      no-span-requires
+      returns
+      returns-2
+      returns-3
+      returns-4)
