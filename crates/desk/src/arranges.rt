@@ -242,8 +242,11 @@ fn cleared_by(b: Bench, u: usize, a: Arrange, room: Sizes) -> Span
     match a {
         Arrange::Case => whole_span(room),
         Arrange::Sizes(s) => resized_span(s, room),
+        Arrange::Cut(_, _) => no_span(),
+        Arrange::Uncut => no_span(),
+        Arrange::Set(_, _) => no_span(),
+        Arrange::Units(_) => no_span(),
         Arrange::Reel(n) => reel_span(b, u, n),
-        _ => no_span(),
     }
 }
 

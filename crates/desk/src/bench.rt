@@ -24,7 +24,9 @@ ghost use Rattle.desk.specs.Benches.{beyondBuffers, cursorAt, freshAt, h
 
 // There are buffers for so many units, and so much of them is each unit's: the part of unit u starts at u times that.
 pub const STATIONS: usize = 5;
+
 pub const REEL_ROOM: usize = 131072;
+
 pub const TABLE_ROOM: usize = 4096;
 
 // A unit's record, the sizes of its reel and its table, and its cursor.

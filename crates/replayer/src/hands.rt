@@ -8,8 +8,7 @@ use results::Told;
 ghost use mathlib.Core.Path.{_≡_};
 ghost use lib.ListN.{length};
 ghost use lib.Seq.{sets};
-ghost use Rattle.replayer.specs.Hands.{FitOn, handOn, handTold};
-ghost use Rattle.replayer.specs.Keeps.{JournalHanded, JournalKept, memoryKept, reelKept, tableKept};
+ghost use Rattle.replayer.specs.Hands.{FitOn, JournalFor, JournalOf, handOn, handTold, memoryKept, reelKept, tableKept};
 
 // The task over what it is handed.
 fn hand(
@@ -26,7 +25,7 @@ fn hand(
     ensures memory { λ _. ⌜ now (mem .exit) ≡ sets (now (mem .entry)) 0 (handOn d k c (now (mem .entry)) (now (reel .entry)) (now (table .entry)) (now (jrnl .entry)) .world .core .memory) ⌝ }
     ensures reel { λ _. ⌜ now (reel .exit) ≡ sets (now (reel .entry)) 0 (handOn d k c (now (mem .entry)) (now (reel .entry)) (now (table .entry)) (now (jrnl .entry)) .world .core .reel) ⌝ }
     ensures table { λ _. ⌜ now (table .exit) ≡ sets (now (table .entry)) 0 (handOn d k c (now (mem .entry)) (now (reel .entry)) (now (table .entry)) (now (jrnl .entry)) .world .core .table) ⌝ }
-    ensures journal { λ _. ⌜ JournalHanded d k c (now (mem .entry)) (now (reel .entry)) (now (table .entry)) (now (jrnl .entry)) (now (jrnl .exit)) ⌝ }
+    ensures journal { λ _. ⌜ JournalOf d k c (now (mem .entry)) (now (reel .entry)) (now (table .entry)) (now (jrnl .entry)) (now (jrnl .exit)) ⌝ }
 {
     let h = d.handed;
     let m = least(h.memory, mem.len());
@@ -60,7 +59,7 @@ pub fn carry(
     ensures memory { λ _. ⌜ now (mem .exit) ≡ memoryKept d k c (now (mem .entry)) (now (reel .entry)) (now (table .entry)) (now (jrnl .entry)) ⌝ }
     ensures reel { λ _. ⌜ now (reel .exit) ≡ reelKept d k c (now (mem .entry)) (now (reel .entry)) (now (table .entry)) (now (jrnl .entry)) ⌝ }
     ensures table { λ _. ⌜ now (table .exit) ≡ tableKept d k c (now (mem .entry)) (now (reel .entry)) (now (table .entry)) (now (jrnl .entry)) ⌝ }
-    ensures journal { λ _. ⌜ JournalKept d k c (now (mem .entry)) (now (reel .entry)) (now (table .entry)) (now (jrnl .entry)) (now (jrnl .exit)) ⌝ }
+    ensures journal { λ _. ⌜ JournalFor d k c (now (mem .entry)) (now (reel .entry)) (now (table .entry)) (now (jrnl .entry)) (now (jrnl .exit)) ⌝ }
 {
     let t = hand(d, k, c, mem, reel, table, jrnl);
     let sizes = d.sizes;

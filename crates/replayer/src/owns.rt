@@ -20,9 +20,17 @@ use lines::Table;
 use results::Also;
 use results::Told;
 use worlds::absent;
+ghost use mathlib.Core.Path.{_≡_};
+ghost use Prim.Native.Nat.{_<_, _≤_};
+ghost use lib.ListN.{length, take};
+ghost use Rattle.replayer.specs.Owns.{OwnJournal, UnitFits, UnitJournal, lackingAlso, ownMemory, ownReels, ownRound, ownTables, tellRound, unitMemory, unitReels, unitTables, unitTold};
+ghost use Rattle.replayer.specs.Turns.{buildMemory, buildReels, buildRound, tableRound, tableTables};
 
 // Unit k's task told: its session is kept, and unit u's fields are printed.
-pub fn tell(b: Bench, k: usize, t: Told, u: usize) -> Round {
+pub fn tell(b: Bench, k: usize, t: Told, u: usize) -> Round
+    requires { ⌜ k < 5 ⌝ }
+    ensures { λ r. ⌜ r ≡ tellRound b k t u ⌝ }
+{
     let session = t.session;
     let answer = t.answer;
     let also = t.also;
@@ -38,7 +46,16 @@ pub fn carry_for(
     reels: &mut [u8],
     tables: &mut [u8],
     jrnl: &mut [u8],
-) -> Told {
+) -> Told
+    requires unit { ⌜ k < 5 ⌝ }
+    requires room { ⌜ (655360 ≤ length (now reels)) × (20480 ≤ length (now tables)) ⌝ }
+    requires fits { ⌜ UnitFits b k c (now mem) (now reels) (now tables) (now jrnl) ⌝ }
+    ensures told { λ r. ⌜ r ≡ unitTold b k c (now (mem .entry)) (now (reels .entry)) (now (tables .entry)) (now (jrnl .entry)) ⌝ }
+    ensures memory { λ _. ⌜ now (mem .exit) ≡ unitMemory b k c (now (mem .entry)) (now (reels .entry)) (now (tables .entry)) (now (jrnl .entry)) ⌝ }
+    ensures reels { λ _. ⌜ now (reels .exit) ≡ unitReels b k c (now (mem .entry)) (now (reels .entry)) (now (tables .entry)) (now (jrnl .entry)) ⌝ }
+    ensures tables { λ _. ⌜ now (tables .exit) ≡ unitTables b k c (now (mem .entry)) (now (reels .entry)) (now (tables .entry)) (now (jrnl .entry)) ⌝ }
+    ensures journal { λ _. ⌜ UnitJournal b k c (now (mem .entry)) (now (reels .entry)) (now (tables .entry)) (now (jrnl .entry)) (now (jrnl .exit)) ⌝ }
+{
     let r = REEL_ROOM * k;
     let t = TABLE_ROOM * k;
     let d = view(b, k);
@@ -73,7 +90,14 @@ pub fn own(
     reels: &mut [u8],
     tables: &mut [u8],
     jrnl: &mut [u8],
-) -> Round {
+) -> Round
+    requires { ⌜ (655360 ≤ length (now reels)) × (20480 ≤ length (now tables)) ⌝ }
+    ensures round { λ r. ⌜ r ≡ ownRound b u c (now (mem .entry)) (now (reels .entry)) (now (tables .entry)) (now (jrnl .entry)) ⌝ }
+    ensures memory { λ _. ⌜ now (mem .exit) ≡ ownMemory b u c (now (mem .entry)) (now (reels .entry)) (now (tables .entry)) (now (jrnl .entry)) ⌝ }
+    ensures reels { λ _. ⌜ now (reels .exit) ≡ ownReels b u c (now (mem .entry)) (now (reels .entry)) (now (tables .entry)) (now (jrnl .entry)) ⌝ }
+    ensures tables { λ _. ⌜ now (tables .exit) ≡ ownTables b u c (now (mem .entry)) (now (reels .entry)) (now (tables .entry)) (now (jrnl .entry)) ⌝ }
+    ensures journal { λ _. ⌜ OwnJournal b u c (now (mem .entry)) (now (reels .entry)) (now (tables .entry)) (now (jrnl .entry)) (now (jrnl .exit)) ⌝ }
+{
     if absent(b.units, u) {
         return told_at(b, u, Answer::Refused(12), lacking(c));
     }
@@ -89,7 +113,12 @@ pub fn build_for(
     n: usize,
     mem: &mut [u8],
     reels: &mut [u8],
-) -> Round {
+) -> Round
+    requires { ⌜ (n ≤ length (now «data»)) × (655360 ≤ length (now reels)) ⌝ }
+    ensures round { λ r. ⌜ r ≡ buildRound b u k (now («data» .entry)) n (now (mem .entry)) (now (reels .entry)) ⌝ }
+    ensures memory { λ _. ⌜ now (mem .exit) ≡ buildMemory b u k (now («data» .entry)) n (now (mem .entry)) (now (reels .entry)) ⌝ }
+    ensures reels { λ _. ⌜ now (reels .exit) ≡ buildReels b u k (now («data» .entry)) n (now (mem .entry)) (now (reels .entry)) ⌝ }
+{
     if STATIONS <= u {
         return refused(b);
     }
@@ -99,19 +128,16 @@ pub fn build_for(
     put_turn(b, u, t)
 }
 
-pub fn table_for(
-    b: Bench,
-    u: usize,
-    t: Table,
-    data: &[u8],
-    n: usize,
-    tables: &mut [u8],
-) -> Round {
+pub fn table_for(b: Bench, u: usize, t: Table, data: &[u8], n: usize, tables: &mut [u8]) -> Round
+    requires { ⌜ (n ≤ length (now «data»)) × (20480 ≤ length (now tables)) ⌝ }
+    ensures round { λ r. ⌜ r ≡ tableRound b u t (take n (now («data» .entry))) (now (tables .entry)) ⌝ }
+    ensures tables { λ _. ⌜ now (tables .exit) ≡ tableTables b u t (take n (now («data» .entry))) (now (tables .entry)) ⌝ }
+{
     if STATIONS <= u {
         return refused(b);
     }
     let p = TABLE_ROOM * u;
     let d = view(b, u);
-    let t = tabled(d, t, data, n, &mut tables[p..p + TABLE_ROOM]);
-    put_turn(b, u, t)
+    let x = tabled(d, t, data, n, &mut tables[p..p + TABLE_ROOM]);
+    put_turn(b, u, x)
 }
