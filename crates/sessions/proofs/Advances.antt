@@ -88,10 +88,10 @@ module _ (n : ℕ) (w : World) where
     comes-by (answer.Done i) e d busy =
         let free : ℕ = w .ledger .length - w .ledger .used in
         let x : Step = carried (w .core) plan in
-        let long : ℕ = entryLength (entryFor (w .core) x) in
+        let long : ℕ = entryLength (entryFor (w .number) (w .core) x) in
         by-test (noPlace (w .core) x)
         (λ s. no-place sound busy (ap isStep e) (crowded (w .core) x s) (rw s))
-        (λ s. by-test (tooFull (w .ledger) (entryFor (w .core) x))
+        (λ s. by-test (tooFull (w .ledger) (entryFor (w .number) (w .core) x))
         (λ t. no-room sound busy (ap isStep e) (never-crowded (w .core) x s) (ltb-true free long t) (rw (s, t)))
         (λ t. rw (s, t) (a-step sound busy (never-crowded (w .core) x s) (λ f. absurd (omega (arith, f, ltb-false free long t))) refl (advanced-obeys (w .core) admitted i e))))
     comes-by answer.Idle e d busy = absurd d

@@ -52,7 +52,7 @@ back-left n w =
 
 -- the world with the entry e brought back, if e is right
 abbrev pub backTo : World → Entry → World
-backTo w e = record { core = undone e (savedIn e (w .ledger .bytes)) (w .core); ledger = without (w .ledger) e }
+backTo w e = record { number = w .number; core = undone e (savedIn e (w .ledger .bytes)) (w .core); ledger = without (w .ledger) e }
 
 module _ (n : ℕ) (w : World) (e : Entry) (p : Passed (sessionOf w) (length (w .core .memory)) (length (w .core .reel)) n) (right : entryWrong w e ≡ false) where
   told : (entryFits e (w .ledger .used) (w .core .unit .lengths) (length (w .core .memory)) (length (w .core .reel)) (w .core .objects) ≡ true) × (not (stateWrong (e .unit)) ≡ true)

@@ -18,7 +18,7 @@ use Rattle.worlds.proofs.Undoing.{core-undone}
 use Rattle.sessions.proofs.Taken.{doing-indexed, doing-keeps, doing-sound, stays, step-fit, step-undone, took}
 
 -- a noted entry is the ledger's newest
-ledger-noted : (n : ℕ) (c : Call) (d : Core) (ks : List Noted) → noted (ledgerOf n ks) (entryAt c d) d ≡ ledgerOf n (notedAt c d ∷ ks)
+ledger-noted : (n : ℕ) (c : Call) (d : Core) (ks : List Noted) → noted (ledgerOf n ks) (entryAt 0 c d) d ≡ ledgerOf n (notedAt c d ∷ ks)
 unfolding noted journalOf lengthOf notedAt
 ledger-noted n c d ks = refl
 
@@ -38,7 +38,7 @@ module _ (n : ℕ) where
   -- a step is undone by its entry
   pub went : (c : Call) (s : Here) → Good n s → kindNow n c s ≡ stepped → broughtBack (notedAt c (s .core)) (doing c (s .core) .after) ≡ s .core
   unfolding notedAt
-  went c s f k = core-undone (s .core) (doing c (s .core)) (doing-sound n (worldFrom n s) (f .fit) c k)
+  went c s f k = core-undone 0 (s .core) (doing c (s .core)) (doing-sound n (worldFrom n s) (f .fit) c k)
 
   -- so a session of the calls has the laws of any session
   abbrev pub lawful : Lawful (calls n)

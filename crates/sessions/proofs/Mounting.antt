@@ -119,6 +119,7 @@ module _ (old : Session) (m r tb : List ℕ) (journal e : ℕ) (online locked : 
               journal-is = refl;
             });
         whole = refl;
+        named = omega arith;
       })
 
   -- its places can be counted in four bytes

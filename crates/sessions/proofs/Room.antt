@@ -12,6 +12,7 @@ use Rattle.lists.proofs.Cases.{by-test}
 use Rattle.index.specs.Table.{placesIn}
 use Rattle.commands.specs.declared.plans.Answer.{Answer}
 use Rattle.commands.specs.declared.plans.Answer.the-variants as answer
+use Rattle.unit.specs.Asks.{Ask}
 use Rattle.unit.specs.Cores.{Core}
 use Rattle.unit.specs.Steps.{Step, stepOf, tooSmall}
 use Rattle.entries.specs.Entries.{entryLength}
@@ -52,35 +53,42 @@ module _ (c : Core) (x : Step) where
   never-crowded t h = true≢false (sym (crowds h) ∙ t)
 
 module _ (w : World) (x : Step) where
-  as-room : (i : Bool) → Exactly w x (entryFor (w .core) x) (takenAs w x (answer.Done i))
+  as-room : (i : Bool) → Exactly w x (entryFor (w .number) (w .core) x) (takenAs w x (answer.Done i))
   unfolding takenAs
   as-room i =
       let free : ℕ = w .ledger .length - w .ledger .used in
-      let long : ℕ = entryLength (entryFor (w .core) x) in
+      let long : ℕ = entryLength (entryFor (w .number) (w .core) x) in
       record {
         nine = λ r.
             by-test (noPlace (w .core) x)
             (λ s. let z : answer.Refused 11 ≡ answer.Refused 9 = rw s at r in other-number z)
-            (λ s. by-test (tooFull (w .ledger) (entryFor (w .core) x))
+            (λ s. by-test (tooFull (w .ledger) (entryFor (w .number) (w .core) x))
             (λ t. ltb-true free long t)
             (λ t. let z : answer.Done i ≡ answer.Refused 9 = rw (s, t) at r in not-done i 9 z));
         no-room = λ f h. rw (not-crowded (w .core) x f, lt-ltb free long h);
         eleven = λ r.
             by-test (noPlace (w .core) x)
             (λ s. crowded (w .core) x s)
-            (λ s. by-test (tooFull (w .ledger) (entryFor (w .core) x))
+            (λ s. by-test (tooFull (w .ledger) (entryFor (w .number) (w .core) x))
             (λ t. let z : answer.Refused 9 ≡ answer.Refused 11 = rw (s, t) at r in other-number (sym z))
             (λ t. let z : answer.Done i ≡ answer.Refused 11 = rw (s, t) at r in not-done i 11 z));
         no-place = λ h. rw (crowds (w .core) x h);
       }
 
-  by-room : (i : Bool) (a : Answer) → a ≡ answer.Done i → Exactly w x (entryFor (w .core) x) (takenBy w x a)
+  pub room-taken : (i : Bool) (a : Answer) → a ≡ answer.Done i → Exactly w x (entryFor (w .number) (w .core) x) (takenBy w x a)
   unfolding takenBy
-  by-room i a e = rw e (as-room i)
+  room-taken i a e = rw e (as-room i)
 
-pub room-exactly : (n : ℕ) (c : Call) (w : World) → Fit n w → Steppable c (w .core) → Exactly w (doing c (w .core)) (entryAt c (w .core)) (onCall n c w)
-unfolding onCall stepOn doing
-room-exactly n (step a h) w fit s =
+-- of any ask
+pub room-asked : (n : ℕ) (a : Ask) (w : World) (i : Bool) → Fit n w → stepOf a (w .core) .answer ≡ answer.Done i
+    → Exactly w (stepOf a (w .core)) (entryFor (w .number) (w .core) (stepOf a (w .core))) (stepOn w n a)
+unfolding stepOn
+room-asked n a w i fit s =
     rw (let-through n w (fit .sound) (takenBy w (stepOf a (w .core)) (stepOf a (w .core) .answer)))
-    (by-room w (stepOf a (w .core)) (s .0) (stepOf a (w .core) .answer) (s .1))
+    (room-taken w (stepOf a (w .core)) i (stepOf a (w .core) .answer) s)
+
+-- and of any call
+pub room-exactly : (n : ℕ) (c : Call) (w : World) → Fit n w → Steppable c (w .core) → Exactly w (doing c (w .core)) (entryAt (w .number) c (w .core)) (onCall n c w)
+unfolding onCall doing
+room-exactly n (step a h) w fit s = room-asked n a w (s .0) fit (s .1)
 room-exactly n (read-register r) w fit s = absurd s

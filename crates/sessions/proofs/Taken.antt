@@ -24,7 +24,7 @@ use Rattle.worlds.specs.Calls.{backOn, entryFor, guarded, noPlace, refusedAs, s
 use Rattle.worlds.proofs.Passing.{core-accepted, passed}
 use Rattle.worlds.specs.Passes.{Fit}
 use Rattle.sessions.specs.Session.{looked, refused, stepped}
-use Rattle.sessions.specs.Calling.{Call, Left, Took, doing, entryAt, callKind, onCall, read-register, readKind, step, stepKind}
+use Rattle.sessions.specs.Calling.{Call, Left, Took, doing, callKind, onCall, read-register, readKind, step, stepKind}
 use Rattle.sessions.specs.Good.{CoreFormed, CoreIndexed}
 use Rattle.sessions.proofs.Indexing.{indexing}
 use Rattle.sessions.proofs.Keeping.{keeping}
@@ -65,9 +65,13 @@ module _ (n : ℕ) (w : World) where
       let c : ℕ = checked (sessionOf w) (length (w .core .memory)) (length (w .core .reel)) n in
       by-test (eqb c 0) (λ t. eqb-true c 0 t) (λ t. let z : refused ≡ stepped = rw t at k in refused-none z)
 
+  pub sound-asked : (a : Ask) → stepKind (stepOn w n a .answer) ≡ stepped → Checked
+  unfolding stepOn
+  sound-asked a k = sound-guarded _ k
+
   pub sound-step : (c : Call) → callKind c (onCall n c w .answer) ≡ stepped → Checked
-  unfolding onCall callKind stepOn
-  sound-step (step a h) k = sound-guarded _ k
+  unfolding onCall callKind
+  sound-step (step a h) k = sound-asked a k
   sound-step (read-register r) k = read-none _ k
 
 module _ (w : World) (x : Step) where
@@ -76,22 +80,26 @@ module _ (w : World) (x : Step) where
   took-as a k =
       by-test (noPlace (w .core) x)
       (λ s. let z : refused ≡ stepped = rw s at k in refused-none z)
-      (λ s. by-test (tooFull (w .ledger) (entryFor (w .core) x))
+      (λ s. by-test (tooFull (w .ledger) (entryFor (w .number) (w .core) x))
       (λ t. let z : refused ≡ stepped = rw (s, t) at k in refused-none z)
       (λ t. record { is = rw (s, t); places = s; room = t }))
 
-  took-by : (a : Answer) → stepKind (takenBy w x a .answer) ≡ stepped → Took w (takenBy w x a .world) x
+  pub took-by : (a : Answer) → stepKind (takenBy w x a .answer) ≡ stepped → Took w (takenBy w x a .world) x
   unfolding takenBy stepKind
   took-by (answer.Done i) k = took-as (answer.Done i) k
   took-by answer.Idle k = looked-none k
   took-by (answer.Refused j) k = refused-none k
   took-by (answer.BadBlock why j) k = refused-none k
 
-pub took : (n : ℕ) (c : Call) (w : World) → callKind c (onCall n c w .answer) ≡ stepped → Took w (onCall n c w .world) (doing c (w .core))
-unfolding onCall callKind doing stepOn
-took n (step a h) w k =
+pub took-asked : (n : ℕ) (a : Ask) (w : World) → stepKind (stepOn w n a .answer) ≡ stepped → Took w (stepOn w n a .world) (stepOf a (w .core))
+unfolding stepOn
+took-asked n a w k =
     let pass = let-through n w (sound-guarded n w _ k) (takenBy w (stepOf a (w .core)) (stepOf a (w .core) .answer)) in
     rw pass (took-by w (stepOf a (w .core)) (stepOf a (w .core) .answer) (rw pass at k))
+
+pub took : (n : ℕ) (c : Call) (w : World) → callKind c (onCall n c w .answer) ≡ stepped → Took w (onCall n c w .world) (doing c (w .core))
+unfolding onCall callKind doing
+took n (step a h) w k = took-asked n a w k
 took n (read-register r) w k = read-none _ k
 
 -- what is known of the step: it changed nothing but what it touched, and kept what every step keeps
@@ -114,25 +122,33 @@ module _ (n : ℕ) (w : World) (fit : Fit n w) where
   doing-indexed (step a h) k f x = indexing (w .core) f x accepts a (took n (step a h) w k .places)
   doing-indexed (read-register r) k f x = x
 
-  module _ (c : Call) (k : callKind c (onCall n c w .answer) ≡ stepped) where
-    has-room : w .ledger .used + entryLength (entryAt c (w .core)) ≤ w .ledger .length
+  -- the step x took the world to the next
+  module _ (next : World) (x : Step) (t : Took w next x) where
+    pub has-room : w .ledger .used + entryLength (entryFor (w .number) (w .core) x) ≤ w .ledger .length
     has-room =
         let p = passed (sessionOf w) (length (w .core .memory)) (length (w .core .reel)) n (fit .sound) in
-        let free : entryLength (entryAt c (w .core)) ≤ w .ledger .length - w .ledger .used = ltb-false (w .ledger .length - w .ledger .used) (entryLength (entryAt c (w .core))) (took n c w k .room) in
+        let long : ℕ = entryLength (entryFor (w .number) (w .core) x) in
+        let free : long ≤ w .ledger .length - w .ledger .used = ltb-false (w .ledger .length - w .ledger .used) long (t .room) in
         omega (arith, p .used)
 
+    module _ (s : Sound (w .core) x) where
+      pub took-undone : backOn next n ≡ answered (answer.Done false) w
+      took-undone = rw (t .is) (taken-undone n w x fit s has-room (t .places))
+
+      pub took-fit : Fit n next
+      took-fit = subst (Fit n) (sym (t .is)) (fit-after n w x fit s has-room)
+
+  module _ (c : Call) (k : callKind c (onCall n c w .answer) ≡ stepped) where
     -- the step back after a step gives the world before it
     pub step-undone : backOn (onCall n c w .world) n ≡ answered (answer.Done false) w
-    step-undone = rw (took n c w k .is) (taken-undone n w (doing c (w .core)) fit (doing-sound c k) has-room (took n c w k .places))
+    step-undone = took-undone (onCall n c w .world) (doing c (w .core)) (took n c w k) (doing-sound c k)
 
     -- the places that are used after it can be counted in four bytes
     pub step-few : onCall n c w .world .core .objects ≤ placesLimit
     step-few = rw (took n c w k .is) (enough-after (length (w .core .table)) (w .core .objects) (doing c (w .core) .after .objects) (took n c w k .places) .few)
 
     pub step-fit : Fit n (onCall n c w .world)
-    step-fit =
-        subst (Fit n) (sym (took n c w k .is))
-        (fit-after n w (doing c (w .core)) fit (doing-sound c k) has-room)
+    step-fit = took-fit (onCall n c w .world) (doing c (w .core)) (took n c w k) (doing-sound c k)
 
 module _ (n : ℕ) (w : World) where
   pub guarded-left : (x : Answered) → Left w x → Left w (guarded w n x)
@@ -145,9 +161,9 @@ module _ (n : ℕ) (w : World) where
   unfolding takenAs stepKind
   as-left x i =
       either (Left w) (noPlace (w .core) x) (refusedAs 11 w) _ (λ g. refl)
-      (either (Left w) (tooFull (w .ledger) (entryFor (w .core) x)) (refusedAs 9 w) _ (λ g. refl) (λ g. absurd (g refl)))
+      (either (Left w) (tooFull (w .ledger) (entryFor (w .number) (w .core) x)) (refusedAs 9 w) _ (λ g. refl) (λ g. absurd (g refl)))
 
-  by-left : (x : Step) (a : Answer) → Left w (takenBy w x a)
+  pub by-left : (x : Step) (a : Answer) → Left w (takenBy w x a)
   unfolding takenBy
   by-left x (answer.Done i) = as-left x i
   by-left x answer.Idle = λ g. refl

@@ -12,7 +12,7 @@ same-outcome o p a s =
     ap (λ (x : Answer). record { answer = x; session = o .session }) a ∙ ap (λ (x : Session). record { answer = p .answer; session = x }) s
 
 pub leaves-unique : {x : Answered} {k : List ℕ} {o o₂ : Outcome} {m r tb j m₂ r₂ tb₂ j₂ : List ℕ} → Leaves x k o m r tb j → Leaves x k o₂ m₂ r₂ tb₂ j₂
-    → (o ≡ o₂) × (worldOf (o .session) m r tb j ≡ worldOf (o₂ .session) m₂ r₂ tb₂ j₂)
+    → (o ≡ o₂) × (worldOf (x .world .number) (o .session) m r tb j ≡ worldOf (x .world .number) (o₂ .session) m₂ r₂ tb₂ j₂)
 leaves-unique {o = o} {o₂ = o₂} p q =
     let same = p .world ∙ sym (q .world) in
     (same-outcome o o₂ (p .answer ∙ sym (q .answer)) (ap sessionOf same), same)

@@ -46,7 +46,7 @@ Ends w = isStep (stepOf advance (w .core) .answer) ≡ true
 
 -- "9 free journal less than the entry"
 abbrev pub Full : World → Type 0
-Full w = w .ledger .length - w .ledger .used < entryLength (entryAt (step advance tt) (w .core))
+Full w = w .ledger .length - w .ledger .used < entryLength (entryAt (w .number) (step advance tt) (w .core))
 
 -- "11 when the table is too small for the objects, checked after 8 and before 9" (02, [8])
 abbrev pub Crowded : World → Type 0

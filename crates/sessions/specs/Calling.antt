@@ -57,19 +57,19 @@ unfoldable pub doing : Call → Core → Step
 doing (step a h) c = stepOf a c
 doing (read-register r) c = record { answer = answer.Idle; touched = none; after = c }
 
--- its entry
-abbrev pub entryAt : Call → Core → Entry
-entryAt k c = entryFor c (doing k c)
+-- its entry, as one of the transport with this number
+abbrev pub entryAt : ℕ → Call → Core → Entry
+entryAt i k c = entryFor i c (doing k c)
 
 -- a step x from w, taken
 abbrev pub takenTo : World → Step → World
-takenTo w x = record { core = x .after; ledger = noted (w .ledger) (entryFor (w .core) x) (w .core) }
+takenTo w x = record { number = w .number; core = x .after; ledger = noted (w .ledger) (entryFor (w .number) (w .core) x) (w .core) }
 
 -- the step took w to next, the table was large enough, and its entry had room
 pub record Took (w next : World) (x : Step) : Type 0 where
   pub is : next ≡ takenTo w x
   pub places : noPlace (w .core) x ≡ false
-  pub room : tooFull (w .ledger) (entryFor (w .core) x) ≡ false
+  pub room : tooFull (w .ledger) (entryFor (w .number) (w .core) x) ≡ false
 
 -- a call that took no step left the world as it was: refusals, an idle advance and a reading
 abbrev pub Left : World → Answered → Type 0
@@ -84,9 +84,9 @@ pub record Noted : Type 0 where
 unfoldable pub notedAt : Call → Core → Noted
 notedAt k c =
     record {
-      entry = entryAt k c;
+      entry = entryAt 0 k c;
       saved = savedBytes (doing k c .touched) (c .memory) (c .reel) (c .table);
-      bytes = entryBytes (entryAt k c) (c .memory) (c .reel) (c .table);
+      bytes = entryBytes (entryAt 0 k c) (c .memory) (c .reel) (c .table);
     }
 
 -- the used journal that holds these entries, newest first, and how long it is
@@ -106,9 +106,9 @@ ledgerOf n ks = record { used = lengthOf ks; length = n; bytes = journalOf ks }
 abbrev pub Here : Type 0
 Here = Moment Core Noted
 
--- the world of a moment: its core, and the ledger of the entries that stand, which is the journal and nothing else
+-- the world of a moment: its core, and the ledger of the entries that stand, which is the journal and nothing else. A single unit is transport 0.
 abbrev pub worldFrom : ℕ → Here → World
-worldFrom n s = record { core = s .core; ledger = ledgerOf n (s .entries) }
+worldFrom n s = record { number = 0; core = s .core; ledger = ledgerOf n (s .entries) }
 
 -- a core with an entry that stands brought back
 abbrev pub broughtBack : Noted → Core → Core

@@ -52,7 +52,7 @@ longFor b = 128 + length (b .data-bytes) + length (b .message-bytes) + length (b
 
 pub record EntryLong (n : ℕ) (x : Standing (calls n)) : Type 0 where
   pub stores : Stores (x .was .core) (doing (x .call) (x .was .core)) (bytesAt (x .call) (x .was .core))
-  pub long : entryLength (entryAt (x .call) (x .was .core)) ≡ longFor (bytesAt (x .call) (x .was .core))
+  pub long : entryLength (entryAt 0 (x .call) (x .was .core)) ≡ longFor (bytesAt (x .call) (x .was .core))
 
 -- it holds of each in a list
 pub data Each {A : Type 0} (P : A → Type 0) : List A → Type 0 where

@@ -6,3 +6,4 @@ pub mod Changing
 pub mod Readies
 pub mod Backs
 pub mod Mounting
+pub mod Sharing

@@ -112,7 +112,7 @@ module _ (h : Host) (e : ℕ) (online locked : Bool) {b′ tb′ : List ℕ} {k 
         fresh = subst (Fresh n) its-moment (mounted old (h .memory) (h .reel) (h .table) n e online locked done all);
         here =
             record {
-              world = λ i. record { core = worldIn after .core; ledger = its-ledger i };
+              world = λ i. record { number = 0; core = worldIn after .core; ledger = its-ledger i };
               block = subst Block (sym its-block) (block-is (o .session) (subst Bytes its-block bytes));
               long = refl;
             };

@@ -43,5 +43,5 @@ table =
       p10-two = λ d h. omega arith;
       p11 = λ d h. omega arith;
       p11-longest = λ d h. omega arith;
-      p12 = λ u ie. refl;
+      p12 = λ k u ie. refl;
     }

@@ -97,4 +97,4 @@ pub record Table : Type 0 where
   -- "P11 gets a neighbour: 65,535 bytes, 131 blocks" (02, [7])
   pub p11-longest : (d : List ℕ) → length d ≡ 65535 → blocksIn (record-of d) ≡ 131
   -- "P12 release: entry 128."
-  pub p12 : (c : Core) (ie : Bool) → entryLength (entryFor c (carried c (released (c .unit) ie))) ≡ 128
+  pub p12 : (k : ℕ) (c : Core) (ie : Bool) → entryLength (entryFor k c (carried c (released (c .unit) ie))) ≡ 128
