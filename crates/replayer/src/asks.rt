@@ -15,7 +15,7 @@ ghost use Rattle.worlds.specs.Calls.{stepOn};
 ghost use Rattle.replayer.specs.Asks.{askOf, ownStep, whoseAsk, whoseOf};
 ghost use Rattle.replayer.specs.Calls.{Fitting, callOn, entered, ownEntered, ownOn};
 ghost use Rattle.replayer.specs.Journals.{JournalLeft};
-ghost use Rattle.replayer.specs.Tells.{ownTold, readTold, stepTold, toldAs, toldOn};
+ghost use Rattle.replayer.specs.Tells.{ownTold, readTold, stepAlso, stepTold, toldAs, toldOn};
 
 // A step that is a unit's.
 pub enum Deed {
@@ -107,16 +107,24 @@ fn told(o: Outcome, also: Also) -> Told
     }
 }
 
+fn also(a: Deed, n: usize) -> Also
+    ensures { λ r. ⌜ r ≡ stepAlso a n ⌝ }
+{
+    match a {
+        Deed::WriteTsdb(_) => Also::Entry(n),
+        Deed::WriteTssr => Also::Entry(n),
+        Deed::Operate(_) => Also::Entry(n),
+        Deed::Advance => Also::Interrupt(n),
+    }
+}
+
 // A step tells how much longer the used journal is, and an advance whether it interrupts.
 fn step(s: Session, a: Deed, o: Outcome) -> Told
     ensures { λ r. ⌜ r ≡ stepTold s a o ⌝ }
 {
     let used = o.session.used;
-    let entry = used - least(s.used, used);
-    match a {
-        Deed::Advance => told(o, Also::Interrupt(entry)),
-        _ => told(o, Also::Entry(entry)),
-    }
+    let x = also(a, used - least(s.used, used));
+    told(o, x)
 }
 
 fn read(s: Session, register: Register) -> Told
@@ -176,7 +184,7 @@ pub fn call(
     ensures journal { λ _. ⌜ JournalLeft (entered c (callOn c k s (now (mem .entry)) (now (reel .entry)) (now (table .entry)) (now (jrnl .entry)) .answer)) (callOn c k s (now (mem .entry)) (now (reel .entry)) (now (table .entry)) (now (jrnl .entry))) (now (jrnl .entry)) (now (jrnl .exit)) ⌝ }
 {
     match c {
-        Task::Makes(c) => make(s, k, c, mem, reel, table, jrnl),
+        Task::Makes(x) => make(s, k, x, mem, reel, table, jrnl),
         Task::Undoes => told(steps::undo(s, mem, reel, table, jrnl), Also::Nothing),
     }
 }
