@@ -2,7 +2,7 @@
 use mathlib.Core.Bool.{Bool}
 use mathlib.Core.Path.{_≡_, refl, ap, _∙_}
 use mathlib.Core.List.{List}
-use Prim.Native.Nat.{ℕ, _-_, min}
+use Prim.Native.Nat.{ℕ, _-_, _≤_, min}
 use native.Mathlib.Nat.{sub-zero}
 use native.Mathlib.Omega.{arith}
 use borrow.Rule.Slice.PartMut.{putMid}
@@ -74,3 +74,7 @@ module _ (d : Desk) (u : ℕ) (c : Task) (m r tb j : List ℕ) where
     unfolding memoryKept reelKept tableKept
     kept-call x w =
         (x .0, (w .0 ∙ ap (λ (l : List ℕ). wiped l (d .sizes .memory) (d .handed .memory)) (x .1 .0), (w .1 .0 ∙ ap (λ (l : List ℕ). wiped l (d .sizes .reel) (d .handed .reel)) (x .1 .1 .0), (w .1 .1 .0 ∙ ap (λ (l : List ℕ). wiped l (d .sizes .table) (d .handed .table)) (x .1 .1 .1 .0), record { made = j₁; handed = x .1 .1 .1 .1; trimmed = w .1 .1 .1 }))))
+
+-- a place in the front of a line
+pub within : (l : List ℕ) (n f : ℕ) → n ≤ length l → f ≤ length (take (n - 0) l) → f ≤ n
+within l n f h e = omega (arith, length-take (n - 0) l)

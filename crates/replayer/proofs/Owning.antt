@@ -66,7 +66,7 @@ module _ (b : Bench) (k : ℕ) (c : Task) (m rs tbs j : List ℕ) where
 
     pub unit-done : (t : Told) (m′ r′ tb′ j′ : List ℕ) → reelRoom * k + reelRoom ≤ length rs → tableRoom * k + tableRoom ≤ length tbs → length r′ ≡ length (lentPart reelRoom k rs) → length tb′ ≡ length (lentPart tableRoom k tbs) → Carried d k c m (lentPart reelRoom k rs) (lentPart tableRoom k tbs) j t m′ r′ tb′ j′ → UnitDone t m′ (putMid (reelRoom * k) (reelRoom * k + reelRoom - reelRoom * k) rs r′) (putMid (tableRoom * k) (tableRoom * k + tableRoom - tableRoom * k) tbs tb′) j′
     unit-done t m′ r′ tb′ j′ f g lr lt x =
-        let y : Carried (viewOf b k) k c m (partOf reelRoom k rs) (partOf tableRoom k tbs) j t m′ r′ tb′ j′ = rw (← e, ← part-is reelRoom k rs, ← part-is tableRoom k tbs) x in
+        let y : Carried (viewOf b k) k c m (partOf reelRoom k rs) (partOf tableRoom k tbs) j t m′ r′ tb′ j′ = rw (e, part-is reelRoom k rs, part-is tableRoom k tbs) at x in
         (y .0, (y .1 .0, (part-back reelRoom k rs r′ _ f lr (y .1 .1 .0), (part-back tableRoom k tbs tb′ _ g lt (y .1 .1 .1 .0), y .1 .1 .1 .1))))
 
 -- a call is no step undone, and so asks nothing
@@ -120,7 +120,7 @@ module _ (b : Bench) (u : ℕ) (k : Build) (d : List ℕ) (n : ℕ) (m rs : List
   pub build-done : (x : Desk) (t : Turn) (r : Round) (m′ p′ : List ℕ) → u < 5 → reelRoom * u + reelRoom ≤ length rs → x ≡ viewOf b u → length p′ ≡ length (lentPart reelRoom u rs) → Built x (lentPart reelRoom u rs) t m′ p′ → r ≡ putTurn b u t → BuildDone r m′ (putMid (reelRoom * u) (reelRoom * u + reelRoom - reelRoom * u) rs p′)
   unfolding buildRound buildMemory buildReels
   build-done x t r m′ p′ h f e l y g =
-      let z : Built (viewOf b u) (partOf reelRoom u rs) t m′ p′ = rw (← e, ← part-is reelRoom u rs) y in
+      let z : Built (viewOf b u) (partOf reelRoom u rs) t m′ p′ = rw (e, part-is reelRoom u rs) at y in
       (rw (lt-leb 5 u h) (g ∙ ap (putTurn b u) (z .0)), (rw (lt-leb 5 u h) (z .1 .0), rw (lt-leb 5 u h) (part-back reelRoom u rs p′ _ f l (z .1 .1))))
 
 -- a line about unit u's table
@@ -135,5 +135,5 @@ module _ (b : Bench) (u : ℕ) (k : Table) (d tbs : List ℕ) where
   pub table-done : (x : Desk) (t : Turn) (r : Round) (p′ : List ℕ) → u < 5 → tableRoom * u + tableRoom ≤ length tbs → x ≡ viewOf b u → length p′ ≡ length (lentPart tableRoom u tbs) → (t ≡ tabledTurn x k d (lentPart tableRoom u tbs)) × (p′ ≡ tabledBytes x k d (lentPart tableRoom u tbs)) → r ≡ putTurn b u t → TableDone r (putMid (tableRoom * u) (tableRoom * u + tableRoom - tableRoom * u) tbs p′)
   unfolding tableRound tableTables
   table-done x t r p′ h f e l y g =
-      let z : (t ≡ tabledTurn (viewOf b u) k d (partOf tableRoom u tbs)) × (p′ ≡ tabledBytes (viewOf b u) k d (partOf tableRoom u tbs)) = rw (← e, ← part-is tableRoom u tbs) y in
+      let z : (t ≡ tabledTurn (viewOf b u) k d (partOf tableRoom u tbs)) × (p′ ≡ tabledBytes (viewOf b u) k d (partOf tableRoom u tbs)) = rw (e, part-is tableRoom u tbs) at y in
       (rw (lt-leb 5 u h) (g ∙ ap (putTurn b u) (z .0)), rw (lt-leb 5 u h) (part-back tableRoom u tbs p′ _ f l (z .1)))

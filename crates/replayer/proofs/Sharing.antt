@@ -72,14 +72,14 @@ module _ (b : Bench) (m j : List ℕ) (k n : ℕ) (f : k ≡ min (handedAt b 0 .
   pub store-handed : (at : ℕ) (bytes j′ : List ℕ) → length j′ ≡ length (lent n j) → Leaves (hostOn (worldOfNone (b .coupler) (lent k m) (lent n j)) (length (lent n j)) at bytes) (lent n j) (outcomeFor x) m′ [] [] j′ → StoreHanded at bytes (putMid 0 (k - 0) m m′) (putMid 0 (n - 0) j j′)
   unfolding storeOn
   store-handed at bytes j′ lj h =
-      let y : Leaves (storeOn b at bytes m j) (journalHanded b j) (outcomeFor x) m′ [] [] j′ = rw (← lent-front k m (handedAt b 0 .memory) f, ← lent-front n j (handedAt b 0 .journal) i) h in
+      let y : Leaves (storeOn b at bytes m j) (journalHanded b j) (outcomeFor x) m′ [] [] j′ = rw (lent-front k m (handedAt b 0 .memory) f, lent-front n j (handedAt b 0 .journal) i) at h in
       let z = storeOn b at bytes m j in
       (shared-is z (journalHanded b j) x m′ j′ y, (back k m m′ _ (handedAt b 0 .memory) f lm (stored-is z (journalHanded b j) x m′ j′ y), journal-handed n (handedAt b 0 .journal) _ _ j j′ i lj (left-is z (journalHanded b j) x m′ j′ y)))
 
   pub none-handed : Leaves (undoNone (worldOfNone (b .coupler) (lent k m) (lent n j))) (lent n j) (outcomeFor x) m′ [] [] (lent n j) → (x ≡ sharedOf (noneOn b m j)) × (putMid 0 (k - 0) m m′ ≡ sets m 0 (noneOn b m j .world .core .memory))
   unfolding noneOn
   none-handed h =
-      let y : Leaves (noneOn b m j) (journalHanded b j) (outcomeFor x) m′ [] [] (journalHanded b j) = rw (← lent-front k m (handedAt b 0 .memory) f, ← lent-front n j (handedAt b 0 .journal) i) h in
+      let y : Leaves (noneOn b m j) (journalHanded b j) (outcomeFor x) m′ [] [] (journalHanded b j) = rw (lent-front k m (handedAt b 0 .memory) f, lent-front n j (handedAt b 0 .journal) i) at h in
       let z = noneOn b m j in
       (shared-is z (journalHanded b j) x m′ (journalHanded b j) y, back k m m′ _ (handedAt b 0 .memory) f lm (stored-is z (journalHanded b j) x m′ (journalHanded b j) y))
 
@@ -205,7 +205,7 @@ module _ (b : Bench) (j : List ℕ) (n : ℕ) (i : n ≡ min (handedAt b 0 .jour
   pub refusal-is : (m : List ℕ) (k r : ℕ) (s0 s1 s2 s3 : Seat) → k ≡ min (handedAt b 0 .memory) (length m) → s0 ≡ seatAt b 0 → s1 ≡ seatAt b 1 → s2 ≡ seatAt b 2 → s3 ≡ seatAt b 3
       → r ≡ backRefusal (b .coupler) (rowOf (b .units) s0 s1 s2 s3) k (length (lent n j)) (namedIn (usedIn (b .coupler .used) (lent n j))) → r ≡ backRefused b m j
   unfolding backRefused newestAt
-  refusal-is m k r s0 s1 s2 s3 f e0 e1 e2 e3 h = rw (← e0, ← e1, ← e2, ← e3, front-long (handedAt b 0 .memory) m, ← f, ← lent-front n j (handedAt b 0 .journal) i) h
+  refusal-is m k r s0 s1 s2 s3 f e0 e1 e2 e3 h = rw (front-long (handedAt b 0 .memory) m) (rw (e0, e1, e2, e3, f, lent-front n j (handedAt b 0 .journal) i) at h)
 
   pub none-lent : (m : List ℕ) (k : ℕ) → k ≡ min (handedAt b 0 .memory) (length m) → NoneUndoable (b .coupler) (length (memoryHanded b m)) (length (journalHanded b j)) → NoneUndoable (b .coupler) (length (lent k m)) (length (lent n j))
   none-lent m k f x = rw (lent-front k m (handedAt b 0 .memory) f, lent-front n j (handedAt b 0 .journal) i) x
@@ -238,6 +238,6 @@ module _ (b : Bench) (m rs tbs j : List ℕ) (u n : ℕ) (dn : n ≡ backRefused
     back-unit g x m′ rs′ tbs′ j′ d h =
         let t : eqb (backRefused b m j) 0 ≡ true = eq-eqb (backRefused b m j) 0 (sym dn ∙ f) in
         let i : eqb (newestAt b j) transports ≡ false = ne-eqb (newestAt b j) transports (λ l. g (dk ∙ l)) in
-        let y : UnitDone b (newestAt b j) task.Undoes m rs tbs j x m′ rs′ tbs′ j′ = rw (← dk) d in
-        let z : r ≡ tellRound b (newestAt b j) x u = rw (← dk) h in
+        let y : UnitDone b (newestAt b j) task.Undoes m rs tbs j x m′ rs′ tbs′ j′ = rw dk at d in
+        let z : r ≡ tellRound b (newestAt b j) x u = rw dk at h in
         (rw (t, i) (z ∙ ap (λ (l : Told). tellRound b (newestAt b j) l u) (y .0)), (rw (t, i) (y .1 .0), (rw (t, i) (y .1 .1 .0), (rw (t, i) (y .1 .1 .1 .0), record { refused = λ l. absurd (not-both (eqb (backRefused b m j) 0) t l); none = λ _ l. absurd (not-both (eqb (newestAt b j) transports) l i); unit = λ _ _. y .1 .1 .1 .1 }))))

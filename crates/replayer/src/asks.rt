@@ -63,7 +63,7 @@ fn whose_ask(a: Ask) -> Whose
     }
 }
 
-pub fn whose(c: Call) -> Whose
+pub fn owner_of(c: Call) -> Whose
     ensures { λ r. ⌜ r ≡ whoseOf c ⌝ }
 {
     match c {

@@ -1,6 +1,6 @@
 // One line of the script carried out.
 use crate::asks::Whose;
-use crate::asks::whose;
+use crate::asks::owner_of;
 use crate::owns::build_for;
 use crate::owns::own;
 use crate::owns::table_for;
@@ -81,7 +81,7 @@ pub fn carry_out(
         Does::Arranges(a) => arrange(b, u, a, mem, reels, tables, jrnl),
         Does::Builds(k) => build_for(b, u, k, data, n, mem, reels),
         Does::Tables(t) => table_for(b, u, t, data, n, tables),
-        Does::Calls(c) => make_call(b, u, whose(c), &data[0..n], mem, reels, tables, jrnl),
+        Does::Calls(c) => make_call(b, u, owner_of(c), &data[0..n], mem, reels, tables, jrnl),
         Does::Wrong(f) => wrong(b, f),
     }
 }
