@@ -62,9 +62,11 @@ module _ (b : Bench) (k : ℕ) (c : Task) (m rs tbs j : List ℕ) where
 
   module _ (d : Desk) (e : d ≡ viewOf b k) where
     pub fit-part : UnitFits b k c m rs tbs j → FitOn d c m (lentPart reelRoom k rs) j
+    unfolding UnitFits
     fit-part x = rw (e, part-is reelRoom k rs) x
 
     pub unit-done : (t : Told) (m′ r′ tb′ j′ : List ℕ) → reelRoom * k + reelRoom ≤ length rs → tableRoom * k + tableRoom ≤ length tbs → length r′ ≡ length (lentPart reelRoom k rs) → length tb′ ≡ length (lentPart tableRoom k tbs) → Carried d k c m (lentPart reelRoom k rs) (lentPart tableRoom k tbs) j t m′ r′ tb′ j′ → UnitDone t m′ (putMid (reelRoom * k) (reelRoom * k + reelRoom - reelRoom * k) rs r′) (putMid (tableRoom * k) (tableRoom * k + tableRoom - tableRoom * k) tbs tb′) j′
+    unfolding unitTold unitMemory unitReels unitTables UnitJournal
     unit-done t m′ r′ tb′ j′ f g lr lt x =
         let y : Carried (viewOf b k) k c m (partOf reelRoom k rs) (partOf tableRoom k tbs) j t m′ r′ tb′ j′ = rw (e, part-is reelRoom k rs, part-is tableRoom k tbs) at x in
         (y .0, (y .1 .0, (part-back reelRoom k rs r′ _ f lr (y .1 .1 .0), (part-back tableRoom k tbs tb′ _ g lt (y .1 .1 .1 .0), y .1 .1 .1 .1))))
@@ -75,7 +77,8 @@ undoing (task.Makes c) = 0
 undoing task.Undoes = 1
 
 pub makes-fits : (b : Bench) (k : ℕ) (c : Own) (m rs tbs j : List ℕ) → UnitFits b k (task.Makes c) m rs tbs j
-makes-fits b k c m rs tbs j e = absurd (clash (ap undoing e))
+unfolding UnitFits
+makes-fits b k c m rs tbs j = λ e. absurd (clash (ap undoing e))
 
 pub not-both : (t : Bool) → t ≡ true → t ≡ false → ⊥
 not-both true h g = clash cc

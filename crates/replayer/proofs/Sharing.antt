@@ -173,11 +173,11 @@ module _ (b : Bench) (m j : List ℕ) (e : backRefused b m j ≡ 0) where
     seat-passed = rw (seat-is b (b .units) (newestAt b j) (unit-number .0) (unit-number .1)) at (passed .seats (newestAt b j) standing)
 
     pub unit-fits : (rs tbs : List ℕ) → 655360 ≤ length rs → UnitFits b (newestAt b j) task.Undoes m rs tbs j
-    unfolding handedAt
-    unit-fits rs tbs l i =
+    unfolding handedAt UnitFits
+    unit-fits rs tbs l =
         let k = newestAt b j in
         let n : length (partOf reelRoom k rs) ≡ reelRoom = length-part rs (reelRoom * k) reelRoom (omega (arith, unit-number .1)) in
-        record { sound = record { right = rw (part-long (handedAt b k .reel) reelRoom (partOf reelRoom k rs) n) seat-passed }; bare = passes .1 .0 }
+        λ i. record { sound = record { right = rw (part-long (handedAt b k .reel) reelRoom (partOf reelRoom k rs) n) seat-passed }; bare = passes .1 .0 }
 
 -- the same of the numbers that the code has
 module _ (b : Bench) (m rs tbs j : List ℕ) (n k : ℕ) (dn : n ≡ backRefused b m j) (f : n ≡ 0) (dk : k ≡ newestAt b j) (g : k ≡ transports → ⊥) where

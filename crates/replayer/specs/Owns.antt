@@ -20,22 +20,22 @@ use Rattle.replayer.specs.declared.asks.Task.the-variants as task
 
 -- what is done for unit k tells so much, and leaves these buffers
 module _ (b : Bench) (k : ℕ) (c : Task) (m rs tbs j : List ℕ) where
-  abbrev pub unitTold : Told
+  unfoldable pub unitTold : Told
   unitTold = handTold (viewOf b k) k c m (partOf reelRoom k rs) (partOf tableRoom k tbs) j
 
-  abbrev pub unitMemory : List ℕ
+  unfoldable pub unitMemory : List ℕ
   unitMemory = memoryKept (viewOf b k) k c m (partOf reelRoom k rs) (partOf tableRoom k tbs) j
 
-  abbrev pub unitReels : List ℕ
+  unfoldable pub unitReels : List ℕ
   unitReels = withPart reelRoom k rs (reelKept (viewOf b k) k c m (partOf reelRoom k rs) (partOf tableRoom k tbs) j)
 
-  abbrev pub unitTables : List ℕ
+  unfoldable pub unitTables : List ℕ
   unitTables = withPart tableRoom k tbs (tableKept (viewOf b k) k c m (partOf reelRoom k rs) (partOf tableRoom k tbs) j)
 
-  abbrev pub UnitJournal : List ℕ → Type 0
+  unfoldable pub UnitJournal : List ℕ → Type 0
   UnitJournal j′ = JournalFor (viewOf b k) k c m (partOf reelRoom k rs) (partOf tableRoom k tbs) j j′
 
-  abbrev pub UnitFits : Type 0
+  unfoldable pub UnitFits : Type 0
   UnitFits = FitOn (viewOf b k) c m (partOf reelRoom k rs) j
 
 -- unit k keeps its session, and unit u's fields are printed
