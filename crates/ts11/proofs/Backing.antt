@@ -25,7 +25,7 @@ use Rattle.entries.proofs.Used.{newest-inside}
 use Rattle.unit.specs.Cores.{Core}
 use Rattle.unit.proofs.Rows.{enough-before}
 use Rattle.worlds.specs.Calls.{outcome, refusedAs, undoBy, undoOn, undone, without}
-use Rattle.worlds.specs.Coupled.{Coupled, Deck, Rig, backOver, coreOf, coreOfNone, deckAt, deckOf, lifted, liftedNone, namedIn, noDeck, refusedWith, seatOf, undoNamed, undoNone, undoNoneBy, undoneNone, viewOf, viewOfNone, withCore, withMemory, worldOfNone}
+use Rattle.worlds.specs.Coupled.{Coupled, CoupledAnswer, Deck, Rig, backChecked, backOver, coreOf, coreOfNone, deckAt, deckOf, lifted, liftedNone, namedIn, noDeck, refusedWith, seatOf, seatsOf, undoNamed, undoNone, undoNoneBy, undoneNone, viewOf, viewOfNone, withCore, withMemory, worldOfNone}
 use Rattle.worlds.specs.Coupled as coupled
 use Rattle.worlds.specs.Looks.{lookAt, lookOf, looksChecked, looksRefusal, noLook}
 use Rattle.worlds.specs.Rows.{backRefusal, couplerChecked, couplerWrong, isMounted, noSeat, noTransport, rowChecked, rowOf, sessionOver, standingIn}
@@ -291,6 +291,24 @@ back-passed c row memory journal k h =
     let n = neither (ltb (c .used) entryBare) (not named) (q .0) in
     (eqb-true r 0 t, ltb-false (c .used) entryBare (n .0), not-false named (n .1)))
     (λ t. absurd (eqb-false r 0 t (rw t at h)))
+
+-- a step back that is done names one of four, or none
+pub done-few : (row : List UnitRecord) (sh m j : List ℕ) (bs : List Buffers) (i : Bool) → backGiven row sh m j bs .answer ≡ answer.Done i → namedIn (usedIn (shares.couplerIn sh .used) j) ≤ transports
+unfolding backGiven backOver
+done-few row sh m j bs i =
+    let w : Coupled = coupledIn row sh m j bs in
+    let n : ℕ = namedIn (usedIn (shares.couplerIn sh .used) j) in
+    let x : ℕ = backChecked w (length j) in
+    pick-told (λ (z : CoupledAnswer). z .answer ≡ answer.Done i → n ≤ transports) (anyBroken (take transports row)) (refusedWith 1 w) (pick (eqb x 0) (undoNamed w n) (refusedWith x w))
+    (λ t e. absurd (clash cc))
+    (λ t.
+    pick-told (λ (z : CoupledAnswer). z .answer ≡ answer.Done i → n ≤ transports) (eqb x 0) (undoNamed w n) (refusedWith x w)
+    (λ z e.
+    let p = back-passed (coupled.couplerIn w) (seatsOf (w .rig)) (length m) (length j) n (eqb-true x 0 z) .2 in
+    by-test (eqb n transports)
+    (λ v. omega (arith, eqb-true n transports v))
+    (λ v. let few = standing-is (seatsOf (w .rig)) n (rw v at p) .1 in omega (arith, few)))
+    (λ z e. absurd (clash cc)))
 
 -- the seats of four
 seats-are : (a b c d : UnitRecord) (b0 b1 b2 b3 : Buffers) (n : ℕ) → map seatOf (take transports (decksIn (rowFrom n a b c d) (b0 ∷ b1 ∷ b2 ∷ b3 ∷ []))) ≡ rowOf n (seatIn a (length (b0 .reel))) (seatIn b (length (b1 .reel))) (seatIn c (length (b2 .reel))) (seatIn d (length (b3 .reel)))

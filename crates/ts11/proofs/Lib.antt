@@ -4,3 +4,4 @@ pub mod Backing
 pub mod Lent
 pub mod Walking
 pub mod WalkingBack
+pub mod Fourth
