@@ -25,7 +25,7 @@ use Rattle.entries.proofs.Used.{newest-inside}
 use Rattle.unit.specs.Cores.{Core}
 use Rattle.unit.proofs.Rows.{enough-before}
 use Rattle.worlds.specs.Calls.{outcome, refusedAs, undoBy, undoOn, undone, without}
-use Rattle.worlds.specs.Coupled.{Coupled, CoupledAnswer, Deck, Rig, backChecked, backOver, coreOf, coreOfNone, deckAt, deckOf, lifted, liftedNone, namedIn, noDeck, refusedWith, seatOf, seatsOf, told, undoNamed, undoNone, undoNoneBy, undoneNone, viewOf, viewOfNone, withCore, withMemory, worldOfNone}
+use Rattle.worlds.specs.Coupled.{Coupled, Deck, Rig, backOver, coreOf, coreOfNone, deckAt, deckOf, lifted, liftedNone, namedIn, noDeck, refusedWith, seatOf, undoNamed, undoNone, undoNoneBy, undoneNone, viewOf, viewOfNone, withCore, withMemory, worldOfNone}
 use Rattle.worlds.specs.Coupled as coupled
 use Rattle.worlds.specs.Looks.{lookAt, lookOf, looksChecked, looksRefusal, noLook}
 use Rattle.worlds.specs.Rows.{backRefusal, couplerChecked, couplerWrong, isMounted, noSeat, noTransport, rowChecked, rowOf, sessionOver, standingIn}
@@ -37,7 +37,7 @@ use Rattle.worlds.specs.declared.Seat.{Seat}
 use Rattle.worlds.specs.declared.Session.{Session}
 use Rattle.worlds.specs.declared.Shared.{Shared}
 use Rattle.worlds.specs.declared.Transport.{Transport}
-use Rattle.worlds.proofs.Coupling.{CouplerPassed, coupler-passes, core-put, other-deck, put-core, refused-none, refused-same, row-passed, standing-is}
+use Rattle.worlds.proofs.Coupling.{CouplerPassed, coupler-passes, other-deck, refused-none, refused-same, row-passed, standing-is}
 use Rattle.worlds.proofs.Looking.{looks-refused}
 use Rattle.steps.specs.Readiness.{NoneUndoable, undoRefusal}
 use Rattle.steps.proofs.Backs.{none-done, none-refused, undo-done, undo-refused, unrefused-fits, unrefused-room, worldBack, worldBackNone}
@@ -708,8 +708,8 @@ module _ (sh m j : List ℕ) (x : ℕ) (dx : x ≡ looksRefusal (shares.couplerI
         let there : World = worldOf (y .world .number) (sessionOver (o .coupler) noTransport) m′ [] [] j in
         let is : backGiven [] sh m j bs ≡ liftedNone (coupledIn [] sh m j bs) y = given-none bs ∙ rw (eq-eqb x 0 h) (named-none bs) in
         let coupler : o .coupler ≡ record { used = y .world .ledger .used; memory = c₀ .memory; journal = y .world .ledger .length } =
-            coupler-is (o .coupler) (y .world .ledger .used) (c₀ .memory) (y .world .ledger .length) (ap (λ (w : World). w .ledger .used) (l .world))
-            (ap (λ (w : World). w .core .unit .lengths .memory) (l .world) ∙ ap (λ (v : Unit). v .lengths .memory) (keeps-unit (worldOfNone c₀ m j))) (ap (λ (w : World). w .ledger .length) (l .world)) in
+        coupler-is (o .coupler) (y .world .ledger .used) (c₀ .memory) (y .world .ledger .length) (ap (λ (w : World). w .ledger .used) (l .world))
+        (ap (λ (w : World). w .core .unit .lengths .memory) (l .world) ∙ ap (λ (v : Unit). v .lengths .memory) (keeps-unit (worldOfNone c₀ m j))) (ap (λ (w : World). w .ledger .length) (l .world)) in
         record {
           answer = dn ∙ ap numberOf (l .answer) ∙ rw is;
           row-is = rw is (no-row (y .answer) k₀ (withMemory (y .world .core .memory) (coupledIn [] sh m j bs .rig)) names-none);

@@ -26,7 +26,6 @@ use Rattle.records.specs.Shares.{sharesOf}
 use Rattle.records.specs.Shares as shares
 use Rattle.records.specs.declared.records.UnitRecord.{UnitRecord}
 use Rattle.ts11.specs.Given.{sharedAfter}
-use Rattle.ts11.specs.Rows.{noRecord}
 use Rattle.ts11.specs.declared.shared.Back.{Back}
 
 -- what a host store is lent, and leaves

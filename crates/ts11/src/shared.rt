@@ -75,14 +75,14 @@ fn kept(number: usize, record: UnitRecord) -> Back
 }
 
 // What is asked of a record: of one that is not in the row, or not mounted, nothing.
-fn look(present: bool, record: UnitRecord, reel: usize, memory: usize) -> Look
-    ensures { λ r. ⌜ r ≡ lookIn present memory «record» reel ⌝ }
+fn look(present: bool, u: UnitRecord, reel: usize, memory: usize) -> Look
+    ensures { λ r. ⌜ r ≡ lookIn present memory u reel ⌝ }
 {
-    if present & (record.numbers[19] != 0) {
-        let l = look_at(transport_in(record), reel, memory);
+    if present & (u.numbers[19] != 0) {
+        let l = look_at(transport_in(u), reel, memory);
         return Look {
             mounted: true,
-            wrong: !record_right(record) | l.wrong,
+            wrong: !record_right(u) | l.wrong,
             short: l.short,
         };
     }

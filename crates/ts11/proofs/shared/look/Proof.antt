@@ -22,7 +22,7 @@ unfolding transportIn
 returns c =
     let s = c .before .before .before .before .before .before in
     let a = s .args in
-    look-made (a .present) (a .memory) (a .«record») (a .reel) _ _ _ (c .before .before .before .transport-in .ensures) (c .before .before .look-at .ensures) (c .before .record-right .ensures) (c .before .before .before .before .if1 .taken)
+    look-made (a .present) (a .memory) (a .t2) (a .reel) _ _ _ (c .before .before .before .transport-in .ensures) (c .before .before .look-at .ensures) (c .before .record-right .ensures) (c .before .before .before .before .if1 .taken)
 
 no-look-requires : tie.Need-no-look-requires
 no-look-requires c κs = search needs
@@ -32,7 +32,7 @@ unfolding transportIn
 returns-2 c =
     let s = c .before .before .before in
     let a = s .args in
-    look-missed (a .present) (a .memory) (a .«record») (a .reel) _ (c .no-look .ensures) (c .before .if1 .left)
+    look-missed (a .present) (a .memory) (a .t2) (a .reel) _ (c .no-look .ensures) (c .before .if1 .left)
 
 pub look-spec : {M : Type 1} → statement M
 look-spec =
