@@ -8,7 +8,7 @@ use script::wipe;
 use state::{Attention, Characteristics, Lengths, Panel, Registers, Tape, Unit};
 use worlds::Session;
 
-#[derive(Drop)]
+#[derive(Clone, Copy)]
 pub struct Desk {
     pub session: Session,
     pub sizes: Sizes,

@@ -12,7 +12,7 @@ use script::Fault;
 pub use tables::tabled;
 
 // What a line has printed.
-#[derive(Drop)]
+#[derive(Clone, Copy)]
 pub enum Said {
     Nothing,
     // The line itself.
@@ -22,7 +22,7 @@ pub enum Said {
 }
 
 // What a line came to.
-#[derive(Drop)]
+#[derive(Clone, Copy)]
 pub struct Turn {
     pub desk: Desk,
     pub said: Said,

@@ -13,7 +13,7 @@ use state::Unit;
 use touched::Touched;
 
 // Which transport took a step, its state before it with the used places of the table, and what the step touches. A host store's names none.
-#[derive(Drop)]
+#[derive(Clone, Copy)]
 pub struct Entry {
     pub unit: Unit,
     pub objects: usize,

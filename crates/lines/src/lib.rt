@@ -14,7 +14,7 @@ use state::Act;
 pub use texts::line_of;
 
 // In bytes.
-#[derive(Drop)]
+#[derive(Clone, Copy)]
 pub struct Sizes {
     pub memory: usize,
     pub reel: usize,
@@ -23,7 +23,7 @@ pub struct Sizes {
 }
 
 // Lines that set the desk up.
-#[derive(Drop)]
+#[derive(Clone, Copy)]
 pub enum Arrange {
     Case,
     Sizes(Sizes),
@@ -35,7 +35,7 @@ pub enum Arrange {
 }
 
 // Lines that put bytes into memory or reel with no call: at a place, in a block, or at the cursor.
-#[derive(Drop)]
+#[derive(Clone, Copy)]
 pub enum Build {
     Poke(usize),
     PokeWord(usize, usize),
@@ -47,14 +47,14 @@ pub enum Build {
 }
 
 // Lines about the table with no call: its length, or bytes at a place.
-#[derive(Drop)]
+#[derive(Clone, Copy)]
 pub enum Table {
     Index(usize),
     Poke(usize),
 }
 
 // A step that is asked for.
-#[derive(Drop)]
+#[derive(Clone, Copy)]
 pub enum Ask {
     WriteTsdb(u16),
     WriteTssr,
@@ -64,7 +64,7 @@ pub enum Ask {
     Advance,
 }
 
-#[derive(Drop)]
+#[derive(Clone, Copy)]
 pub enum Call {
     // The recorded end; whether on line; whether locked.
     Mount(usize, bool, bool),
@@ -74,7 +74,7 @@ pub enum Call {
     StepBack,
 }
 
-#[derive(Drop)]
+#[derive(Clone, Copy)]
 pub enum Does {
     Nothing,
     Arranges(Arrange),
@@ -85,14 +85,14 @@ pub enum Does {
 }
 
 // The bytes that a line gives: none, those of a word, or so many made from a seed.
-#[derive(Drop)]
+#[derive(Clone, Copy)]
 pub enum Given {
     Nothing,
     Word(usize),
     Made(usize, usize),
 }
 
-#[derive(Drop)]
+#[derive(Clone, Copy)]
 pub struct Line {
     pub does: Does,
     pub given: Given,

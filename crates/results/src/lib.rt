@@ -8,7 +8,7 @@ pub use puts::{put_complaint, put_result};
 use worlds::Session;
 
 // What a call's line tells besides its answer: the length of the entry that it added, with the interrupt of an advance; or the word read.
-#[derive(Drop)]
+#[derive(Clone, Copy)]
 pub enum Also {
     Nothing,
     Entry(usize),
@@ -17,7 +17,7 @@ pub enum Also {
 }
 
 // What a call came to.
-#[derive(Drop)]
+#[derive(Clone, Copy)]
 pub struct Told {
     pub answer: Answer,
     pub also: Also,

@@ -12,7 +12,7 @@ pub use sums::{crc, crc_table};
 pub use words::{find, find_word, last, nth, place_in};
 
 // Why a line can't be read.
-#[derive(Drop)]
+#[derive(Clone, Copy)]
 pub enum Fault {
     UnknownWord,
     ExtraWord,
@@ -30,20 +30,20 @@ pub enum Fault {
     OtherRules,
 }
 
-#[derive(Drop)]
+#[derive(Clone, Copy)]
 pub enum Value {
     Is(usize),
     Wrong(Fault),
 }
 
-#[derive(Drop)]
+#[derive(Clone, Copy)]
 pub enum Three {
     Are(usize, usize, usize),
     Wrong(Fault),
 }
 
 // Where a word of a line stands; empty at the line's end where there is none.
-#[derive(Drop)]
+#[derive(Clone, Copy)]
 pub struct Span {
     pub start: usize,
     pub end: usize,

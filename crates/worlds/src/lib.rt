@@ -13,7 +13,7 @@ pub use rows::{
 use state::{Attention, Characteristics, Panel, Registers, Tape, Unit};
 
 // The unit's state, the used places of the table, and the used journal and the mount's journal length, in bytes.
-#[derive(Drop)]
+#[derive(Clone, Copy)]
 pub struct Session {
     pub unit: Unit,
     pub objects: usize,
@@ -24,7 +24,7 @@ pub struct Session {
 pub const JOURNAL_LIMIT: usize = 16777216;
 
 // A unit's record in the row: its state, the mount's reel length in blocks, and the used places of its table. Memory's length is the coupler's.
-#[derive(Drop)]
+#[derive(Clone, Copy)]
 pub struct Transport {
     pub tape: Tape,
     pub registers: Registers,
@@ -36,7 +36,7 @@ pub struct Transport {
 }
 
 // What the transports share: the used journal, and the last mount's lengths of memory and journal, in bytes.
-#[derive(Drop)]
+#[derive(Clone, Copy)]
 pub struct Coupler {
     pub used: usize,
     pub memory: usize,
@@ -44,35 +44,35 @@ pub struct Coupler {
 }
 
 // A transport with the length in bytes of the reel that it is lent.
-#[derive(Drop)]
+#[derive(Clone, Copy)]
 pub struct Seat {
     pub transport: Transport,
     pub reel: usize,
 }
 
 // What a call hands back.
-#[derive(Drop)]
+#[derive(Clone, Copy)]
 pub struct Outcome {
     pub answer: Answer,
     pub session: Session,
 }
 
 // What a call of no transport hands back.
-#[derive(Drop)]
+#[derive(Clone, Copy)]
 pub struct Shared {
     pub answer: Answer,
     pub coupler: Coupler,
 }
 
 // What reading a register hands back.
-#[derive(Drop)]
+#[derive(Clone, Copy)]
 pub struct RegisterRead {
     pub answer: Answer,
     pub word: u16,
 }
 
 // What a look-up in the table hands back.
-#[derive(Drop)]
+#[derive(Clone, Copy)]
 pub struct Finding {
     pub answer: Answer,
     pub found: Found,
