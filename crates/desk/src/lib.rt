@@ -1,4 +1,6 @@
 // The desk that the lines of a session script change, and what each line does to it and to the buffers, but for the calls.
+#![tactic(auto)]
+
 mod arranges;
 mod builds;
 mod desk;

@@ -1,5 +1,7 @@
 // What a journal entry keeps: the whole state before the step, and the bytes at the places that the step touches. It can be read from both
 // ends: its length stands at its front, and its head at its end.
+#![tactic(auto)]
+
 mod bytes;
 mod entering;
 mod numbers;

@@ -1,5 +1,7 @@
 // A table beside the reel: eight bytes for each object, its first block and the number of marks before it. A mount fills it, writes cut and extend
 // it, and two look-ups find a file or a block in it by halving.
+#![tactic(auto)]
+
 mod cutting;
 mod filling;
 mod finding;

@@ -1,5 +1,7 @@
 // The calls that the debugger makes, in code: each with its refusals and its journal entry, and the step back. What they mean stands in
 // crate worlds.
+#![tactic(auto)]
+
 mod calls;
 mod finds;
 

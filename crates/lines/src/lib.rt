@@ -1,4 +1,6 @@
 // A line of a session script as a value: what it asks for, its words and numbers read.
+#![tactic(auto)]
+
 mod arranges;
 mod builds;
 mod calls;

@@ -1,4 +1,6 @@
 // What is printed: the result line of a call with the session's fields, and the line that says which line of the script can't be taken.
+#![tactic(auto)]
+
 mod fields;
 mod puts;
 

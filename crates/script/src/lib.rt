@@ -1,4 +1,6 @@
 // The text of a session script: the words of a line, numbers and bytes in them, and what is printed of a result.
+#![tactic(auto)]
+
 mod fills;
 mod prints;
 mod reads;

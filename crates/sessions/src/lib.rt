@@ -24,3 +24,4 @@
 //              what was undone never was                                    never_was      proofs/Calls.antt
 //
 // A session is a log (specs/Session.antt, for any machine with a law of undo); specs/Calling.antt makes the calls that machine.
+#![tactic(auto)]

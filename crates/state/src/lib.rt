@@ -1,4 +1,6 @@
 // The unit's state by value, with methods that hand back the next state.
+#![tactic(auto)]
+
 mod act;
 mod check;
 mod register;

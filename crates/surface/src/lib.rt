@@ -28,3 +28,4 @@
 //   exactly where file f begins, or block k's object stands
 //
 // specs/Hosting.antt says what a host holds and what its calls are; specs/Following.antt what it is for a host's log to follow a session's.
+#![tactic(auto)]

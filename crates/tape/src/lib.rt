@@ -1,4 +1,6 @@
 // What a reel is: its geometry, and the answers that reading it can give. The meaning stands in specs/.
+#![tactic(auto)]
+
 ghost use Rattle.std.specs.Prelude.{◌≡◌};
 ghost use Rattle.tape.specs.Letters.{letter_of};
 ghost use Rattle.tape.specs.Numbers.{eot_marker, pieces_of};

@@ -1,5 +1,7 @@
 // What a step touches in memory, reel and table, as a value: the unit hands it to the journal before anything is stored, and the journal
 // saves and brings back the bytes at these places without knowing what the step is.
+#![tactic(auto)]
+
 mod saving;
 
 pub use saving::{bring_back, nothing, save, saved_length, touched_fits};

@@ -1,5 +1,7 @@
 // The eight calls by their meaning: specs/Calls.antt has each as a function of the world. The code is in crate journal; here stand only the
 // values that the calls take and hand back, and the checks that each makes first.
+#![tactic(auto)]
+
 mod checks;
 mod rows;
 

@@ -1,0 +1,6 @@
+-- `fresh` is its definition.
+use borrow.Author.Rules.{rules}
+use Rattle.desk.proofs.desk.fresh.Goals as goal
+
+pub returns : goal.returns
+returns c = rw (c.no_session.ensures, c.no_sizes.ensures, c.no_sizes-2.ensures)

@@ -1,0 +1,8 @@
+-- `block_right` meets its contract: the block's numbers, tested.
+use Rattle.stateblock.specs.Block.{is_block}
+use borrow.Author.Rules.{rules}
+use Rattle.stateblock.proofs.block.block_right.Goals as goal
+
+pub returns : goal.returns
+unfolding is_block
+returns c = rw (c.number_at.ensures, c.rest_zero.ensures, c.flags_right.ensures, c.head_at-n.ensures)
