@@ -3,7 +3,6 @@ use borrow.Author.Rules.{rules}
 use native.Mathlib.Omega.{arith}
 use mathlib.Core.Bool.{true}
 use mathlib.Core.Path.{◌≡◌, refl, sym, ◌∙◌}
-use mathlib.Core.Logic.{⊎_elim}
 use Prim.Native.Nat.{◌≤◌, ◌-◌, ◌+◌, ◌%◌}
 use lib.ListN.{length}
 use lib.Seq.{sets}
@@ -11,6 +10,7 @@ use Rattle.lists.specs.Places.{gathered}
 use Rattle.lists.proofs.Placed.{gather_more, gathered_none, place_in}
 use Rattle.lists.proofs.Swapped.{Gathering, gather_first, gather_none, gather_words, odd_test, word_test}
 use Rattle.lists.proofs.places.gather_swapped.Goals as goal
+use Rattle.lists.proofs.places.gather_swapped.Goals.{then-a-n, else-a-n}
 
 pub overflow_sub-b : goal.overflow_sub-b
 overflow_sub-b c = omega (arith, odd_test c.args.a (length c.args.b.now) c.if-a-n.true)
@@ -23,7 +23,7 @@ bounds-b-0 c = omega (arith, odd_test c.args.a (length c.args.b.now) c.if-a-n.tr
 
 pub loop-i-init : goal.loop-i-init
 loop-i-init c =
-    let begun : Gathering c.args.b.now c.args.mem.now c.args.a c.if-a-n.b c.if-a-n.i = ⊎_elim (λ w. gather_first c.args.b.now c.args.mem.now c.args.a w.0.taken w.2 w.3) (λ w. gather_none c.args.b.now c.args.mem.now c.args.a w.1 w.2) c.if-a-n.branch in
+    let begun : Gathering c.args.b.now c.args.mem.now c.args.a c.if-a-n.b c.if-a-n.i = elim c.if-a-n.branch [ then-a-n w ↦ gather_first c.args.b.now c.args.mem.now c.args.a w.if-a-n.true w.b-is w.i-is | else-a-n w ↦ gather_none c.args.b.now c.args.mem.now c.args.a w.b-is w.i-is ] in
     let b = begun in
     (b.0, b.2, refl)
 
@@ -64,5 +64,5 @@ loop-i-2-preserved c =
 
 pub returns : goal.returns
 returns c =
-    let begun : Gathering c.args.b.now c.args.mem.now c.args.a c.if-a-n.b c.if-a-n.i = ⊎_elim (λ w. gather_first c.args.b.now c.args.mem.now c.args.a w.0.taken w.2 w.3) (λ w. gather_none c.args.b.now c.args.mem.now c.args.a w.1 w.2) c.if-a-n.branch in
+    let begun : Gathering c.args.b.now c.args.mem.now c.args.a c.if-a-n.b c.if-a-n.i = elim c.if-a-n.branch [ then-a-n w ↦ gather_first c.args.b.now c.args.mem.now c.args.a w.if-a-n.true w.b-is w.i-is | else-a-n w ↦ gather_none c.args.b.now c.args.mem.now c.args.a w.b-is w.i-is ] in
     sym (gathered_none true c.loop-i-2.b c.args.mem.now c.loop-i-2.i (c.args.a + c.loop-i-2.i) (length c.args.b.now - c.loop-i-2.i) (omega arith)) ∙ c.loop-i-2.invariant.2 ∙ c.loop-i.invariant.2 ∙ (begun).1

@@ -3,13 +3,13 @@ use borrow.Author.Rules.{rules}
 use native.Mathlib.Omega.{arith}
 use mathlib.Core.Bool.{true}
 use mathlib.Core.Path.{◌≡◌, refl, sym, ◌∙◌}
-use mathlib.Core.Logic.{⊎_elim}
 use Prim.Native.Nat.{◌≤◌, ◌-◌, ◌+◌, ◌%◌}
 use lib.ListN.{length, drop}
 use Rattle.lists.specs.Places.{placed}
 use Rattle.lists.proofs.Placed.{place_in, place_more, placed_none_lem}
 use Rattle.lists.proofs.Swapped.{Scattering, odd_test, scatter_first, scatter_none, scatter_words, word_test}
 use Rattle.lists.proofs.places.scatter_swapped.Goals as goal
+use Rattle.lists.proofs.places.scatter_swapped.Goals.{then-a-d, else-a-d}
 
 pub bounds-d-0 : goal.bounds-d-0
 bounds-d-0 c = omega (arith, odd_test c.args.a (length c.args.d.now) c.if-a-d.true)
@@ -22,7 +22,7 @@ bounds-mem-a c = omega (arith, odd_test c.args.a (length c.args.d.now) c.if-a-d.
 
 pub loop-i-init : goal.loop-i-init
 loop-i-init c =
-    let begun : Scattering c.args.mem.now c.args.d.now c.args.a c.if-a-d.mem c.if-a-d.i = ⊎_elim (λ w. scatter_first c.args.mem.now c.args.d.now c.args.a w.0.taken w.2 w.3) (λ w. scatter_none c.args.mem.now c.args.d.now c.args.a w.1 w.2) c.if-a-d.branch in
+    let begun : Scattering c.args.mem.now c.args.d.now c.args.a c.if-a-d.mem c.if-a-d.i = elim c.if-a-d.branch [ then-a-d w ↦ scatter_first c.args.mem.now c.args.d.now c.args.a w.if-a-d.true w.mem-is w.i-is | else-a-d w ↦ scatter_none c.args.mem.now c.args.d.now c.args.a w.mem-is w.i-is ] in
     let b = begun in
     (b.0, omega arith, rw b.2 (search rules), refl, refl)
 
@@ -60,11 +60,11 @@ loop-i-2-preserved c = (search rules, search rules, search rules, search rules, 
 
 pub shape_of-mem : goal.shape_of-mem
 shape_of-mem c =
-    let begun : Scattering c.args.mem.now c.args.d.now c.args.a c.if-a-d.mem c.if-a-d.i = ⊎_elim (λ w. scatter_first c.args.mem.now c.args.d.now c.args.a w.0.taken w.2 w.3) (λ w. scatter_none c.args.mem.now c.args.d.now c.args.a w.1 w.2) c.if-a-d.branch in
+    let begun : Scattering c.args.mem.now c.args.d.now c.args.a c.if-a-d.mem c.if-a-d.i = elim c.if-a-d.branch [ then-a-d w ↦ scatter_first c.args.mem.now c.args.d.now c.args.a w.if-a-d.true w.mem-is w.i-is | else-a-d w ↦ scatter_none c.args.mem.now c.args.d.now c.args.a w.mem-is w.i-is ] in
     let b = begun in
     omega arith
 
 pub returns : goal.returns
 returns c =
-    let begun : Scattering c.args.mem.now c.args.d.now c.args.a c.if-a-d.mem c.if-a-d.i = ⊎_elim (λ w. scatter_first c.args.mem.now c.args.d.now c.args.a w.0.taken w.2 w.3) (λ w. scatter_none c.args.mem.now c.args.d.now c.args.a w.1 w.2) c.if-a-d.branch in
+    let begun : Scattering c.args.mem.now c.args.d.now c.args.a c.if-a-d.mem c.if-a-d.i = elim c.if-a-d.branch [ then-a-d w ↦ scatter_first c.args.mem.now c.args.d.now c.args.a w.if-a-d.true w.mem-is w.i-is | else-a-d w ↦ scatter_none c.args.mem.now c.args.d.now c.args.a w.mem-is w.i-is ] in
     sym (placed_none_lem true c.loop-i-2.mem c.args.d.now (c.args.a + c.loop-i-2.i) c.loop-i-2.i (omega arith)) ∙ c.loop-i-2.invariant.4 ∙ c.loop-i.invariant.4 ∙ (begun).1
