@@ -8,8 +8,8 @@ use Rattle.advance.proofs.steps.step_owner.Goals as goal
 
 pub returns-then-not-owns : goal.returns-then-not-owns
 unfolding step_owner_under plan_of_under plan_by_under
-returns-then-not-owns c = rw (not-true (c.args.u.attention.unit_owns || c.args.h.ack) c.if-not-owns.true)
+returns-then-not-owns c = rw (c.if-not-owns.true)
 
 pub returns : goal.returns
 unfolding step_owner_under
-returns c = rw (← c.step_attention.ensures, not-false (c.args.u.attention.unit_owns || c.args.h.ack) c.if-not-owns.false)
+returns c = rw (← c.step_attention.ensures, c.if-not-owns.false)

@@ -6,16 +6,16 @@ use Rattle.unit.proofs.mounting.mount_refusal.Goals as goal
 
 pub returns-then-not-memory_right : goal.returns-then-not-memory_right
 unfolding mount_refusal
-returns-then-not-memory_right c = rw (← c.memory_right.ensures, not-true c.memory_right.result c.if-not-memory_right.true)
+returns-then-not-memory_right c = rw (← c.memory_right.ensures, c.if-not-memory_right.true)
 
 pub returns-then-reel-blocks_right : goal.returns-then-reel-blocks_right
 unfolding mount_refusal
 returns-then-reel-blocks_right c =
     let m = c.memory_right in
-    rw (← m.ensures, not-false m.result c.if-not-memory_right.false, ← c.blocks_right.ensures, c.if-reel-blocks_right.true)
+    rw (← m.ensures, c.if-not-memory_right.false, ← c.blocks_right.ensures, c.if-reel-blocks_right.true)
 
 pub returns : goal.returns
 unfolding mount_refusal
 returns c =
     let m = c.memory_right in
-    rw (← m.ensures, not-false m.result c.if-not-memory_right.false, ← c.blocks_right.ensures, c.if-reel-blocks_right.false)
+    rw (← m.ensures, c.if-not-memory_right.false, ← c.blocks_right.ensures, c.if-reel-blocks_right.false)
