@@ -13,4 +13,4 @@ pub returns-then-kind-eq-MARK_KIND : goal.returns-then-kind-eq-MARK_KIND
 returns-then-kind-eq-MARK_KIND c = mark_counted c.args.table.now c.args.reel.now c.args.m _ _ _ c.if-m-eq0.false c.number_at-marks.ensures c.number_at.ensures c.kind_at-kind.ensures c.if-kind-eq-MARK_KIND.true
 
 pub returns : goal.returns
-returns c = none_counted c.args.table.now c.args.reel.now c.args.m _ _ _ c.if-m-eq0.false c.number_at-marks.ensures c.number_at.ensures c.kind_at-kind.ensures c.if-kind-eq-MARK_KIND.false (omega (arith, c.number_at-marks.type-inv))
+returns c = none_counted c.args.table.now c.args.reel.now c.args.m _ _ _ c.if-m-eq0.false c.number_at-marks.ensures c.number_at.ensures c.kind_at-kind.ensures c.if-kind-eq-MARK_KIND.false (omega (arith, c.number_at-marks.type_inv))

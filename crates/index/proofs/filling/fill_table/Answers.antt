@@ -17,11 +17,6 @@ use Rattle.index.proofs.Stood.{below_nth, blocks_at_nth, marks_below_nth, marks_
 use Rattle.index.proofs.Tables.{marks_more}
 use Rattle.index.proofs.filling.fill_table.Goals as goal
 
--- the objects, at the loop's own place; there is another one
-
-abbrev objectsAt : tie.In-loop invariant-loop decreases-loop → List Object
-objectsAt c = objects_in c.before.before.before.before.args.reel.now c.before.before.before.before.args.e
-
 pub loop-p-init : goal.loop-p-init
 unfolding blocks_of marks_of table_from
 loop-p-init c = (omega arith, refl, refl, refl)
@@ -31,43 +26,43 @@ marks_on-requires c = omega (arith, holds_room c.requires.0)
 
 pub overflow_add-beyond : goal.overflow_add-beyond
 overflow_add-beyond c =
-    let more : c.loop-p.n < length (objectsAt c) = more_below c.requires.0 c.loop-p.n (omega arith) in
-    let marked : c.marks_on.result ≡ marks_in (nth (objectsAt c.before) c.loop-p.n) = c.marks_on.ensures ∙ ap (marks_on c.args.reel.now) c.loop-p.invariant.1 ∙ marks_on_nth c.requires.0 c.loop-p.n (more) in
+    let more : c.loop-p.n < length (objects_in c.args.reel.now c.args.e) = more_below c.requires.0 c.loop-p.n (omega arith) in
+    let marked : c.marks_on.result ≡ marks_in (nth (objects_in c.args.reel.now c.args.e) c.loop-p.n) = c.marks_on.ensures ∙ ap (marks_on c.args.reel.now) c.loop-p.invariant.1 ∙ marks_on_nth c.requires.0 c.loop-p.n (more) in
     omega (arith, marked, marks_below_nth c.requires.0 c.loop-p.n (more))
 
 pub put_place-requires : goal.put_place-requires
 put_place-requires c =
-    let more : c.loop-p.n < length (objectsAt c) = more_below c.requires.0 c.loop-p.n (omega arith) in
+    let more : c.loop-p.n < length (objects_in c.args.reel.now c.args.e) = more_below c.requires.0 c.loop-p.n (omega arith) in
     let l = c.loop-p in
-    omega (arith, more, ap length l.invariant.3, length-sets c.args.table.now 0 (table_of (take l.n (objectsAt i))))
+    omega (arith, more, ap length l.invariant.3, length-sets c.args.table.now 0 (table_of (take l.n (objects_in c.args.reel.now c.args.e))))
 
 pub blocks_at-p-requires : goal.blocks_at-p-requires
 blocks_at-p-requires c = omega (arith, holds_room c.requires.0)
 
 pub overflow_add-p : goal.overflow_add-p
 overflow_add-p c =
-    let more : c.loop-p.n < length (objectsAt c) = more_below c.requires.0 c.loop-p.n (omega arith) in
-    let added : c.blocks_at-p.result ≡ blocks_in (nth (objectsAt c.before.before.before.before.before.before) c.loop-p.n) = c.blocks_at-p.ensures ∙ ap (blocks_at c.args.reel.now) c.loop-p.invariant.1 ∙ blocks_at_nth c.requires.0 c.loop-p.n (more) in
+    let more : c.loop-p.n < length (objects_in c.args.reel.now c.args.e) = more_below c.requires.0 c.loop-p.n (omega arith) in
+    let added : c.blocks_at-p.result ≡ blocks_in (nth (objects_in c.args.reel.now c.args.e) c.loop-p.n) = c.blocks_at-p.ensures ∙ ap (blocks_at c.args.reel.now) c.loop-p.invariant.1 ∙ blocks_at_nth c.requires.0 c.loop-p.n (more) in
     omega (arith, added, below_nth c.requires.0 c.loop-p.n (more))
 
 pub overflow_add-n : goal.overflow_add-n
 overflow_add-n c =
-    let more : c.loop-p.n < length (objectsAt c) = more_below c.requires.0 c.loop-p.n (omega arith) in
+    let more : c.loop-p.n < length (objects_in c.args.reel.now c.args.e) = more_below c.requires.0 c.loop-p.n (omega arith) in
     let h = c.requires.0 in
     omega (arith, more, objects_few h.allowed, h.ends)
 
 pub loop-p-smaller : goal.loop-p-smaller
 loop-p-smaller c =
-    let more : c.loop-p.n < length (objectsAt c) = more_below c.requires.0 c.loop-p.n (omega arith) in
+    let more : c.loop-p.n < length (objects_in c.args.reel.now c.args.e) = more_below c.requires.0 c.loop-p.n (omega arith) in
     omega (arith, more)
 
 pub loop-p-preserved : goal.loop-p-preserved
 loop-p-preserved c =
-    let more : c.loop-p.n < length (objectsAt c) = more_below c.requires.0 c.loop-p.n (omega arith) in
-    let added : c.blocks_at-p.result ≡ blocks_in (nth (objectsAt c.before.before.before.before.before.before) c.loop-p.n) = c.blocks_at-p.ensures ∙ ap (blocks_at c.args.reel.now) c.loop-p.invariant.1 ∙ blocks_at_nth c.requires.0 c.loop-p.n (more) in
-    let marked : c.marks_on.result ≡ marks_in (nth (objectsAt c.before) c.loop-p.n) = c.marks_on.ensures ∙ ap (marks_on c.args.reel.now) c.loop-p.invariant.1 ∙ marks_on_nth c.requires.0 c.loop-p.n (more) in
+    let more : c.loop-p.n < length (objects_in c.args.reel.now c.args.e) = more_below c.requires.0 c.loop-p.n (omega arith) in
+    let added : c.blocks_at-p.result ≡ blocks_in (nth (objects_in c.args.reel.now c.args.e) c.loop-p.n) = c.blocks_at-p.ensures ∙ ap (blocks_at c.args.reel.now) c.loop-p.invariant.1 ∙ blocks_at_nth c.requires.0 c.loop-p.n (more) in
+    let marked : c.marks_on.result ≡ marks_in (nth (objects_in c.args.reel.now c.args.e) c.loop-p.n) = c.marks_on.ensures ∙ ap (marks_on c.args.reel.now) c.loop-p.invariant.1 ∙ marks_on_nth c.requires.0 c.loop-p.n (more) in
     let l = c.loop-p in
-    let os = objectsAt i in
+    let os = objects_in c.args.reel.now c.args.e in
     let m = more in
     (omega (arith, m), omega (arith, added, blocks_more os l.n m), omega (arith, marked, marks_more os l.n m), fill_turn os c.args.table.now l.table _ l.n l.p l.marks m l.invariant.1 l.invariant.2 l.invariant.3 c.put_place.ensures)
 

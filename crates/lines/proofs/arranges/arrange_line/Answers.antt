@@ -18,4 +18,4 @@ returns-in-2 c = rw c.in-2.is c.lens_line.ensures
 
 pub returns-in_default : goal.returns-in_default
 unfolding arranging
-returns-in_default c = rw (ne_eqb c.args.k 0 c.in_default.rest.0.0.1, ne_eqb c.args.k 1 c.in_default.rest.0.1, ne_eqb c.args.k 2 c.in_default.rest.1) c.set_line.ensures
+returns-in_default c = rw (ne_eqb c.args.k 0 c.in_default.in_default-own.rest.0.0.1, ne_eqb c.args.k 1 c.in_default.in_default-own.rest.0.1, ne_eqb c.args.k 2 c.in_default.in_default-own.rest.1) c.set_line.ensures

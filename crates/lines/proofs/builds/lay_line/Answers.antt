@@ -18,4 +18,4 @@ returns-in-10 c = rw c.in-10.is c.builds.ensures
 
 pub returns-in_default : goal.returns-in_default
 unfolding laying
-returns-in_default c = rw (ne_eqb c.args.k 8 c.in_default.rest.0.0.1, ne_eqb c.args.k 9 c.in_default.rest.0.1, ne_eqb c.args.k 10 c.in_default.rest.1) c.builds-in_default.ensures
+returns-in_default c = rw (ne_eqb c.args.k 8 c.in_default.in_default-own.rest.0.0.1, ne_eqb c.args.k 9 c.in_default.in_default-own.rest.0.1, ne_eqb c.args.k 10 c.in_default.in_default-own.rest.1) c.builds-in_default.ensures

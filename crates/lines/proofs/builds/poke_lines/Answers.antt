@@ -18,4 +18,4 @@ returns-in-6 c = rw c.in-6.is c.poke_line-in-6.ensures
 
 pub returns-in_default : goal.returns-in_default
 unfolding poking
-returns-in_default c = rw (ne_eqb c.args.k 4 c.in_default.rest.0.0.1, ne_eqb c.args.k 5 c.in_default.rest.0.1, ne_eqb c.args.k 6 c.in_default.rest.1) c.sum_line.ensures
+returns-in_default c = rw (ne_eqb c.args.k 4 c.in_default.in_default-own.rest.0.0.1, ne_eqb c.args.k 5 c.in_default.in_default-own.rest.0.1, ne_eqb c.args.k 6 c.in_default.in_default-own.rest.1) c.sum_line.ensures

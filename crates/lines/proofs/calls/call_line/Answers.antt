@@ -38,4 +38,4 @@ returns-in-19 c = rw c.in-19.is c.asks.ensures
 
 pub returns-in_default : goal.returns-in_default
 unfolding calling
-returns-in_default c = rw (ne_eqb c.args.k 12 c.in_default.rest.0.0.0.0.0.0.0.1, ne_eqb c.args.k 13 c.in_default.rest.0.0.0.0.0.0.1, ne_eqb c.args.k 14 c.in_default.rest.0.0.0.0.0.1, ne_eqb c.args.k 15 c.in_default.rest.0.0.0.0.1, ne_eqb c.args.k 16 c.in_default.rest.0.0.0.1, ne_eqb c.args.k 17 c.in_default.rest.0.0.1, ne_eqb c.args.k 18 c.in_default.rest.0.1, ne_eqb c.args.k 19 c.in_default.rest.1) c.calls.ensures
+returns-in_default c = rw (ne_eqb c.args.k 12 c.in_default.in_default-own.rest.0.0.0.0.0.0.0.1, ne_eqb c.args.k 13 c.in_default.in_default-own.rest.0.0.0.0.0.0.1, ne_eqb c.args.k 14 c.in_default.in_default-own.rest.0.0.0.0.0.1, ne_eqb c.args.k 15 c.in_default.in_default-own.rest.0.0.0.0.1, ne_eqb c.args.k 16 c.in_default.in_default-own.rest.0.0.0.1, ne_eqb c.args.k 17 c.in_default.in_default-own.rest.0.0.1, ne_eqb c.args.k 18 c.in_default.in_default-own.rest.0.1, ne_eqb c.args.k 19 c.in_default.in_default-own.rest.1) c.calls.ensures

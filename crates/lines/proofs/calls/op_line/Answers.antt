@@ -22,4 +22,4 @@ returns-in-3 c = at_place operate_by _ _ _ _ c.find_word.ensures c.in-3.is c.ask
 
 pub returns-in_default : goal.returns-in_default
 unfolding op_line operate_by
-returns-in_default c = rw (← c.find_word.ensures) (operate_none _ _ c.in_default.rest.0.0.0.1 c.in_default.rest.0.0.1 c.in_default.rest.0.1 c.in_default.rest.1 c.wrong.ensures)
+returns-in_default c = rw (← c.find_word.ensures) (operate_none _ _ c.in_default.in_default-own.rest.0.0.0.1 c.in_default.in_default-own.rest.0.0.1 c.in_default.in_default-own.rest.0.1 c.in_default.in_default-own.rest.1 c.wrong.ensures)

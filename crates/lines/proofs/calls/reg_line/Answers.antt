@@ -14,4 +14,4 @@ returns-in-1 c = at_place register_by _ _ _ _ c.find_word.ensures c.in-1.is c.ca
 
 pub returns-in_default : goal.returns-in_default
 unfolding reg_line register_by
-returns-in_default c = rw (← c.find_word.ensures) (register_none _ _ c.in_default.rest.0.1 c.in_default.rest.1 c.wrong.ensures)
+returns-in_default c = rw (← c.find_word.ensures) (register_none _ _ c.in_default.in_default-own.rest.0.1 c.in_default.in_default-own.rest.1 c.wrong.ensures)

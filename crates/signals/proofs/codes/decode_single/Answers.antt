@@ -9,4 +9,4 @@ returns-in-0 c = rw c.in-0.is
 
 pub returns-in_default : goal.returns-in_default
 unfolding single_mode
-returns-in_default c = simp (ne_eqb _ _ c.in_default.rest.1)
+returns-in_default c = simp (ne_eqb _ _ c.in_default.in_default-own.rest.1)
