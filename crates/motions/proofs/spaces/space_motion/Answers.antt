@@ -10,4 +10,4 @@ returns-in-Bad c = rw c.in-Bad.is
 
 pub returns : goal.returns
 unfolding space_motion
-returns c = rw (c.no_lay-laid.ensures, c.no_move-moved.ensures, c.space_end-end.ensures) (not_bad _ _ _ _ c.in_default.keys2)
+returns c = rw (c.no_lay-laid.ensures, c.no_move-moved.ensures, c.space_end-end.ensures) (not_bad _ _ _ _ c.in_default.in_default-own.keys2)
