@@ -1,4 +1,5 @@
 -- `carry_out` meets its contract: three commands apart, and all else by its motion.
+use borrow.Enum.Refused.{opened}
 use mathlib.Core.Path.{ap, ◌∙◌}
 use Rattle.commands.specs.Ends.{motion_plan}
 use Rattle.commands.specs.Commands.{carried_out_under}
@@ -25,4 +26,4 @@ pub returns : goal.returns
 returns c =
     c.told_course.ensures
     ∙ ap (motion_plan c.args.u c.args.h.ie) c.move_tape.ensures
-    ∙ ends_as_moved c.args.u c.args.mem.now c.args.reel.now c.args.h c.args.p c.args.c c.in_default.in_default-own.keys2 c.in_default-c.in_default-c-own.keys2 c.in_default-c-2.in_default-c-2-own.keys2
+    ∙ ends_as_moved c.args.u c.args.mem.now c.args.reel.now c.args.h c.args.p c.args.c (opened c.in_default.in_default-own.keys2) (opened c.in_default-c.in_default-c-own.keys2) (opened c.in_default-c-2.in_default-c-2-own.keys2)

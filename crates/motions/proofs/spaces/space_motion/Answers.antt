@@ -1,4 +1,5 @@
 -- `space_motion` meets its contract.
+use borrow.Enum.Refused.{opened}
 use borrow.Author.Rules.{rules}
 use Rattle.motions.specs.Spaces.{space_motion, space_motion_by}
 use Rattle.motions.proofs.Stops.{not_bad}
@@ -10,4 +11,4 @@ returns-in-Bad c = rw c.in-Bad.is
 
 pub returns : goal.returns
 unfolding space_motion
-returns c = rw (c.no_lay-laid.ensures, c.no_move-moved.ensures, c.space_end-end.ensures) (not_bad _ _ _ _ c.in_default.in_default-own.keys2)
+returns c = rw (c.no_lay-laid.ensures, c.no_move-moved.ensures, c.space_end-end.ensures) (not_bad _ _ _ _ (opened c.in_default.in_default-own.keys2))

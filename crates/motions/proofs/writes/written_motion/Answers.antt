@@ -11,10 +11,11 @@ use Rattle.tape.specs.Numbers.{eot_marker}
 use Rattle.motions.specs.Parts.{laid_blocks}
 use Rattle.motions.specs.Writes.{written_motion_under}
 use Rattle.motions.proofs.writes.written_motion.Goals as goal
+use Rattle.motions.proofs.writes.written_motion.Goals.{then-marker-after, else-marker-after}
 
 pub returns : goal.returns
 unfolding written_motion_under
 returns c =
     let i = c.if-marker-after in
-    let k : i.class ≡ pick (leb (eot_marker c.args.blocks) (c.args.l.at + laid_blocks c.args.l)) 2 0 = ⊎_elim (λ w. w.1 ∙ rw (le-leb (eot_marker c.args.blocks) (c.args.l.at + laid_blocks c.args.l) (omega arith))) (λ w. w.1 ∙ rw (lt-leb (eot_marker c.args.blocks) (c.args.l.at + laid_blocks c.args.l) (omega arith))) i.branch in
+    let k : i.class ≡ pick (leb (eot_marker c.args.blocks) (c.args.l.at + laid_blocks c.args.l)) 2 0 = elim i.branch [ then-marker-after w ↦ w.class-is ∙ rw (le-leb (eot_marker c.args.blocks) (c.args.l.at + laid_blocks c.args.l) (omega arith)) | else-marker-after w ↦ w.class-is ∙ rw (lt-leb (eot_marker c.args.blocks) (c.args.l.at + laid_blocks c.args.l) (omega arith)) ] in
     rw (k, c.flag-found.ensures.is, c.laid_blocks.ensures.is, c.no_move-moved.ensures)

@@ -22,7 +22,7 @@ enter_run-requires c =
       store_room _ c.args.mem.now c.args.jrnl.now _ c.args.bytes.now c.requires _ refl c.if-c-n.false,
       c.requires.inside,
       sizes.even,
-      sizes.memory-small,
+      sizes.memory_small,
       c.host_touched-touched.ensures ∙ host_run _ _,
     )
 

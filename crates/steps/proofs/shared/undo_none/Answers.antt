@@ -8,7 +8,7 @@ use Rattle.steps.proofs.shared.undo_none.Goals as goal
 pub newest_entry-e-requires : goal.newest_entry-e-requires
 newest_entry-e-requires c =
     let p = coupler_passed _ _ _ c.requires.right in
-    (omega (arith, c.requires.long), omega (arith, p.used, p.journal-is))
+    (omega (arith, c.requires.long), omega (arith, p.used, p.journal_is))
 
 pub entry_fits-requires : goal.entry_fits-requires
 entry_fits-requires c = none_sizes _ _ _ c.requires.right
@@ -23,7 +23,7 @@ pub bring_entry_back-requires : goal.bring_entry_back-requires
 bring_entry_back-requires c =
     let p = coupler_passed _ _ _ c.requires.right in
     let f = none_fits _ c.args.mem.now c.args.jrnl.now c.requires _ _ c.newest_entry-e.ensures c.entry_fits.ensures c.if-not-entry_fits.false in (
-      omega (arith, p.used, p.journal-is),
+      omega (arith, p.used, p.journal_is),
       f.inside,
       f.places,
       none_places _ c.args.mem.now c.args.jrnl.now c.requires _ _ c.newest_entry-e.ensures c.entry_fits.ensures c.if-not-entry_fits.false,

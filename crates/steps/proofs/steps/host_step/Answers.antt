@@ -39,7 +39,7 @@ enter_run-requires c =
       omega (arith, long, room w _ (passed _ _ _ _ c.requires.sound.right) _ _ c.entry_length-n.ensures c.if-s-n.false),
       c.requires.inside,
       sizes.even,
-      sizes.memory-small,
+      sizes.memory_small,
       touched,
     )
 

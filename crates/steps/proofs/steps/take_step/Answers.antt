@@ -24,7 +24,7 @@ enter-requires c =
     let w = world_of c.args.k c.args.s c.args.mem.now c.args.reel.now c.args.table.now c.args.jrnl.now in
     let p = passed _ _ _ _ c.requires.ready.sound.right in (
       room w _ p _ _ c.entry_length-n.ensures c.if-s-n.false,
-      omega (arith, p.journal-is, p.limit),
+      omega (arith, p.journal_is, p.limit),
       step_in c.args.s c.args.mem.now c.args.reel.now _ c.requires.ready.sound c.args.p _ _ c.touched_by-touched.ensures c.requires.ready.storable,
       filled_in _ _ _ _ c.args.reel.now c.args.table.now _ _ c.requires _ c.touched_by-touched.ensures,
     )
@@ -35,7 +35,7 @@ store-requires c = c.requires.ready.storable
 pub fill_places-requires : goal.fill_places-requires
 fill_places-requires c =
     let sizes = sound_sizes c.args.s c.args.mem.now c.args.reel.now _ c.requires.ready.sound in
-    (fills _ _ _ _ c.args.reel.now c.args.table.now _ _ c.requires, omega (arith, c.requires.ready.storable.laid.room, sizes.reel-small))
+    (fills _ _ _ _ c.args.reel.now c.args.table.now _ _ c.requires, omega (arith, c.requires.ready.storable.laid.room, sizes.reel_small))
 
 pub returns : goal.returns
 returns c =

@@ -9,7 +9,7 @@ use Rattle.steps.proofs.steps.undo.Goals as goal
 pub newest_entry-e-requires : goal.newest_entry-e-requires
 newest_entry-e-requires c =
     let p = passed _ _ _ _ c.requires.sound.right in
-    (omega (arith, c.requires.bare), omega (arith, p.used, p.journal-is))
+    (omega (arith, c.requires.bare), omega (arith, p.used, p.journal_is))
 
 pub entry_fits-requires : goal.entry_fits-requires
 entry_fits-requires c = sound_sizes c.args.s c.args.mem.now c.args.reel.now _ c.requires.sound
@@ -30,7 +30,7 @@ bring_entry_back-requires c =
     let z = sound_sizes c.args.s c.args.mem.now c.args.reel.now _ c.requires.sound in
     let f = undo_fits c.args.s c.args.mem.now c.args.reel.now c.args.table.now c.args.jrnl.now _ _ _ c.newest_entry-e.ensures c.entry_fits.ensures c.state_wrong.ensures z c.if-not-entry_fits-state_wrong.false in
     let p = passed _ _ _ _ c.requires.sound.right in (
-      omega (arith, p.used, p.journal-is),
+      omega (arith, p.used, p.journal_is),
       f.inside,
       f.places,
       undo_places c.args.s c.args.mem.now c.args.reel.now c.args.table.now c.args.jrnl.now _ _ _ c.newest_entry-e.ensures c.entry_fits.ensures c.state_wrong.ensures c.if-not-entry_fits-state_wrong.false _ c.too_small.ensures z c.if-too_small.false,
