@@ -1,5 +1,5 @@
 -- What a Read stored, or a Position passed, and the residual word that stands in the message buffer make up the count asked.
-use mathlib.Core.Bool.{Bool, true, false, ◌||◌, ◌&&◌, not, or_false}
+use mathlib.Core.Bool.{Bool, true, false, ◌||◌, ◌&&◌, not, or-false}
 use mathlib.Core.List.{List, [], ◌∷◌}
 use mathlib.Core.Path.{◌≡◌, refl, sym, ap, subst, ◌∙◌}
 use Prim.Native.Nat.{ℕ, zero, suc, ◌+◌, ◌-◌, ◌*◌, ◌/◌, ◌%◌, ◌<◌, ◌≤◌, min}
@@ -439,7 +439,7 @@ read_extent h room to y z = ltb-false room to (rw y at z)
 
 -- its first stage goes in reverse in modes 1 and 2
 read_way : (h : Header) (mode : ℕ) → h.code ≡ 1 → h.mode ≡ mode → reverse_first h ≡ (eqb mode 1 || eqb mode 2)
-read_way h mode y z = simp (y, z, or_false)
+read_way h mode y z = simp (y, z, or-false)
 
 module _ (u : Unit) (m s : List ℕ) (inside : u.tape.position ≤ u.tape.end) (code : (header u m s).code ≡ 1) where
   -- a command whose plan is a motion's that comes out as a Read's does
@@ -604,7 +604,7 @@ position_mode_lem v m s h x (suc (suc (suc zero))) l = refl
 position_mode_lem v m s h x (suc (suc (suc (suc mode)))) l = absurd (omega arith)
 
 pub position_reverse : (h : Header) → h.code ≡ 8 → reverse_first h ≡ (eqb h.mode 1 || eqb h.mode 3)
-position_reverse h y = simp (y, or_false)
+position_reverse h y = simp (y, or-false)
 
 position_whole : (h : Header) (count : ℕ) → h.code ≡ 8 → h.mode < 4 → residual_word (whole_count h count) ≡ count
 unfolding whole_count

@@ -1,6 +1,6 @@
 -- A row of four at most: what is asked of every seat, and of seat k, as tests of the four with their number.
 use mathlib.Core.Path.{◌≡◌, refl, sym, ◌∙◌}
-use mathlib.Core.Bool.{Bool, true, false, ◌&&◌, ◌||◌, or_false, or-true}
+use mathlib.Core.Bool.{Bool, true, false, ◌&&◌, ◌||◌, or-false, or-true}
 use mathlib.Core.List.{[], ◌∷◌}
 use Prim.Native.Nat.{ℕ, zero, suc, ◌<◌}
 use native.Mathlib.Omega.{arith}
@@ -72,8 +72,8 @@ module _ (s0 s1 s2 s3 : Seat) where
       → is_mounted (get_or (s0 ∷ s1 ∷ s2 ∷ s3 ∷ []) k no_seat).transport
       ≡ (((eqb k 0 && is_mounted s0.transport) || (eqb k 1 && is_mounted s1.transport)) || ((eqb k 2 && is_mounted s2.transport) || (eqb k 3 && is_mounted s3.transport)))
   seat_of_four zero h = first_by_two (is_mounted s0.transport)
-  seat_of_four (suc zero) h = sym (or_false (is_mounted s1.transport))
-  seat_of_four (suc (suc zero)) h = sym (or_false (is_mounted s2.transport))
+  seat_of_four (suc zero) h = sym (or-false (is_mounted s1.transport))
+  seat_of_four (suc (suc zero)) h = sym (or-false (is_mounted s2.transport))
   seat_of_four (suc (suc (suc zero))) h = refl
   seat_of_four (suc (suc (suc (suc k)))) h = absurd (omega arith)
 
@@ -83,7 +83,7 @@ module _ (s0 s1 s2 s3 : Seat) where
     absent_row =
         by_test (leb transports k)
         (λ t. simp (t, or-true))
-        (λ t. simp (t, or_false, long_row n k (leb-false transports k t)))
+        (λ t. simp (t, or-false, long_row n k (leb-false transports k t)))
 
     pub standing_absent : absent_in n k ≡ true → standing_in (row_of n s0 s1 s2 s3) k ≡ false
     unfolding standing_in
