@@ -16,7 +16,7 @@ pub mount_table-requires : goal.mount_table-requires
 mount_table-requires c = mount_holds c.args.old _ c.args.reel.now c.args.table.now _ _ _ _ _ c.mount_refusal-n.ensures c.if-n-ne0.false c.if-journal-gt-JOURNAL_LIMIT.false _ c.mount-o.ensures _ (λ i. omega (arith, c.shared_slice_known-1.given i)) c.in-Done.is
 
 pub returns-in-Done : goal.returns-in-Done
-returns-in-Done c = let both = mount_tables _ _ _ _ _ _ _ _ _ c.mount_refusal-n.ensures c.if-n-ne0.false c.if-journal-gt-JOURNAL_LIMIT.false _ c.mount-o.ensures _ _ _ c.in-Done.is c.mount_table.ensures in record { outcome = both.0; table = both.1 }
+returns-in-Done c = let both = mount_tables _ _ _ _ _ _ _ _ _ c.mount_refusal-n.ensures c.if-n-ne0.false c.if-journal-gt-JOURNAL_LIMIT.false _ c.mount-o.ensures _ _ _ c.in-Done.is (c.mount_table.ensures.outcome, c.mount_table.ensures.table) in record { outcome = both.0; table = both.1 }
 
 pub returns-in-Idle : goal.returns-in-Idle
 unfolding mounted_by table_mounted
