@@ -19,7 +19,7 @@
 //              for each object written                                      entries_long     proofs/Lengths.antt
 //              a step of any unit, or a host store, is undone by its entry  went             proofs/Undone.antt
 //              going back k gives the moment before the earliest of the k   back_stood       proofs/Calls.antt
-//              the call step back does that                                 back_does, back-none
+//              the call step back does that                                 back_does, back_none
 //              .. where units that were never mounted stand in the row      mounted_does, mounted_none, mounted_stood
 //              .. whatever stands in the row, or it is refused              back_comes
 //              refused for room exactly when the entry doesn't fit, and

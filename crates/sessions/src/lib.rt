@@ -18,7 +18,7 @@
 //              for each object written                                      entries_long   proofs/Lengths.antt
 //              a step back gives the world before the step                  step_undone    proofs/Taken.antt
 //              going back k gives the moment before the earliest of the k   back_stood     proofs/Calls.antt
-//              the call step back does that                                 back_does, back-none
+//              the call step back does that                                 back_does, back_none
 //              refused for room exactly when the entry doesn't fit, and
 //              before that with 11 exactly when the table is too small      room_exactly   proofs/Room.antt
 //              what was undone never was                                    never_was      proofs/Calls.antt
