@@ -265,7 +265,7 @@ module _ (s : List ℕ) (e : ℕ) (reverse : Bool) where
       named_behind f.before (at_once (first_bad s e reverse f.from k f.fault ∙ ap (λ (g : BlockFault). met.Bad g k) (wrong_told s k why f.wrong)))
 
   -- a pass from one position has one outcome
-  one_named : {q : ℕ} {why why₂ : BlockFault} {k k₂ : ℕ} → NamedAhead why k q → NamedAhead why₂ k₂ q → (why ≡ why₂) × (k ≡ k₂)
+  one_named : {why why₂ : BlockFault} {k k₂ q : ℕ} → NamedAhead why k q → NamedAhead why₂ k₂ q → (why ≡ why₂) × (k ≡ k₂)
   one_named (at_once y) (at_once z) = (cc (y, z), cc (y, z))
   one_named (at_once y) (further l b) = absurd (rw y at l)
   one_named (further l a) (at_once z) = absurd (rw z at l)

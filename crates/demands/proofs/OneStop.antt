@@ -103,7 +103,7 @@ module _ (s : List ℕ) (t : Tape) (rule : Rule) (count : Count) where
   place_of faults z = z
 
   -- a place leads to one of them
-  one_last : {x : Place} {z z₂ : Next} → Leads z x → Leads z₂ x → z ≡ z₂
+  one_last : {z z₂ : Next} {x : Place} → Leads z x → Leads z₂ x → z ≡ z₂
   one_last (now a o) (now b i) = sym a ∙ b
   one_last (now a o) (later b l) = absurd (false≢true (sym o ∙ ap onward_is (sym a ∙ b)))
   one_last (later a l) (now b o) = absurd (false≢true (sym o ∙ ap onward_is (sym b ∙ a)))
@@ -162,7 +162,7 @@ module _ (s : List ℕ) (t : Tape) (rule : Rule) (count : Count) where
     goes_leads (past_mark {q = q} {r = r} {x = x} h z w g) l = goes_leads g (later (next_met (behind q r) _ h x ∙ mark_on (behind q r) _ z w) l)
 
     -- and each reason is where it ends
-    why_leads : {left q class found xst3 : ℕ} {r : Over s t rule count first q} → passed_in (of_marks count) r + left ≡ how_many count → Stopped s t rule count first left q r class found xst3
+    why_leads : {left q : ℕ} {r : Over s t rule count first q} {class found xst3 : ℕ} → passed_in (of_marks count) r + left ≡ how_many count → Stopped s t rule count first left q r class found xst3
         → Leads (halts (tells q left class found xst3)) (place t.position 0 false first)
     unfolding passed_in
     why_leads c (satisfied {q = q} {r = r} g z) = goes_leads g (now (done_halts (behind q r) _ z c) refl)
