@@ -23,4 +23,4 @@ pub returns : goal.returns
 returns c = entry_entered c.args.e c.args.mem.now c.args.reel.now c.args.table.now c.args.jrnl.now _ _ c.args.used _ _ _ _ c.requires.0 c.saved_length-saved.ensures refl c.put_number.ensures c.save.ensures c.numbers_of.ensures c.put_head.ensures
 
 pub slice_bounds-save-end : goal.slice_bounds-save-end
-slice_bounds-save-end c = omega (arith, c.requires.0, c.saved_length.ensures, entry_whole c.args.e)
+slice_bounds-save-end c = omega (arith, c.requires.0, c.saved_length-saved.ensures, entry_whole c.args.e)
