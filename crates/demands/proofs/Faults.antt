@@ -269,7 +269,7 @@ module _ (s : List ℕ) (e : ℕ) (reverse : Bool) where
   one_named (at_once y) (at_once z) = (cc (y, z), cc (y, z))
   one_named (at_once y) (further l b) = absurd (rw y at l)
   one_named (further l a) (at_once z) = absurd (rw z at l)
-  one_named {q = q} {why₂ = why₂} {k₂ = k₂} (further l a) (further l₂ b) = one_named a (subst (NamedAhead why₂ k₂) (one_way (passed s reverse q e) l₂ l) b)
+  one_named {why₂ = why₂} {k₂ = k₂} {q = q} (further l a) (further l₂ b) = one_named a (subst (NamedAhead why₂ k₂) (one_way (passed s reverse q e) l₂ l) b)
 
   -- one block only is the first at fault that lies ahead of p, and one fault is what is wrong with it
   pub first_unique : {p : ℕ} {why why₂ : BlockFault} {k k₂ : ℕ} → FirstFault s e reverse p why k → FirstFault s e reverse p why₂ k₂ → (why ≡ why₂) × (k ≡ k₂)
