@@ -9,7 +9,7 @@ use Rattle.commands.specs.declared.plans.Answer.TheVariants as answer
 use Rattle.unit.specs.Cores.{Core}
 use Rattle.worlds.specs.Worlds.{answered}
 use Rattle.worlds.specs.Calls.{back_on, guarded, noted, refused_as}
-use Rattle.sessions.specs.Session.{Clean, Done, Kind, Lawful, Ran, after, and_did, and_saw, back, back_from, backs, before, does, entry_of, looked, one_did, one_saw, refused, start, stepped, stood, strike}
+use Rattle.sessions.specs.Session.{Clean, Done, Kind, Lawful, Ran, after, and_did, and_not, and_saw, and_undid, back, back_from, backs, before, does, entry_of, looked, one_did, one_saw, refused, start, stepped, stood, strike}
 use Rattle.sessions.specs.Calling.{Call, Here, Noted, back_calls, brought_back, calls, doing, entry_at, journal_of, kind_now, ledger_of, length_of, noted_at, on_call, step_to, world_from}
 use Rattle.sessions.specs.Good.{Fresh, Good}
 use Rattle.sessions.proofs.Striking.{fit_clean, fit_ran, goes_back, strike_clean, struck}
@@ -55,6 +55,8 @@ module _ (n : ℕ) where
       let was : back (calls n) (step_to c s) ≡ s = λ i. record { core = went c s good kd i; entries = s.entries } in
       rw st (back_stepped c s good kd ∙ ap (λ (x : Here). answered (answer.Done false) (world_from n x)) (sym was))
   clean_back f (one_saw k) (and_saw r kd an) q = clean_back f k r q
+  clean_back f k (and_not _ _ _) q = elim k [ ]
+  clean_back f k (and_undid _ _ _) q = elim k [ ]
 
   -- Any session from its beginning on.
   module _ {s₀ s : Here} {l : List (Done (calls n))} (f : Fresh n s₀) (r : Ran (calls n) s₀ l s) where

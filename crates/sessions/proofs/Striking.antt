@@ -44,6 +44,8 @@ module _ (M : Machine) where
     fit_clean f k start = f
     fit_clean f (one_did k) (and_did {k = c} {s = s} r kd an st) = subst⁻¹ (λ x. L.Fit x) st (L.keeps c s (fit_clean f k r) kd)
     fit_clean f (one_saw k) (and_saw r kd an) = fit_clean f k r
+    fit_clean f k (and_not _ _ _) = elim k [ ]
+    fit_clean f k (and_undid _ _ _) = elim k [ ]
 
     -- from a moment with no entry, a step back over a clean log is a run of the log with its newest step gone
     pub popped : {s₀ s : Now M} {l : List (Done M)} {e : M.E} {es : List M.E} → L.Fit s₀ → s₀.entries ≡ [] → Clean M l → Ran M s₀ l s
@@ -52,6 +54,8 @@ module _ (M : Machine) where
     popped {s₀} f h (one_did {l = l} k) (and_did {k = c} {s = s} {s' = s'} r kd an st) q =
         subst (λ x. Ran M s₀ l x) (sym (back_step c s (fit_clean f k r) kd) ∙ sym (ap (back M) st) ∙ ap (λ x. back_from M x s'.core) q) r
     popped f h (one_saw k) (and_saw r kd an) q = popped f h k r q
+    popped f h k (and_not _ _ _) q = elim k [ ]
+    popped f h k (and_undid _ _ _) q = elim k [ ]
 
     -- what was undone never was
     pub struck : {s₀ s : Now M} {l : List (Done M)} → L.Fit s₀ → s₀.entries ≡ [] → Ran M s₀ l s → Ran M s₀ (strike M l) s
