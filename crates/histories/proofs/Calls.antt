@@ -13,7 +13,7 @@ use Rattle.lists.proofs.Cases.{by_test, pick_told}
 use Rattle.commands.specs.declared.plans.Answer.TheVariants as answer
 use Rattle.worlds.specs.Rows.{back_refusal, row_checked}
 use Rattle.worlds.specs.Coupled.{back_checked, back_over, coupler_in, named_in, refused_with, seats_of, told, undo_named}
-use Rattle.sessions.specs.Session.{Clean, Done, Ran, and_did, and_saw, back, back_from, backs, before, entry_of, one_did, one_saw, start, stood, strike}
+use Rattle.sessions.specs.Session.{Clean, Done, Ran, and_did, and_saw, back, back_from, backs, before, entry_of, one_did, one_saw, start, stood, strike, and_not, and_undid}
 use Rattle.sessions.proofs.Stood.{stands_as, went_to}
 use Rattle.sessions.proofs.Striking.{fit_clean, fit_ran, goes_back, strike_clean, struck}
 use Rattle.histories.specs.Calling.{Here, Noted, back_calls, calls, coupled_from, length_of, step_to}
@@ -34,6 +34,8 @@ mounted_clean : (n : ℕ) (ks : List ℕ) {s₀ s : Here} {l : List (Done (calls
 mounted_clean n ks every k start = every
 mounted_clean n ks every (one_did k) (and_did {k = c} {s = s} r kd an st) = subst (EveryMounted ks) (sym st) (every_next n ks c s kd (mounted_clean n ks every k r))
 mounted_clean n ks every (one_saw k) (and_saw r kd an) = mounted_clean n ks every k r
+mounted_clean n ks every k (and_not _ _ _) = elim k [ ]
+mounted_clean n ks every k (and_undid _ _ _) = elim k [ ]
 
 module _ (n : ℕ) (ks : List ℕ) where
   clean_back : {s₀ s : Here} {l : List (Done (calls n))} {e : Noted} {es : List Noted} → Fresh n ks s₀ → EveryMounted ks s₀ → Clean (calls n) l → Ran (calls n) s₀ l s → s.entries ≡ e ∷ es
@@ -44,6 +46,8 @@ module _ (n : ℕ) (ks : List ℕ) where
       let was : back (calls n) (step_to c s) ≡ s = λ i. record { core = went n c s kd i; entries = s.entries } in
       rw st (back_stepped n ks c s good (mounted_clean n ks every k r) kd ∙ ap (λ (x : Here). told (answer.Done false) (coupled_from n x)) (sym was))
   clean_back f every (one_saw k) (and_saw r kd an) q = clean_back f every k r q
+  clean_back f every k (and_not _ _ _) q = elim k [ ]
+  clean_back f every k (and_undid _ _ _) q = elim k [ ]
 
   -- with nothing asked of the row: the call is refused, or there is an entry and it leads where the model leads
   clean_comes : {s₀ s : Here} {l : List (Done (calls n))} → Fresh n ks s₀ → Clean (calls n) l → Ran (calls n) s₀ l s → BackComes n s (undo_named (coupled_from n s) (named_in (coupled_from n s).ledger.bytes)) ⊎ ((coupled_from n s).ledger.used ≡ 0)
@@ -54,6 +58,8 @@ module _ (n : ℕ) (ks : List ℕ) where
       let was : back (calls n) (step_to c s) ≡ s = λ i. record { core = went n c s kd i; entries = s.entries } in
       inl (rw st (went_back refl (undo_named_lem n c s good.whole kd ∙ ap (λ (x : Here). told (answer.Done false) (coupled_from n x)) (sym was))))
   clean_comes f (one_saw k) (and_saw r kd an) = clean_comes f k r
+  clean_comes f k (and_not _ _ _) = elim k [ ]
+  clean_comes f k (and_undid _ _ _) = elim k [ ]
 
   -- any session from its beginning on, whichever transports ks were mounted
   module _ {s₀ s : Here} {l : List (Done (calls n))} (f : Fresh n ks s₀) (r : Ran (calls n) s₀ l s) where
