@@ -7,7 +7,7 @@ use borrow.Author.Tests.{eq-eqb, ne_eqb}
 use lib.Dec.{eqb}
 use lib.ListN.{length, take, drop, get_or}
 use lib.Seq.{take-add, take-take}
-use Rattle.lists.specs.Words.{word_at, word_sum}
+use Rattle.lists.specs.Words.{word_sum}
 use Rattle.lists.proofs.Sums.{sum_split}
 use Rattle.block.specs.Sums.{long_at, long_sum}
 use Rattle.tape.specs.Numbers.{check_modulus}

@@ -1,5 +1,5 @@
 -- "Data byte i lies at address pointer + i; with SWB at that address with its lowest bit flipped." (01, Commands)
-use Rattle.std.specs.Prelude.{Bool, true, false, List, [], ◌∷◌, ℕ, suc, ◌+◌, ◌-◌, ◌*◌, ◌%◌, get_or, set}
+use Rattle.std.specs.Prelude.{Bool, List, [], ◌∷◌, ℕ, suc, ◌+◌, ◌-◌, ◌*◌, ◌%◌, get_or, set}
 use Rattle.lists.specs.Pick.{pick}
 
 -- the place of the data byte whose address is a: with SWB the lowest bit is flipped

@@ -1,5 +1,5 @@
 -- The parts of what a command is about to do: ends, moves and blocks laid.
-use Rattle.std.specs.Prelude.{Bool, true, false, ℕ, ◌+◌, min}
+use Rattle.std.specs.Prelude.{false, ℕ, ◌+◌, min}
 use Rattle.lists.specs.Pick.{pick}
 use Rattle.tape.specs.Numbers.{pieces_of}
 use Rattle.signals.specs.declared.message.End.{End}

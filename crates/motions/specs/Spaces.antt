@@ -1,5 +1,5 @@
 -- "Position 8 / 0, 1 records forward, reverse; 2, 3 marks" (01, Commands): how a space or a skip ends.
-use Rattle.std.specs.Prelude.{Bool, true, false, ◌&&◌, not, List, ℕ, ◌+◌, eqb}
+use Rattle.std.specs.Prelude.{Bool, false, ◌&&◌, not, List, ℕ, ◌+◌, eqb}
 use Rattle.lists.specs.Pick.{pick}
 use Rattle.tape.specs.Numbers.{record_limit}
 use Rattle.signals.specs.Bits.{LET, OPI, REV, RIB, RLS, TMK}

@@ -1,5 +1,5 @@
 -- Write and Format, step 11 and the retry. (01)
-use Rattle.std.specs.Prelude.{Bool, true, false, List, ℕ, ◌+◌, leb, ltb}
+use Rattle.std.specs.Prelude.{Bool, true, List, ℕ, ◌+◌, leb, ltb}
 use Rattle.lists.specs.Pick.{pick}
 use Rattle.tape.specs.Numbers.{eot_marker_under, margin, record_limit}
 use Rattle.signals.specs.Bits.{NEF, REV, RIB, TMK}

@@ -1,6 +1,6 @@
 -- What storing a plan does: "Writing stores only the new object's blocks"; "Data byte i lies at address pointer + i"; the message goes
 -- over the data where they overlap. (01)
-use Rattle.std.specs.Prelude.{Bool, true, false, ◌≡◌, List, [], ◌∷◌, ◌++◌, ℕ, ◌+◌, ◌*◌, ◌%◌, ◌≤◌, length}
+use Rattle.std.specs.Prelude.{true, ◌≡◌, List, [], ◌∷◌, ℕ, ◌+◌, ◌*◌, ◌%◌, ◌≤◌}
 use Rattle.std.proofs.lemmas.List.Edits.{sets}
 use Rattle.lists.specs.Pick.{pick}
 use Rattle.lists.specs.Places.{gathered}

@@ -1,6 +1,6 @@
 -- What a block says that is read as a piece, a mark or a gap: its three words, and that all of it is right.
 use mathlib.Core.Path.{◌≡◌, refl}
-use mathlib.Core.Bool.{Bool, true, false, ◌&&◌, and-eq-true_iff}
+use mathlib.Core.Bool.{Bool, true, false, and-eq-true_iff}
 use mathlib.Core.List.{List}
 use Prim.Native.Nat.{ℕ}
 use native.Mathlib.Omega.{arith}
@@ -10,7 +10,7 @@ use Rattle.lists.specs.Pick.{pick}
 use Rattle.lists.specs.Words.{word_at}
 use Rattle.lists.proofs.Cases.{past}
 use Rattle.tape.specs.Layout.{gap_kind, mark_kind, piece_kind}
-use Rattle.tape.specs.Reading.{check_right, class_by_under, class_of_under, index_right, kind_of, kind_right, length_right_under, or_damaged, padding_right, used_of}
+use Rattle.tape.specs.Reading.{check_right, class_by_under, class_of_under, index_right, kind_of, kind_right, length_right_under, padding_right, used_of}
 use Rattle.tape.specs.declared.BlockFault.{BlockFault}
 use Rattle.tape.specs.declared.BlockFault.TheVariants as fault
 use Rattle.tape.specs.declared.Block.{Block}

@@ -11,7 +11,7 @@ use lib.Seq.{get_or-drop, get_or-take}
 use Rattle.lists.specs.Pick.{Always, pick}
 use Rattle.lists.specs.Words.{word_at}
 use Rattle.lists.proofs.Cases.{by_test, pick_told}
-use Rattle.tape.specs.Layout.{check_of, gap_kind, mark_kind, piece_kind}
+use Rattle.tape.specs.Layout.{check_of, mark_kind, piece_kind}
 use Rattle.tape.specs.Letters.{letter_of}
 use Rattle.tape.specs.Numbers.{block_bytes, head_bytes, pieces_of, record_limit, summed_bytes}
 use Rattle.tape.specs.Pass.{fault_of}

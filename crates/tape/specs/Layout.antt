@@ -1,6 +1,6 @@
 -- "A block holds word 0 kind, word 1 record length, word 2 piece index, 504 data bytes, and a last word: the sum of the 255 words
 -- before it, modulo 65,535. Kinds: 1 record piece, 2 tape mark, 3 erased gap." (01, The reel)
-use Rattle.std.specs.Prelude.{List, [], ◌++◌, ℕ, ◌-◌, ◌%◌, length, replicate}
+use Rattle.std.specs.Prelude.{List, ◌++◌, ℕ, ◌-◌, ◌%◌, length, replicate}
 use Rattle.lists.specs.Words.{word_bytes, word_sum}
 use Rattle.tape.specs.Numbers.{check_modulus, data_bytes}
 

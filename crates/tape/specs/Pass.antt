@@ -2,7 +2,7 @@
 -- by kind, length or index, is out of place; a record is met at index 0, in reverse at its last. A record cut off by either end is out
 -- of place at the first of its blocks met." (01, under the refusals). `reverse` says which way. "Mount, advance and the listing pass the fault up.
 -- Where document 01 says "out of place", the fault is index." (02, [4])
-use Rattle.std.specs.Prelude.{Bool, true, false, ◌&&◌, List, ℕ, suc, ◌+◌, ◌-◌, eqb, leb}
+use Rattle.std.specs.Prelude.{Bool, false, ◌&&◌, List, ℕ, suc, ◌+◌, ◌-◌, eqb, leb}
 use Rattle.lists.specs.Pick.{pick}
 use Rattle.tape.specs.Numbers.{pieces_of, record_limit}
 use Rattle.tape.specs.Reading.{class_at_under}

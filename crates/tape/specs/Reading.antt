@@ -1,6 +1,6 @@
 -- What one block is read as. Damaged is every block that is none of the three forms (DECISIONS, damage), and it is told what is wrong with it:
 -- "The block reader shall tell kind, length, index, padding and check apart, first in that order" (02, [4]).
-use Rattle.std.specs.Prelude.{Bool, true, false, ◌&&◌, List, [], ◌∷◌, ℕ, ◌+◌, ◌-◌, ◌*◌, ◌/◌, min, eqb, leb, ltb, length, take, drop}
+use Rattle.std.specs.Prelude.{Bool, true, ◌&&◌, List, [], ◌∷◌, ℕ, ◌+◌, ◌-◌, ◌*◌, ◌/◌, min, eqb, leb, ltb, length, take, drop}
 use Rattle.lists.specs.Pick.{pick}
 use Rattle.lists.specs.Words.{word_at}
 use Rattle.tape.specs.Numbers.{block_bytes, data_bytes, head_bytes, pieces_of, record_limit, summed_bytes}

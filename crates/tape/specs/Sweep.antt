@@ -1,5 +1,5 @@
 -- "Mount reads every block below the end it is given" (01, Calls): object after object from block 0, the first fault named.
-use Rattle.std.specs.Prelude.{List, Bool, false, ℕ, suc}
+use Rattle.std.specs.Prelude.{List, false, ℕ, suc}
 use Rattle.tape.specs.Numbers.{record_limit}
 use Rattle.tape.specs.Pass.{passed_under}
 use Rattle.tape.specs.declared.Met.{Met}

@@ -1,5 +1,4 @@
 -- `lay_block` meets its contract: its six stores are the runs that come to the block.
-use borrow.Author.Rules.{rules}
 use Rattle.lists.specs.Places.{gathered}
 use Rattle.lists.proofs.Placed.{length_gathered}
 use Rattle.block.proofs.Laid.{block_laid, body_laid}

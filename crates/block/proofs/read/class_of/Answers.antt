@@ -1,6 +1,4 @@
 -- `class_of` meets its contract: a law for each way that the reading ends, given what was read on the way.
-use borrow.Author.Rules.{rules}
-use borrow.Author.Tests.{not-false, not-true}
 use mathlib.Core.Path.{sym, ◌∙◌}
 use Rattle.block.proofs.Classes.{class_body, class_head, class_right}
 use Rattle.block.proofs.read.class_of.Goals as goal

@@ -1,5 +1,4 @@
 -- `full_right` meets its contract: with no padding the check decides.
-use borrow.Author.Rules.{rules}
 use native.Mathlib.Omega.{arith}
 use Rattle.block.proofs.Bodies.{full_read}
 use Rattle.block.proofs.read.full_right.Goals as goal

@@ -1,5 +1,4 @@
 -- `index_right` meets its contract: the arm that was taken says which way the definition goes.
-use borrow.Author.Rules.{rules}
 use borrow.Author.Tests.{eq-eqb, ne_eqb}
 use Rattle.block.proofs.read.index_right.Goals as goal
 

@@ -1,5 +1,4 @@
 -- `padded_right` meets its contract: what it has read decides padding and check.
-use borrow.Author.Rules.{rules}
 use native.Mathlib.Omega.{arith}
 use Rattle.block.proofs.Bodies.{body_read}
 use Rattle.block.proofs.read.padded_right.Goals as goal

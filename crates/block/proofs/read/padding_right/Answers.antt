@@ -2,10 +2,8 @@
 use borrow.Author.Rules.{rules}
 use native.Mathlib.Omega.{arith}
 use mathlib.Core.Path.{◌≡◌, sym, ◌∙◌}
-use Prim.Native.Nat.{◌≤◌, ◌-◌}
-use lib.ListN.{take, drop}
 use Rattle.tape.specs.Numbers.{summed_bytes}
-use Rattle.tape.specs.Reading.{padding_right, zeros}
+use Rattle.tape.specs.Reading.{padding_right}
 use Rattle.block.proofs.Padding.{zeros_end, zeros_next, zeros_stop}
 use Rattle.block.proofs.read.padding_right.Goals as goal
 

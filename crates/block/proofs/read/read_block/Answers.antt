@@ -1,5 +1,4 @@
 -- `read_block` meets its contract: block k as a part is the block that the definition names.
-use borrow.Author.Rules.{rules}
 use native.Mathlib.Nat.{add-sub_cancel_left}
 use Prim.Native.Nat.{◌*◌}
 use Rattle.block.proofs.Classes.{class_inside, class_outside}

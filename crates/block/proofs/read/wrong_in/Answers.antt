@@ -1,6 +1,4 @@
 -- `wrong_in` meets its contract: a law for each fault that can be the first, given the tests that were passed before it.
-use borrow.Author.Rules.{rules}
-use borrow.Author.Tests.{not-false, not-true}
 use mathlib.Core.Path.{sym, ◌∙◌}
 use Rattle.block.proofs.Classes.{fault_check, fault_index, fault_kind, fault_length, fault_padding}
 use Rattle.block.proofs.Heads.{head_whole}

@@ -1,7 +1,6 @@
 -- `check_sum` meets its contract: what the two sums differ by is a multiple of 65,535, and 0 where the words are.
 use native.Mathlib.Omega.{arith}
 use Rattle.block.proofs.Longs.{fold_none, fold_same, summed_lent}
-use borrow.Author.Rules.{rules}
 use Rattle.block.proofs.sum.check_sum.Goals as goal
 
 pub returns : goal.returns

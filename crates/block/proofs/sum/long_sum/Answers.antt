@@ -2,8 +2,6 @@
 use borrow.Author.Rules.{rules}
 use native.Mathlib.Omega.{arith}
 use mathlib.Core.Path.{◌≡◌}
-use Prim.Native.Nat.{◌≤◌, ◌-◌, ◌*◌}
-use lib.ListN.{take}
 use Rattle.block.specs.Sums.{long_sum}
 use Rattle.block.proofs.Longs.{two_more}
 use Rattle.block.proofs.sum.long_sum.Goals as goal

@@ -4,7 +4,6 @@ use mathlib.Core.Path.{ap, ◌∙◌}
 use Rattle.commands.specs.Ends.{motion_plan}
 use Rattle.commands.specs.Commands.{carried_out_under}
 use Rattle.commands.proofs.Moving.{ends_as_moved}
-use borrow.Author.Rules.{rules}
 use Rattle.commands.proofs.carried.carry_out.Goals as goal
 
 pub characterize-requires : goal.characterize-requires

@@ -1,5 +1,4 @@
 -- `characteristics_at` meets its contract: four words of memory.
-use borrow.Author.Rules.{rules}
 use Rattle.commands.specs.Commands.{characteristics_at}
 use Rattle.commands.proofs.carried.characteristics_at.Goals as goal
 

@@ -1,5 +1,4 @@
 -- `characterize` meets its contract: refused by the count, refused by the values, or taken.
-use borrow.Author.Rules.{rules}
 use borrow.Author.Tests.{le-ltb, lt-ltb}
 use Rattle.commands.specs.Commands.{characterized_under}
 use Rattle.commands.proofs.carried.characterize.Goals as goal

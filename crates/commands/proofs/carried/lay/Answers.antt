@@ -1,5 +1,4 @@
 -- `lay` meets its contract: a retry, or a write where the tape stands.
-use borrow.Author.Rules.{rules}
 use Rattle.commands.proofs.carried.lay.Goals as goal
 
 pub returns-then-again : goal.returns-then-again

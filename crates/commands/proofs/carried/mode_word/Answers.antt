@@ -1,5 +1,4 @@
 -- `mode_word` meets its contract: a word where the count leaves room for it.
-use borrow.Author.Rules.{rules}
 use borrow.Author.Tests.{le-ltb, lt-ltb}
 use Rattle.commands.specs.Commands.{mode_word}
 use Rattle.commands.proofs.carried.mode_word.Goals as goal

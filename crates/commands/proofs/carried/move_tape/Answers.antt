@@ -1,6 +1,5 @@
 -- `move_tape` meets its contract: an arm for each command.
 use Rattle.commands.specs.Commands.{motion_of_under}
-use borrow.Author.Rules.{rules}
 use Rattle.commands.proofs.carried.move_tape.Goals as goal
 
 pub space-requires : goal.space-requires

@@ -1,5 +1,4 @@
 -- `unload` meets its contract: a plain end at block 0, off line.
-use borrow.Author.Rules.{rules}
 use Rattle.commands.specs.Commands.{unloaded_under}
 use Rattle.commands.specs.Ends.{motion_plan_under}
 use Rattle.commands.proofs.carried.unload.Goals as goal

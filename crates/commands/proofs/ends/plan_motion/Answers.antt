@@ -1,5 +1,4 @@
 -- `plan_motion` meets its contract: an arm for an end and one for a fault.
-use borrow.Author.Rules.{rules}
 use Rattle.commands.specs.Ends.{motion_plan_under}
 use Rattle.commands.proofs.ends.plan_motion.Goals as goal
 

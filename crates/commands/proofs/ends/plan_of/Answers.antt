@@ -1,5 +1,4 @@
 -- `plan_of` meets its contract: an arm for an end that is told and one for an end that is not.
-use borrow.Author.Rules.{rules}
 use Rattle.commands.specs.Ends.{plan_by_under, plan_of_under}
 use Rattle.commands.proofs.ends.plan_of.Goals as goal
 

@@ -1,5 +1,4 @@
 -- `still_plan` meets its contract: the parts are what their functions ensure.
-use borrow.Author.Rules.{rules}
 use Rattle.commands.specs.Ends.{still}
 use Rattle.commands.proofs.ends.still_plan.Goals as goal
 

@@ -1,5 +1,4 @@
 -- `tell` meets its contract: the unit is the ended one that the CPU owns, and the message is made of it.
-use borrow.Author.Rules.{rules}
 use Rattle.commands.specs.Ends.{ended, told_under, told_unit}
 use Rattle.commands.proofs.ends.tell.Goals as goal
 

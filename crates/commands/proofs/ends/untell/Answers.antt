@@ -1,5 +1,4 @@
 -- `untell` meets its contract: a still plan of the ended unit.
-use borrow.Author.Rules.{rules}
 use Rattle.commands.specs.Ends.{untold}
 use Rattle.commands.proofs.ends.untell.Goals as goal
 

@@ -1,5 +1,4 @@
 -- `cut_at` meets its contract.
-use borrow.Author.Rules.{rules}
 use Rattle.index.proofs.Counted.{cut_made}
 use Rattle.index.proofs.cutting.cut_at.Goals as goal
 

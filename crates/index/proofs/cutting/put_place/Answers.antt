@@ -1,5 +1,4 @@
 -- `put_place` meets its contract: two numbers that meet are one run of bytes.
-use borrow.Author.Rules.{rules}
 use mathlib.Core.Path.{refl}
 use Prim.Native.Nat.{◌+◌, ◌*◌}
 use Rattle.lists.specs.Fours.{number_bytes}

@@ -1,12 +1,11 @@
 -- `put_places` meets its contract: what is left of the row, put from here, makes the whole.
-use borrow.Author.Rules.{rules}
 use native.Mathlib.Nat.{add-zero, sub-zero}
 use native.Mathlib.Omega.{arith}
-use mathlib.Core.Path.{◌≡◌, refl, ap, ◌∙◌}
-use Prim.Native.Nat.{◌+◌, ◌-◌, ◌*◌, ◌≤◌}
+use mathlib.Core.Path.{refl, ap, ◌∙◌}
+use Prim.Native.Nat.{◌+◌, ◌*◌}
 use lib.ListN.{length}
-use lib.Seq.{length-sets, sets}
-use Rattle.index.specs.Table.{place_bytes, place_length, places_row}
+use lib.Seq.{length-sets}
+use Rattle.index.specs.Table.{place_bytes, place_length}
 use Rattle.index.proofs.Cuts.{row_none_left, row_turn}
 use Rattle.index.proofs.cutting.put_places.Goals as goal
 

@@ -1,8 +1,8 @@
 -- `count_objects` meets its contract: n objects are passed, and p is where they end.
 use native.Mathlib.Omega.{arith}
 use mathlib.Core.Path.{◌≡◌, refl, ap, ◌∙◌}
-use Prim.Native.Nat.{◌-◌, ◌≤◌, ◌<◌}
-use lib.ListN.{length, take}
+use Prim.Native.Nat.{◌<◌}
+use lib.ListN.{length}
 use Rattle.tape.specs.Afresh.{objects_in}
 use Rattle.tape.specs.Objects.{blocks_in, blocks_of}
 use Rattle.tape.proofs.Fronts.{blocks_more, nth, objects_few}

@@ -1,9 +1,8 @@
 -- `fill_table` meets its contract: the places of the first n objects are filled, p is where those end, and they have so many marks.
-use borrow.Author.Rules.{rules}
 use native.Mathlib.Omega.{arith}
 use mathlib.Core.List.{List}
 use mathlib.Core.Path.{◌≡◌, refl, ap, ◌∙◌}
-use Prim.Native.Nat.{ℕ, ◌-◌, ◌≤◌, ◌<◌}
+use Prim.Native.Nat.{ℕ, ◌<◌}
 use lib.ListN.{length, take}
 use lib.Seq.{length-sets, sets, take-length}
 use Rattle.tape.specs.Afresh.{objects_in}

@@ -1,5 +1,4 @@
 -- `find_block` meets its contract.
-use borrow.Author.Rules.{rules}
 use Rattle.index.proofs.Founds.{block_at, block_beyond, block_none, block_short}
 use Rattle.index.proofs.finding.find_block.Goals as goal
 

@@ -1,5 +1,4 @@
 -- `find_file` meets its contract.
-use borrow.Author.Rules.{rules}
 use Rattle.index.proofs.Founds.{file_at, file_none, file_short}
 use Rattle.index.proofs.finding.find_file.Goals as goal
 

@@ -1,10 +1,7 @@
 -- `halve` meets its contract: no place, the last one below v, or a loop: what is left from here gives the whole, and needs as many turns as places are left.
-use borrow.Author.Rules.{rules}
-use native.Mathlib.Omega.{arith}
-use mathlib.Core.Path.{◌≡◌, sym, ◌∙◌}
+use mathlib.Core.Path.{◌≡◌}
 use Prim.Native.Nat.{◌+◌, ◌≤◌}
 use Rattle.index.specs.Halving.{halved, searched}
-use Rattle.index.proofs.Halves.{halved_all, halved_else, halved_none, none_left, turn_before, turn_behind}
 use Rattle.index.proofs.halving.halve.Given as goal
 
 abbrev pub invariant-loop-left : goal.invariant-loop-left

@@ -1,5 +1,4 @@
 -- `put_number` meets its contract: two words that meet are one run of bytes.
-use borrow.Author.Rules.{rules}
 use mathlib.Core.Path.{refl}
 use Prim.Native.Nat.{◌+◌, ◌/◌, ◌%◌}
 use Rattle.lists.specs.Words.{word_bytes}

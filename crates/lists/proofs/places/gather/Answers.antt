@@ -1,5 +1,4 @@
 -- `gather` meets its contract: with no swap the bytes are a part of the memory, and they fill b.
-use borrow.Author.Rules.{rules}
 use native.Mathlib.Omega.{arith}
 use mathlib.Core.Path.{refl}
 use lib.ListN.{length}

@@ -5,8 +5,6 @@ use mathlib.Core.Bool.{true}
 use mathlib.Core.Path.{◌≡◌, refl, sym, ◌∙◌}
 use Prim.Native.Nat.{◌≤◌, ◌-◌, ◌+◌, ◌%◌}
 use lib.ListN.{length}
-use lib.Seq.{sets}
-use Rattle.lists.specs.Places.{gathered}
 use Rattle.lists.proofs.Placed.{gather_more, gathered_none, place_in}
 use Rattle.lists.proofs.Swapped.{Gathering, gather_first, gather_none, gather_words, odd_test, word_test}
 use Rattle.lists.proofs.places.gather_swapped.Goals as goal

@@ -1,15 +1,10 @@
 -- `gather_swapped` meets its contract. In both loops what is still to fetch, from byte i on, gives the whole.
-use borrow.Author.Rules.{rules}
-use native.Mathlib.Omega.{arith}
 use mathlib.Core.Bool.{true}
-use mathlib.Core.Path.{◌≡◌, refl, sym, ◌∙◌}
-use mathlib.Core.Logic.{⊎_elim}
-use Prim.Native.Nat.{◌≤◌, ◌-◌, ◌+◌, ◌%◌}
+use mathlib.Core.Path.{◌≡◌}
+use Prim.Native.Nat.{◌≤◌, ◌-◌, ◌+◌}
 use lib.ListN.{length}
 use lib.Seq.{sets}
 use Rattle.lists.specs.Places.{gathered}
-use Rattle.lists.proofs.Placed.{gather_more, gathered_none, place_in}
-use Rattle.lists.proofs.Swapped.{Gathering, gather_first, gather_none, gather_words, odd_test, word_test}
 use Rattle.lists.proofs.places.gather_swapped.Given as goal
 
 abbrev pub invariant-loop-i : goal.invariant-loop-i

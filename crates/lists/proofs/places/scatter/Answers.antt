@@ -1,5 +1,4 @@
 -- `scatter` meets its contract: with no swap a run is a part of the memory.
-use borrow.Author.Rules.{rules}
 use lib.Seq.{take-length}
 use Rattle.lists.proofs.Placed.{placed_plain}
 use Rattle.lists.proofs.places.scatter.Goals as goal

@@ -4,8 +4,7 @@ use native.Mathlib.Omega.{arith}
 use mathlib.Core.Bool.{true}
 use mathlib.Core.Path.{◌≡◌, refl, sym, ◌∙◌}
 use Prim.Native.Nat.{◌≤◌, ◌-◌, ◌+◌, ◌%◌}
-use lib.ListN.{length, drop}
-use Rattle.lists.specs.Places.{placed}
+use lib.ListN.{length}
 use Rattle.lists.proofs.Placed.{place_in, place_more, placed_none_lem}
 use Rattle.lists.proofs.Swapped.{Scattering, odd_test, scatter_first, scatter_none, scatter_words, word_test}
 use Rattle.lists.proofs.places.scatter_swapped.Goals as goal

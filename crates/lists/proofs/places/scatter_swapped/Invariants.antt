@@ -1,14 +1,9 @@
 -- `scatter_swapped` meets its contract. In both loops what is still to store, from byte i on, gives the whole.
-use borrow.Author.Rules.{rules}
-use native.Mathlib.Omega.{arith}
 use mathlib.Core.Bool.{true}
-use mathlib.Core.Path.{◌≡◌, refl, sym, ◌∙◌}
-use mathlib.Core.Logic.{⊎_elim}
+use mathlib.Core.Path.{◌≡◌}
 use Prim.Native.Nat.{◌≤◌, ◌-◌, ◌+◌, ◌%◌}
 use lib.ListN.{length, drop}
 use Rattle.lists.specs.Places.{placed}
-use Rattle.lists.proofs.Placed.{place_in, place_more, placed_none_lem}
-use Rattle.lists.proofs.Swapped.{Scattering, odd_test, scatter_first, scatter_none, scatter_words, word_test}
 use Rattle.lists.proofs.places.scatter_swapped.Given as goal
 
 abbrev pub invariant-loop-i : goal.invariant-loop-i

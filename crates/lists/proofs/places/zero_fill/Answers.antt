@@ -2,9 +2,7 @@
 use borrow.Author.Rules.{rules}
 use native.Mathlib.Omega.{arith}
 use mathlib.Core.Path.{◌≡◌, ◌∙◌}
-use Prim.Native.Nat.{◌≤◌, ◌-◌}
 use lib.ListN.{length, replicate, length-replicate}
-use lib.Seq.{sets}
 use native.Mathlib.Nat.{zero-add}
 use Rattle.lists.proofs.Stores.{fill_more, sets_whole}
 use Rattle.lists.proofs.places.zero_fill.Goals as goal

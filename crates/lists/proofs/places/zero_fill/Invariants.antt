@@ -1,12 +1,8 @@
 -- `zero_fill` meets its contract. So far the first i bytes are 0.
-use borrow.Author.Rules.{rules}
-use native.Mathlib.Omega.{arith}
-use mathlib.Core.Path.{◌≡◌, ◌∙◌}
+use mathlib.Core.Path.{◌≡◌}
 use Prim.Native.Nat.{◌≤◌, ◌-◌}
-use lib.ListN.{length, replicate, length-replicate}
+use lib.ListN.{length, replicate}
 use lib.Seq.{sets}
-use native.Mathlib.Nat.{zero-add}
-use Rattle.lists.proofs.Stores.{fill_more, sets_whole}
 use Rattle.lists.proofs.places.zero_fill.Given as goal
 
 abbrev pub invariant-loop-i : goal.invariant-loop-i

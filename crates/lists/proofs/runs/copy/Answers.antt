@@ -2,9 +2,7 @@
 use borrow.Author.Rules.{rules}
 use native.Mathlib.Omega.{arith}
 use mathlib.Core.Path.{◌≡◌, refl}
-use Prim.Native.Nat.{◌≤◌, ◌-◌, ◌+◌}
-use lib.ListN.{length, take, drop}
-use lib.Seq.{sets}
+use Prim.Native.Nat.{◌+◌}
 use Rattle.lists.proofs.Copied.{copy_byte}
 use Rattle.lists.proofs.runs.copy.Goals as goal
 

@@ -1,11 +1,8 @@
 -- `copy` meets its contract. Of a few bytes the first i are there so far.
-use borrow.Author.Rules.{rules}
-use native.Mathlib.Omega.{arith}
-use mathlib.Core.Path.{◌≡◌, refl}
-use Prim.Native.Nat.{◌≤◌, ◌-◌, ◌+◌}
+use mathlib.Core.Path.{◌≡◌}
+use Prim.Native.Nat.{◌≤◌, ◌-◌}
 use lib.ListN.{length, take, drop}
 use lib.Seq.{sets}
-use Rattle.lists.proofs.Copied.{copy_byte}
 use Rattle.lists.proofs.runs.copy.Given as goal
 
 abbrev pub invariant-loop-i : goal.invariant-loop-i

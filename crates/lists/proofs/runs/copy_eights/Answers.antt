@@ -1,10 +1,7 @@
 -- `copy_eights` meets its contract. So far the first i bytes are there.
 use borrow.Author.Rules.{rules}
 use native.Mathlib.Omega.{arith}
-use mathlib.Core.Path.{◌≡◌}
-use Prim.Native.Nat.{◌≤◌, ◌-◌}
-use lib.ListN.{length, take, drop}
-use lib.Seq.{sets}
+use Prim.Native.Nat.{◌-◌}
 use Rattle.lists.proofs.Copied.{copied_last, copied_more}
 use Rattle.lists.proofs.runs.copy_eights.Goals as goal
 

@@ -1,11 +1,8 @@
 -- `copy_runs` meets its contract. So far the first i bytes are there.
-use borrow.Author.Rules.{rules}
-use native.Mathlib.Omega.{arith}
 use mathlib.Core.Path.{◌≡◌}
 use Prim.Native.Nat.{◌≤◌, ◌-◌}
 use lib.ListN.{length, take, drop}
 use lib.Seq.{sets}
-use Rattle.lists.proofs.Copied.{copied_last, copied_more}
 use Rattle.lists.proofs.runs.copy_runs.Given as goal
 
 abbrev pub invariant-loop-i : goal.invariant-loop-i

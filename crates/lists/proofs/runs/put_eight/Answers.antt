@@ -2,9 +2,9 @@
 use borrow.Author.Rules.{rules}
 use native.Mathlib.Omega.{arith}
 use mathlib.Core.Path.{◌≡◌}
-use Prim.Native.Nat.{◌≤◌, ◌-◌, ◌+◌}
-use lib.ListN.{length, take}
-use lib.Seq.{sets, take-length}
+use Prim.Native.Nat.{◌+◌}
+use lib.ListN.{length}
+use lib.Seq.{take-length}
 use Rattle.lists.proofs.Copied.{copy_byte}
 use Rattle.lists.proofs.runs.put_eight.Goals as goal
 

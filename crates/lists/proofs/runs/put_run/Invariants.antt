@@ -1,11 +1,8 @@
 -- `put_run` meets its contract. So far the first i bytes of r are stored.
-use borrow.Author.Rules.{rules}
-use native.Mathlib.Omega.{arith}
 use mathlib.Core.Path.{◌≡◌}
-use Prim.Native.Nat.{◌≤◌, ◌-◌, ◌+◌}
+use Prim.Native.Nat.{◌≤◌, ◌-◌}
 use lib.ListN.{length, take}
-use lib.Seq.{sets, take-length}
-use Rattle.lists.proofs.Copied.{copy_byte}
+use lib.Seq.{sets}
 use Rattle.lists.proofs.runs.put_run.Given as goal
 
 abbrev pub invariant-loop-i : goal.invariant-loop-i

@@ -3,11 +3,9 @@ use borrow.Author.Rules.{rules}
 use native.Mathlib.Omega.{arith}
 use mathlib.Core.Bool.{true}
 use mathlib.Core.Path.{◌≡◌, refl, sym, ◌∙◌}
-use Prim.Native.Nat.{suc, ◌≤◌, ◌-◌, ◌+◌, ◌%◌}
+use Prim.Native.Nat.{suc, ◌-◌, ◌+◌}
 use native.Mathlib.Nat.{add-zero}
-use lib.ListN.{length, length-set}
-use lib.Seq.{sets}
-use Rattle.lists.specs.Places.{gathered}
+use lib.ListN.{length-set}
 use Rattle.lists.proofs.Placed.{gathered_none}
 use Rattle.lists.proofs.Swapped.{swap_word}
 use Rattle.lists.proofs.runs.put_swapped.Goals as goal

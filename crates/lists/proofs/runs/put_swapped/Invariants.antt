@@ -1,15 +1,10 @@
 -- `put_swapped` meets its contract. What is still to store, from word to word, gives the whole.
-use borrow.Author.Rules.{rules}
-use native.Mathlib.Omega.{arith}
 use mathlib.Core.Bool.{true}
-use mathlib.Core.Path.{◌≡◌, refl, sym, ◌∙◌}
-use Prim.Native.Nat.{suc, ◌≤◌, ◌-◌, ◌+◌, ◌%◌}
-use native.Mathlib.Nat.{add-zero}
-use lib.ListN.{length, length-set}
+use mathlib.Core.Path.{◌≡◌}
+use Prim.Native.Nat.{◌≤◌, ◌-◌, ◌+◌, ◌%◌}
+use lib.ListN.{length}
 use lib.Seq.{sets}
 use Rattle.lists.specs.Places.{gathered}
-use Rattle.lists.proofs.Placed.{gathered_none}
-use Rattle.lists.proofs.Swapped.{swap_word}
 use Rattle.lists.proofs.runs.put_swapped.Given as goal
 
 abbrev pub invariant-loop-i : goal.invariant-loop-i

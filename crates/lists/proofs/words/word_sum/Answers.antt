@@ -2,9 +2,7 @@
 use borrow.Author.Rules.{rules}
 use native.Mathlib.Omega.{arith}
 use mathlib.Core.Path.{◌≡◌}
-use Prim.Native.Nat.{◌≤◌, ◌-◌, ◌*◌}
-use lib.ListN.{take}
-use Rattle.lists.specs.Words.{word_limit, word_sum}
+use Rattle.lists.specs.Words.{word_sum}
 use Rattle.lists.proofs.Sums.{sum_more}
 use Rattle.lists.proofs.words.word_sum.Goals as goal
 

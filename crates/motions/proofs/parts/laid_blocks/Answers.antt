@@ -1,5 +1,4 @@
 -- `laid_blocks` meets its contract.
-use borrow.Author.Rules.{rules}
 use native.Mathlib.Omega.{arith}
 use Rattle.motions.specs.Parts.{laid_blocks}
 use Rattle.motions.proofs.parts.laid_blocks.Goals as goal

@@ -1,5 +1,4 @@
 -- `object_blocks` meets its contract: an arm for each object.
-use borrow.Author.Rules.{rules}
 use native.Mathlib.Omega.{arith}
 use Rattle.motions.specs.Parts.{object_blocks}
 use Rattle.motions.proofs.parts.object_blocks.Goals as goal

@@ -1,5 +1,4 @@
 -- `rest` meets its contract: nothing is moved and nothing laid.
-use borrow.Author.Rules.{rules}
 use Rattle.motions.proofs.parts.rest.Goals as goal
 
 pub returns : goal.returns

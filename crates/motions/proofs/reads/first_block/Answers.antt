@@ -1,5 +1,4 @@
 -- `first_block` meets its contract.
-use borrow.Author.Rules.{rules}
 use native.Mathlib.Omega.{arith}
 use Rattle.motions.specs.Reads.{first_block}
 use Rattle.motions.proofs.reads.first_block.Goals as goal

@@ -1,5 +1,4 @@
 -- `mark_end` meets its contract.
-use borrow.Author.Rules.{rules}
 use Rattle.motions.specs.Reads.{mark_end}
 use Rattle.motions.proofs.reads.mark_end.Goals as goal
 

@@ -1,5 +1,4 @@
 -- `nothing_end` meets its contract.
-use borrow.Author.Rules.{rules}
 use Rattle.motions.specs.Reads.{nothing_end}
 use Rattle.motions.proofs.reads.nothing_end.Goals as goal
 

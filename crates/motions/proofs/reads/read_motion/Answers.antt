@@ -1,5 +1,4 @@
 -- `read_motion` meets its contract.
-use borrow.Author.Rules.{rules}
 use Rattle.motions.specs.Reads.{read_motion}
 use Rattle.motions.proofs.reads.read_motion.Goals as goal
 

@@ -1,5 +1,4 @@
 -- `read_one` meets its contract: a record goes on, and anything else is the end.
-use borrow.Author.Rules.{rules}
 use Rattle.motions.specs.Reads.{on_record, read_one_under}
 use Rattle.motions.proofs.reads.read_one.Goals as goal
 

@@ -1,5 +1,4 @@
 -- `reread_one` meets its contract.
-use borrow.Author.Rules.{rules}
 use Rattle.motions.specs.Reads.{reread_under}
 use Rattle.motions.proofs.reads.reread_one.Goals as goal
 

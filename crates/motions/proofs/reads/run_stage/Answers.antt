@@ -1,5 +1,4 @@
 -- `run_stage` meets its contract: an arm for each thing found.
-use borrow.Author.Rules.{rules}
 use Rattle.motions.specs.Reads.{stage_by, stage_of_under}
 use Rattle.motions.proofs.reads.run_stage.Goals as goal
 

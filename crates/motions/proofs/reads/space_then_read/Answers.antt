@@ -1,5 +1,4 @@
 -- `space_then_read` meets its contract: a record goes on, and anything else is the end.
-use borrow.Author.Rules.{rules}
 use Rattle.motions.specs.Reads.{on_record, space_then_read_under}
 use Rattle.motions.proofs.reads.space_then_read.Goals as goal
 

@@ -1,5 +1,4 @@
 -- `position` meets its contract.
-use borrow.Author.Rules.{rules}
 use Rattle.motions.specs.Spaces.{positioned_under}
 use Rattle.motions.proofs.spaces.position.Goals as goal
 

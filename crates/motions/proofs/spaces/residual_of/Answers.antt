@@ -1,5 +1,4 @@
 -- `residual_of` meets its contract.
-use borrow.Author.Rules.{rules}
 use Rattle.motions.specs.Spaces.{residual_of}
 use Rattle.motions.proofs.spaces.residual_of.Goals as goal
 

@@ -1,5 +1,4 @@
 -- `space_end` meets its contract: an arm for each stop.
-use borrow.Author.Rules.{rules}
 use Rattle.motions.specs.Spaces.{space_end}
 use Rattle.motions.proofs.spaces.space_end.Goals as goal
 

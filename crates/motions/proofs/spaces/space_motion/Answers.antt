@@ -1,6 +1,5 @@
 -- `space_motion` meets its contract.
 use borrow.Enum.Refused.{opened}
-use borrow.Author.Rules.{rules}
 use Rattle.motions.specs.Spaces.{space_motion, space_motion_by}
 use Rattle.motions.proofs.Stops.{not_bad}
 use Rattle.motions.proofs.spaces.space_motion.Goals as goal

@@ -1,5 +1,4 @@
 -- `no_room` meets its contract.
-use borrow.Author.Rules.{rules}
 use Rattle.motions.specs.Writes.{no_room}
 use Rattle.motions.proofs.writes.no_room.Goals as goal
 

@@ -1,5 +1,4 @@
 -- `retry` meets its contract: an arm for each thing found.
-use borrow.Author.Rules.{rules}
 use Rattle.motions.specs.Writes.{retried_under, retried_by_under}
 use Rattle.motions.proofs.writes.retry.Goals as goal
 

@@ -1,5 +1,4 @@
 -- `write_at` meets its contract.
-use borrow.Author.Rules.{rules}
 use native.Mathlib.Omega.{arith}
 use borrow.Author.Tests.{le-ltb, lt-ltb}
 use Prim.Native.Nat.{◌+◌}

@@ -1,8 +1,6 @@
 -- `seek` meets its contract. The turns that are left say from `at` on what all of them say from p on.
-use borrow.Author.Rules.{rules}
-use mathlib.Core.Path.{◌≡◌, refl, ◌∙◌}
-use Rattle.moves.proofs.Seeks.{seek_done, seek_turn}
-use Rattle.moves.specs.Seeking.{sought, sought_under, sought_from, sought_on}
+use mathlib.Core.Path.{◌≡◌}
+use Rattle.moves.specs.Seeking.{sought, sought_from}
 use Rattle.moves.proofs.seeking.seek.Given as goal
 
 abbrev pub invariant-loop-turns : goal.invariant-loop-turns

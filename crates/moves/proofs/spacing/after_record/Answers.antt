@@ -1,5 +1,4 @@
 -- `after_record` meets its contract.
-use borrow.Author.Rules.{rules}
 use mathlib.Core.Path.{ap}
 use native.Mathlib.Omega.{arith}
 use Rattle.moves.specs.Counting.{how_many}

@@ -1,5 +1,4 @@
 -- `mark_turn` meets its contract: what is counted says what a mark does.
-use borrow.Author.Rules.{rules}
 use mathlib.Core.Path.{ap}
 use native.Mathlib.Omega.{arith}
 use Rattle.moves.proofs.Spaces.{mark_skips}

@@ -1,5 +1,4 @@
 -- `none_left` meets its contract.
-use borrow.Author.Rules.{rules}
 use Rattle.moves.proofs.spacing.none_left.Goals as goal
 
 pub returns-in-Records : goal.returns-in-Records

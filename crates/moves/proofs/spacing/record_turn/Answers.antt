@@ -1,5 +1,4 @@
 -- `record_turn` meets its contract.
-use borrow.Author.Rules.{rules}
 use Rattle.moves.specs.Spacing.{record_turn}
 use Rattle.moves.proofs.spacing.record_turn.Goals as goal
 

@@ -1,5 +1,4 @@
 -- `skip_turn` meets its contract.
-use borrow.Author.Rules.{rules}
 use Rattle.moves.specs.Spacing.{skip_turn}
 use Rattle.moves.proofs.spacing.skip_turn.Goals as goal
 

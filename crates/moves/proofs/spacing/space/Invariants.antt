@@ -1,8 +1,6 @@
 -- `space` meets its contract. The turns that are left say of the span now what all of them say of the first one.
-use borrow.Author.Rules.{rules}
-use mathlib.Core.Path.{◌≡◌, refl, ◌∙◌}
-use Rattle.moves.proofs.Spaces.{some_left, space_counted, space_done, space_turn}
-use Rattle.moves.specs.Spacing.{spaced, spaced_under, spaced_from, spaced_on}
+use mathlib.Core.Path.{◌≡◌}
+use Rattle.moves.specs.Spacing.{spaced, spaced_from}
 use Rattle.moves.proofs.spacing.space.Given as goal
 
 abbrev pub invariant-loop-turns : goal.invariant-loop-turns

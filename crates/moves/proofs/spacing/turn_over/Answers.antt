@@ -1,5 +1,4 @@
 -- `turn_over` meets its contract: an arm for each thing found.
-use borrow.Author.Rules.{rules}
 use Rattle.moves.specs.Spacing.{turn_of}
 use Rattle.moves.proofs.spacing.turn_over.Goals as goal
 

@@ -2,10 +2,7 @@
 use borrow.Author.Rules.{rules}
 use native.Mathlib.Omega.{arith}
 use mathlib.Core.Path.{◌≡◌}
-use Prim.Native.Nat.{◌≤◌, ◌-◌}
-use lib.ListN.{length, take, drop}
 use Rattle.lists.specs.Places.{placed}
-use Rattle.tape.specs.Bytes.{record_bytes}
 use Rattle.reel.proofs.Moved.{copy_more}
 use Rattle.reel.proofs.copy.copy_out.Goals as goal
 

@@ -1,5 +1,4 @@
 -- `read_record` meets its contract: each way, the bytes that are copied out are those that the Read moves.
-use borrow.Author.Rules.{rules}
 use Rattle.reel.proofs.Moved.{read_forward, read_reverse}
 use Rattle.reel.proofs.copy.read_record.Goals as goal
 

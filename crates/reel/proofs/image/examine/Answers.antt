@@ -1,5 +1,4 @@
 -- `examine` meets its contract: too long, not whole blocks, or what the sweep says.
-use borrow.Author.Rules.{rules}
 use Rattle.reel.proofs.Examined.{image_long, image_ragged, image_swept_lem}
 use Rattle.tape.specs.Listing.{image_swept}
 use Rattle.reel.proofs.image.examine.Goals as goal

@@ -1,5 +1,4 @@
 -- `lay_bare` meets its contract: the block that was lent comes back laid, and the rest of the reel as it was.
-use borrow.Author.Rules.{rules}
 use native.Mathlib.Omega.{arith}
 use mathlib.Core.List.{[]}
 use Rattle.lists.specs.Places.{gathered}

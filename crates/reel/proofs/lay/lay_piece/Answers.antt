@@ -1,5 +1,4 @@
 -- `lay_piece` meets its contract: the bytes gathered for the piece are the record's.
-use borrow.Author.Rules.{rules}
 use native.Mathlib.Omega.{arith}
 use Rattle.tape.proofs.PieceRun.{length_piece}
 use Rattle.reel.proofs.Laid.{part_laid, piece_laid}

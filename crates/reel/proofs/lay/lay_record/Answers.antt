@@ -2,11 +2,7 @@
 use borrow.Author.Rules.{rules}
 use native.Mathlib.Omega.{arith}
 use mathlib.Core.Path.{◌≡◌}
-use Prim.Native.Nat.{◌*◌, ◌≤◌, ◌-◌}
-use lib.ListN.{length}
-use lib.Seq.{sets}
 use Rattle.lists.specs.Places.{gathered}
-use Rattle.tape.specs.Numbers.{block_bytes}
 use Rattle.tape.specs.Objects.{pieces_to}
 use Rattle.reel.proofs.Laid.{pieces_more, pieces_whole}
 use Rattle.reel.proofs.lay.lay_record.Goals as goal

@@ -1,6 +1,4 @@
 -- `lay_record` meets its contract. So far the first i pieces are laid, and nothing else has changed.
-use borrow.Author.Rules.{rules}
-use native.Mathlib.Omega.{arith}
 use mathlib.Core.Path.{◌≡◌}
 use Prim.Native.Nat.{◌*◌, ◌≤◌, ◌-◌}
 use lib.ListN.{length}
@@ -8,7 +6,6 @@ use lib.Seq.{sets}
 use Rattle.lists.specs.Places.{gathered}
 use Rattle.tape.specs.Numbers.{block_bytes}
 use Rattle.tape.specs.Objects.{pieces_to}
-use Rattle.reel.proofs.Laid.{pieces_more, pieces_whole}
 use Rattle.reel.proofs.lay.lay_record.Given as goal
 
 abbrev pub invariant-loop-i : goal.invariant-loop-i

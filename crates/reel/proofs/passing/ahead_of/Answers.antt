@@ -1,5 +1,4 @@
 -- `ahead_of` meets its contract, by the flag and the order of the two ends.
-use borrow.Author.Rules.{rules}
 use native.Mathlib.Omega.{arith}
 use Rattle.reel.proofs.passing.ahead_of.Goals as goal
 

@@ -1,5 +1,4 @@
 -- `fault_of` meets its contract, by what the block is.
-use borrow.Author.Rules.{rules}
 use Rattle.tape.specs.Pass.{fault_of}
 use Rattle.reel.proofs.passing.fault_of.Goals as goal
 

@@ -1,5 +1,4 @@
 -- `first_met` meets its contract: in reverse a block lies ahead, so that p is not 0.
-use borrow.Author.Rules.{rules}
 use native.Mathlib.Omega.{arith}
 use Rattle.reel.proofs.passing.first_met.Goals as goal
 

@@ -1,5 +1,4 @@
 -- `is_piece` meets its contract, by what the block is.
-use borrow.Author.Rules.{rules}
 use Rattle.tape.specs.Pass.{is_piece}
 use Rattle.reel.proofs.passing.is_piece.Goals as goal
 

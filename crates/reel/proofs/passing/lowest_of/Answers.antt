@@ -1,5 +1,4 @@
 -- `lowest_of` meets its contract: in reverse the blocks lie ahead, so that block 0 is not passed.
-use borrow.Author.Rules.{rules}
 use native.Mathlib.Omega.{arith}
 use Rattle.reel.proofs.passing.lowest_of.Goals as goal
 

@@ -1,5 +1,4 @@
 -- `order_met` meets its contract, by the flag.
-use borrow.Author.Rules.{rules}
 use Rattle.reel.proofs.passing.order_met.Goals as goal
 
 pub returns-then-reverse : goal.returns-then-reverse

@@ -1,5 +1,4 @@
 -- `pass` meets its contract: nothing ahead, or what the first block met says.
-use borrow.Author.Rules.{rules}
 use native.Mathlib.Omega.{arith}
 use Rattle.reel.proofs.Meetings.{pass_met, pass_nothing}
 use Rattle.reel.proofs.Pieces.{piece_counts}

@@ -1,11 +1,6 @@
 -- `pieces_met` meets its contract. The pieces from the j-th on say what all of them say; what is left of the m pieces falls.
-use borrow.Author.Rules.{rules}
-use native.Mathlib.Omega.{arith}
-use mathlib.Core.Path.{◌≡◌, sym, ◌∙◌}
+use mathlib.Core.Path.{◌≡◌}
 use Prim.Native.Nat.{◌-◌, ◌≤◌}
-use borrow.Author.Tests.{not-true, not-false}
-use Rattle.reel.proofs.Walks.{pieces_end, pieces_pass, pieces_stop}
-use Rattle.reel.proofs.Ways.{order_in}
 use Rattle.tape.specs.Pass.{pieces_met}
 use Rattle.reel.proofs.passing.pieces_met.Given as goal
 

@@ -1,6 +1,4 @@
 -- `record_met` meets its contract: a record that is not due, and one whose pieces are walked over.
-use borrow.Author.Rules.{rules}
-use borrow.Author.Tests.{not-true, not-false}
 use lib.Dec.{eqb}
 use native.Mathlib.Omega.{arith}
 use Rattle.reel.proofs.Meetings.{record_cut, record_due}

@@ -1,8 +1,7 @@
 -- `sweep` meets its contract. The turns that are left say from p on what all of them say from block 0 on.
-use borrow.Author.Rules.{rules}
-use mathlib.Core.Path.{◌≡◌, refl, ◌∙◌}
+use mathlib.Core.Path.{refl, ◌∙◌}
 use Rattle.reel.proofs.Sweeps.{sweep_done, sweep_turn}
-use Rattle.tape.specs.Sweep.{swept_below, swept_below_under, swept_from, swept_on}
+use Rattle.tape.specs.Sweep.{swept_below_under, swept_on}
 use Rattle.reel.proofs.sweeping.sweep.Goals as goal
 
 pub loop-turns-init : goal.loop-turns-init

@@ -1,5 +1,5 @@
 -- `decode` meets its contract: an arm says what the code is and its callee what the mode makes of it, the last arm what the code is not.
-use Rattle.std.proofs.Common.{rules, ne_eqb}
+use Rattle.std.proofs.Common.{ne_eqb}
 use Rattle.signals.specs.Codes.{command_of}
 use Rattle.signals.proofs.codes.decode.Goals as goal
 

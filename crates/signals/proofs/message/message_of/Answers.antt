@@ -1,5 +1,4 @@
 -- `message_of` meets its contract: each of the seven words is what its part ensures.
-use Rattle.std.proofs.Common.{rules}
 use Rattle.signals.specs.Message.{message_of}
 use Rattle.signals.proofs.message.message_of.Goals as goal
 

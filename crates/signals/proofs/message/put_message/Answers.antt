@@ -1,6 +1,6 @@
 -- `put_message` meets its contract. So far the first i words are in memory.
-use Rattle.std.proofs.Common.{◌≡◌, ◌-◌, ◌≤◌, length, get_or, take, arith, w16, Fits, rules}
-use lib.Seq.{sets, take-length}
+use Rattle.std.proofs.Common.{◌≡◌, length, get_or, arith, w16, Fits, rules}
+use lib.Seq.{take-length}
 use Rattle.signals.specs.Message.{messaged, words_bytes}
 use Rattle.signals.proofs.Messages.{word_more}
 use Rattle.signals.proofs.message.put_message.Goals as goal

@@ -1,8 +1,7 @@
 -- `put_message` meets its contract. So far the first i words are in memory.
-use Rattle.std.proofs.Common.{◌≡◌, ◌-◌, ◌≤◌, length, get_or, take, arith, w16, Fits, rules}
-use lib.Seq.{sets, take-length}
-use Rattle.signals.specs.Message.{messaged, words_bytes}
-use Rattle.signals.proofs.Messages.{word_more}
+use Rattle.std.proofs.Common.{◌≡◌, ◌-◌, ◌≤◌, length, take}
+use lib.Seq.{sets}
+use Rattle.signals.specs.Message.{words_bytes}
 use Rattle.signals.proofs.message.put_message.Given as goal
 
 abbrev pub invariant-loop-i : goal.invariant-loop-i

@@ -1,5 +1,4 @@
 -- `initialize` meets its contract: the parts are those of a fresh unit, and the switch says where the tape stands.
-use borrow.Author.Rules.{rules}
 use Rattle.state.specs.Changes.{initialized}
 use Rattle.state.proofs.Unit.initialize.Goals as goal
 

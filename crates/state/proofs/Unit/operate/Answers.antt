@@ -1,5 +1,4 @@
 -- `operate` meets its contract: the act says which switch, and the switch whether anything is done.
-use borrow.Author.Rules.{rules}
 use Rattle.state.specs.Changes.{operated}
 use Rattle.state.proofs.Unit.operate.Goals as goal
 

@@ -1,5 +1,4 @@
 -- `tssr` meets its contract: each bit is what its flag ensures, and each sum fits since a flag is at most its weight.
-use borrow.Author.Rules.{rules}
 use Rattle.state.specs.Readings.{tssr_of}
 use Rattle.state.proofs.Unit.tssr.Goals as goal
 

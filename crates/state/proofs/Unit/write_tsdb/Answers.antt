@@ -1,5 +1,4 @@
 -- `write_tsdb` meets its contract: SSR says which of the two registers are chosen.
-use borrow.Author.Rules.{rules}
 use borrow.Author.Tests.{not-true, not-false}
 use Rattle.state.specs.Changes.{tsdb_written}
 use Rattle.state.proofs.Unit.write_tsdb.Goals as goal

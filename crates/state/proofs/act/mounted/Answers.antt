@@ -1,5 +1,4 @@
 -- `mounted` meets its contract: each part is what its function ensures.
-use borrow.Author.Rules.{rules}
 use Rattle.state.specs.Changes.{mounted_as}
 use Rattle.state.proofs.act.mounted.Goals as goal
 

@@ -1,5 +1,4 @@
 -- `lengths_wrong` meets its contract: both tests are what their functions ensure.
-use borrow.Author.Rules.{rules}
 use Rattle.state.specs.Checks.{lengths_wrong}
 use Rattle.state.proofs.check.lengths_wrong.Goals as goal
 

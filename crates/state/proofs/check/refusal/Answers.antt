@@ -1,5 +1,4 @@
 -- `refusal` meets its contract: each test is one of the definition, the last by the law of whole blocks.
-use borrow.Author.Rules.{rules}
 use borrow.Author.Tests.{eq-eqb, ne_eqb}
 use Rattle.state.specs.Checks.{refusal_of}
 use Rattle.state.proofs.Tests.{whole_blocks}

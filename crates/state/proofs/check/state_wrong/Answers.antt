@@ -1,5 +1,4 @@
 -- `state_wrong` meets its contract: each part is what its function ensures.
-use borrow.Author.Rules.{rules}
 use Rattle.state.specs.Checks.{state_wrong}
 use Rattle.state.proofs.check.state_wrong.Goals as goal
 

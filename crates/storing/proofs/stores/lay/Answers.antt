@@ -1,5 +1,4 @@
 -- `lay` meets its contract: the gap and the object are one run of blocks.
-use borrow.Author.Rules.{rules}
 use native.Mathlib.Omega.{arith}
 use Rattle.storing.proofs.Ways.{blocks_after_gap, blocks_alone, laid_after_gap, laid_alone}
 use Rattle.storing.proofs.stores.lay.Goals as goal

@@ -1,5 +1,4 @@
 -- `move_data` meets its contract.
-use borrow.Author.Rules.{rules}
 use Rattle.storing.specs.Stored.{moved_on}
 use Rattle.storing.proofs.stores.move_data.Goals as goal
 

@@ -1,5 +1,4 @@
 -- `store` meets its contract: the reel, the data from the reel as it then is, and the message over them.
-use borrow.Author.Rules.{rules}
 use native.Mathlib.Omega.{arith}
 use Rattle.storing.proofs.Ways.{stored_quiet, stored_sent}
 use Rattle.storing.proofs.stores.store.Goals as goal

@@ -1,4 +1,3 @@
-use borrow.Author.Rules.{rules}
 use Rattle.touched.specs.Touches.{touched_fits}
 use Rattle.touched.proofs.saving.touched_fits.Goals as goal
 
