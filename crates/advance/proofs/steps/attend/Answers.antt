@@ -1,5 +1,4 @@
 -- `attend` meets its contract: what is rejected is the unit with no attention pending.
-use borrow.Author.Rules.{rules}
 use Rattle.advance.specs.Steps.{attended_under}
 use Rattle.advance.proofs.steps.attend.Goals as goal
 

@@ -1,5 +1,4 @@
 -- `course` meets its contract: its test is the definition's.
-use borrow.Author.Rules.{rules}
 use Rattle.advance.proofs.steps.course.Goals as goal
 
 pub returns-then-u : goal.returns-then-u

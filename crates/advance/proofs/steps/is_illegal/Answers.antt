@@ -1,5 +1,4 @@
 -- `is_illegal` meets its contract: each arm is a clause of the definition.
-use borrow.Author.Rules.{rules}
 use Rattle.advance.specs.Rules.{is_illegal}
 use Rattle.advance.proofs.steps.is_illegal.Goals as goal
 

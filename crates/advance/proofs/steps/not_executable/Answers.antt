@@ -1,5 +1,4 @@
 -- `not_executable` meets its contract: both tests are what their functions ensure.
-use borrow.Author.Rules.{rules}
 use Rattle.advance.specs.Rules.{not_executable_under}
 use Rattle.advance.proofs.steps.not_executable.Goals as goal
 

@@ -1,6 +1,5 @@
 -- `plan_advance` meets its contract: idle by its test, else the plan of its course.
 use mathlib.Core.Path.{◌∙◌}
-use borrow.Author.Rules.{rules}
 use Rattle.advance.proofs.Idle.{idles, runs}
 use Rattle.advance.proofs.steps.plan_advance.Goals as goal
 

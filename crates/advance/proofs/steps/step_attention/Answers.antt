@@ -1,5 +1,4 @@
 -- `step_attention` meets its contract: its test is the definition's.
-use borrow.Author.Rules.{rules}
 use Rattle.advance.specs.Steps.{step_attention_under}
 use Rattle.advance.proofs.steps.step_attention.Goals as goal
 

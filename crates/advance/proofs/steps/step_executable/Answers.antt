@@ -1,5 +1,4 @@
 -- `step_executable` meets its contract: the tests on the way are the definition's, and each part is what its function ensures.
-use borrow.Author.Rules.{rules}
 use Rattle.advance.specs.Steps.{step_executable_under}
 use Rattle.advance.proofs.steps.step_executable.Goals as goal
 

@@ -1,5 +1,4 @@
 -- `step_extent` meets its contract: the extent that was looked at is what the next step asks for.
-use borrow.Author.Rules.{rules}
 use Rattle.advance.proofs.Extents.{data_fit}
 use Rattle.advance.specs.Steps.{step_extent_under}
 use Rattle.advance.proofs.steps.step_extent.Goals as goal

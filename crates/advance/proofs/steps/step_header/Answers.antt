@@ -1,5 +1,4 @@
 -- `step_header` meets its contract: its test is the definition's, and the header is that of the word in memory.
-use borrow.Author.Rules.{rules}
 use borrow.Author.Tests.{le-ltb, lt-ltb}
 use Rattle.commands.specs.Ends.{plan_by_under, plan_of_under}
 use Rattle.advance.specs.Steps.{step_header_under}

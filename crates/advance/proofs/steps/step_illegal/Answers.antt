@@ -1,5 +1,4 @@
 -- `step_illegal` meets its contract: its test is the definition's, by what `decode` and `is_illegal` ensure.
-use borrow.Author.Rules.{rules}
 use Rattle.advance.specs.Steps.{step_illegal_under}
 use Rattle.advance.proofs.steps.step_illegal.Goals as goal
 

@@ -1,5 +1,4 @@
 -- `step_no_buffer` meets its contract: its test is the definition's.
-use borrow.Author.Rules.{rules}
 use Rattle.advance.specs.Steps.{step_no_buffer_under}
 use Rattle.advance.proofs.steps.step_no_buffer.Goals as goal
 

@@ -1,7 +1,4 @@
 -- `step_owner` meets its contract: its test is the definition's, and what goes on is the unit of the definition.
-use borrow.Author.Rules.{rules}
-use mathlib.Core.Bool.{◌||◌}
-use borrow.Author.Tests.{not-true, not-false}
 use Rattle.commands.specs.Ends.{plan_by_under, plan_of_under}
 use Rattle.advance.specs.Steps.{step_owner_under}
 use Rattle.advance.proofs.steps.step_owner.Goals as goal

@@ -1,5 +1,4 @@
 -- `step_pointer` meets its contract: its test is the definition's.
-use borrow.Author.Rules.{rules}
 use Rattle.advance.specs.Steps.{step_pointer_under}
 use Rattle.advance.proofs.steps.step_pointer.Goals as goal
 

@@ -1,5 +1,4 @@
 -- `whole_count` meets its contract: the tests on the way are the definition's.
-use native.Mathlib.Omega.{arith}
 use borrow.Author.Tests.{eq-eqb, ne_eqb}
 use Rattle.advance.specs.Rules.{whole_count}
 use Rattle.advance.proofs.steps.whole_count.Goals as goal
