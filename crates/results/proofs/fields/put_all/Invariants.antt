@@ -10,7 +10,7 @@ use native.Mathlib.Omega.{arith}
 use Rattle.results.proofs.fields.put_all.Given as goal
 
 abbrev pub invariant-loop-i : goal.invariant-loop-i
-invariant-loop-i l = (i ≤ 21) × (length l.next ≡ length l.initial.out) × Put l.initial.out l.at (numbers_text (take i l.f)) l.next l.i
+invariant-loop-i l = (l.i ≤ 21) × (length l.out ≡ length l.initial.out) × Put l.initial.out l.at (numbers_text (take l.i l.f)) l.out l.next
 
 abbrev pub decreases-loop-i : goal.decreases-loop-i
-decreases-loop-i l = 21 - i
+decreases-loop-i l = 21 - l.i
