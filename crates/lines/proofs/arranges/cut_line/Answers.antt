@@ -2,7 +2,6 @@
 use mathlib.Core.Path.{sym, ◌∙◌}
 use Rattle.lines.specs.Arranging.{cut_line}
 use Rattle.lines.proofs.Asked.{number_not, number_read}
-use borrow.Author.Rules.{rules}
 use Rattle.lines.proofs.arranges.cut_line.Goals as goal
 
 pub returns-then-not-has_word : goal.returns-then-not-has_word

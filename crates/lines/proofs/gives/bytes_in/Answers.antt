@@ -5,7 +5,6 @@ use Prim.Native.Nat.{ℕ}
 use lib.ListN.{length}
 use Rattle.script.specs.Fills.{hex_answer, hex_filled}
 use Rattle.script.proofs.Passing.{part_word}
-use borrow.Author.Rules.{rules}
 use Rattle.lines.proofs.gives.bytes_in.Goals as goal
 
 pub returns : goal.returns

@@ -1,6 +1,5 @@
 -- `fill` meets its contract, for each thing that a line may give.
 use Rattle.lines.specs.Gives.{given_answer, given_filled}
-use borrow.Author.Rules.{rules}
 use Rattle.lines.proofs.gives.fill.Goals as goal
 
 pub returns-in-Nothing : goal.returns-in-Nothing
