@@ -1,5 +1,4 @@
 -- `arrange` meets its contract: what the line clears, and the desk then.
-use borrow.Author.Rules.{rules}
 use Rattle.desk.proofs.arranges.arrange.Goals as goal
 
 pub returns : goal.returns

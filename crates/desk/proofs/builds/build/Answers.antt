@@ -7,7 +7,6 @@ use lib.ListN.{length-take}
 use lib.Seq.{sets}
 use Rattle.lists.proofs.Stores.{put_sets}
 use Rattle.desk.specs.Turns.{settled}
-use borrow.Author.Rules.{rules}
 use Rattle.desk.proofs.builds.build.Goals as goal
 
 pub returns : goal.returns

@@ -1,7 +1,6 @@
 -- `build_at` meets its contract, for each such line.
 use native.Mathlib.Nat.{sub-zero}
 use Rattle.desk.specs.Builds.{built_answer, built_memory, built_reel}
-use borrow.Author.Rules.{rules}
 use Rattle.desk.proofs.builds.build_at.Goals as goal
 
 pub returns-in-Poke : goal.returns-in-Poke

@@ -4,7 +4,6 @@ use lib.ListN.{take}
 use Rattle.tape.specs.Objects.{Object}
 use Rattle.desk.specs.Builds.{laid_at}
 use Rattle.desk.proofs.Built.{laid_front, record_done, record_long, record_odd, record_out, record_unheld}
-use borrow.Author.Rules.{rules}
 use Rattle.desk.proofs.builds.lay_bytes.Goals as goal
 
 pub returns-then-n-gt65535 : goal.returns-then-n-gt65535

@@ -8,7 +8,6 @@ use lib.Seq.{sets}
 use Rattle.lists.proofs.Stores.{put_sets}
 use Rattle.desk.specs.Turns.{settled}
 use Rattle.desk.specs.Tables.{poked_bytes, poked_turn}
-use borrow.Author.Rules.{rules}
 use Rattle.desk.proofs.tables.poke_table.Goals as goal
 
 pub returns : goal.returns

@@ -1,7 +1,6 @@
 -- `tabled` meets its contract, for each such line.
 use native.Mathlib.Nat.{sub-zero}
 use Rattle.desk.specs.Tables.{tabled_bytes, tabled_turn}
-use borrow.Author.Rules.{rules}
 use Rattle.desk.proofs.tables.tabled.Goals as goal
 
 pub returns-in-Index : goal.returns-in-Index

@@ -1,12 +1,9 @@
 -- `put_all` meets its contract: so far the first i numbers are put.
-use mathlib.Core.Path.{◌≡◌, ap}
-use Prim.Native.Nat.{ℕ, ◌≤◌, ◌-◌}
+use mathlib.Core.Path.{◌≡◌}
+use Prim.Native.Nat.{◌≤◌, ◌-◌}
 use lib.ListN.{length, take}
 use Rattle.script.specs.Prints.{Put}
 use Rattle.results.specs.Lines.{numbers_text}
-use Rattle.results.proofs.Texts.{numbers_more, put_empty, put_same}
-use borrow.Author.Rules.{rules}
-use native.Mathlib.Omega.{arith}
 use Rattle.results.proofs.fields.put_all.Given as goal
 
 abbrev pub invariant-loop-i : goal.invariant-loop-i
