@@ -1,5 +1,5 @@
 -- Bytes put into memory and reel with no call: the answer, and what is stored where the line is taken. A line that can't be taken stores nothing.
-use Rattle.std.specs.Prelude.{Bool, List, ℕ, ◌+◌, ◌-◌, ◌*◌, ◌/◌, ◌%◌, eqb, leb, ltb, length, take, drop}
+use Rattle.std.specs.Prelude.{List, ℕ, ◌+◌, ◌*◌, ◌/◌, ◌%◌, eqb, leb, ltb, length, take, drop}
 use Rattle.std.proofs.lemmas.List.Edits.{sets}
 use Rattle.lists.specs.Pick.{pick}
 use Rattle.lists.specs.Words.{word_bytes}

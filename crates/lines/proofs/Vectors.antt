@@ -12,7 +12,7 @@ use Rattle.lines.specs.declared.Ask.TheVariants as ask
 use Rattle.lines.specs.declared.Build.TheVariants as build
 use Rattle.lines.specs.declared.Call.TheVariants as call
 use Rattle.lines.specs.declared.Does.TheVariants as does
-use Rattle.lines.specs.declared.Given.TheVariants as goal
+use Rattle.lines.specs.declared.Given.TheVariants as given
 use Rattle.lines.specs.declared.Table.TheVariants as table
 use Rattle.lines.specs.Makes.{arranges_line, asks_line, builds_line, calls_line, on_number, on_numbers, plain_line, tables_line, wrong_line}
 use Rattle.lines.specs.Starts.{has_word, most_words, start_of, start_words}
@@ -29,12 +29,12 @@ unfolding line_of has_word place_from eqs word_from word_start word_end over spa
 empty = refl
 
 -- "op lock"
-locks : line_of (111 ∷ 112 ∷ 32 ∷ 108 ∷ 111 ∷ 99 ∷ 107 ∷ []) 0 ≡ asks_line (ask.Operate act.Lock) goal.Nothing
+locks : line_of (111 ∷ 112 ∷ 32 ∷ 108 ∷ 111 ∷ 99 ∷ 107 ∷ []) 0 ≡ asks_line (ask.Operate act.Lock) given.Nothing
 unfolding line_of line_from line_by has_word start_of start_words most_words calling op_line operate_by place_from eqs word_from word_start word_end over spanned
 locks = refl
 
 -- "mount cursor 1 0" while the cursor is at 7
-mounts : line_of (109 ∷ 111 ∷ 117 ∷ 110 ∷ 116 ∷ 32 ∷ 99 ∷ 117 ∷ 114 ∷ 115 ∷ 111 ∷ 114 ∷ 32 ∷ 49 ∷ 32 ∷ 48 ∷ []) 7 ≡ calls_line (call.Mount 7 true false) goal.Nothing
+mounts : line_of (109 ∷ 111 ∷ 117 ∷ 110 ∷ 116 ∷ 32 ∷ 99 ∷ 117 ∷ 114 ∷ 115 ∷ 111 ∷ 114 ∷ 32 ∷ 49 ∷ 32 ∷ 48 ∷ []) 7 ≡ calls_line (call.Mount 7 true false) given.Nothing
 unfolding line_of line_from line_by has_word start_of start_words most_words calling mount_line end_of number_in hexed said joined digit_of wanted_of three_of on_number on_numbers place_from eqs word_from word_start word_end over spanned
 mounts = refl
 
@@ -44,12 +44,12 @@ unfolding line_of line_from line_by has_word start_of start_words most_words arr
 sets = refl
 
 -- "RN 5 9"
-makes : line_of (82 ∷ 78 ∷ 32 ∷ 53 ∷ 32 ∷ 57 ∷ []) 0 ≡ builds_line build.Record (goal.Made 5 9)
+makes : line_of (82 ∷ 78 ∷ 32 ∷ 53 ∷ 32 ∷ 57 ∷ []) 0 ≡ builds_line build.Record (given.Made 5 9)
 unfolding line_of line_from line_by has_word start_of start_words most_words laying made_line number_in hexed said joined digit_of wanted_of three_of on_number on_numbers place_from eqs word_from word_start word_end over spanned
 makes = refl
 
 -- "pokereel 0x1f 00"
-pokes : line_of (112 ∷ 111 ∷ 107 ∷ 101 ∷ 114 ∷ 101 ∷ 101 ∷ 108 ∷ 32 ∷ 48 ∷ 120 ∷ 49 ∷ 102 ∷ 32 ∷ 48 ∷ 48 ∷ []) 0 ≡ builds_line (build.PokeReel 31) (goal.Word 2)
+pokes : line_of (112 ∷ 111 ∷ 107 ∷ 101 ∷ 114 ∷ 101 ∷ 101 ∷ 108 ∷ 32 ∷ 48 ∷ 120 ∷ 49 ∷ 102 ∷ 32 ∷ 48 ∷ 48 ∷ []) 0 ≡ builds_line (build.PokeReel 31) (given.Word 2)
 unfolding line_of line_from line_by has_word start_of start_words most_words poking poke_line number_in hexed said joined digit_of wanted_of three_of on_number on_numbers place_from eqs word_from word_start word_end over spanned
 pokes = refl
 
@@ -63,11 +63,11 @@ unfolding line_of line_from line_by has_word start_of start_words most_words arr
 lens_four = refl
 
 -- "index 47", "poketable 8 00"
-indexes : line_of (105 ∷ 110 ∷ 100 ∷ 101 ∷ 120 ∷ 32 ∷ 52 ∷ 55 ∷ []) 0 ≡ tables_line (table.Index 47) goal.Nothing
+indexes : line_of (105 ∷ 110 ∷ 100 ∷ 101 ∷ 120 ∷ 32 ∷ 52 ∷ 55 ∷ []) 0 ≡ tables_line (table.Index 47) given.Nothing
 unfolding line_of line_from line_by has_word start_of start_words most_words tabling number_in hexed said joined digit_of wanted_of three_of on_number on_numbers place_from eqs word_from word_start word_end over spanned
 indexes = refl
 
-pokes_table : line_of (112 ∷ 111 ∷ 107 ∷ 101 ∷ 116 ∷ 97 ∷ 98 ∷ 108 ∷ 101 ∷ 32 ∷ 56 ∷ 32 ∷ 48 ∷ 48 ∷ []) 0 ≡ tables_line (table.Poke 8) (goal.Word 2)
+pokes_table : line_of (112 ∷ 111 ∷ 107 ∷ 101 ∷ 116 ∷ 97 ∷ 98 ∷ 108 ∷ 101 ∷ 32 ∷ 56 ∷ 32 ∷ 48 ∷ 48 ∷ []) 0 ≡ tables_line (table.Poke 8) (given.Word 2)
 unfolding line_of line_from line_by has_word start_of start_words most_words tabling number_in hexed said joined digit_of wanted_of three_of on_number on_numbers place_from eqs word_from word_start word_end over spanned
 pokes_table = refl
 
@@ -81,7 +81,7 @@ unfolding line_of line_from line_by has_word start_of start_words most_words pla
 unknown = refl
 
 -- the last of the calls, and the last of the fields
-last_word : line_of (98 ∷ 97 ∷ 99 ∷ 107 ∷ []) 0 ≡ calls_line call.StepBack goal.Nothing
+last_word : line_of (98 ∷ 97 ∷ 99 ∷ 107 ∷ []) 0 ≡ calls_line call.StepBack given.Nothing
 unfolding line_of line_from line_by has_word start_of start_words most_words calling place_from eqs word_from word_start word_end over spanned
 last_word = refl
 

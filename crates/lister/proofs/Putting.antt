@@ -4,8 +4,9 @@ use mathlib.Core.Bool.{false}
 use mathlib.Core.List.{List, [], ◌∷◌, ◌++◌, append_assoc}
 use Prim.Native.Nat.{ℕ, suc, ◌-◌, ◌≤◌}
 use native.Mathlib.Omega.{arith}
-use lib.ListN.{length}
+use lib.ListN.{length, take}
 use lib.Seq.{length-sets, sets, take_all, take-nil}
+use Rattle.lists.proofs.Stores.{sets_part}
 use Rattle.script.specs.Prints.{Put}
 use Rattle.script.proofs.Printed.{put_more}
 use Rattle.tape.specs.Listing.{examined}
@@ -58,3 +59,7 @@ module _ (s o o' : List ℕ) (r : ℕ) (whole : length o ≡ listing_limit) (put
 -- as many bytes as that are in the buffer
 pub lines_below : (s o o' : List ℕ) (r : ℕ) → listing_limit ≡ length o → o' ≡ sets o 0 (listed s) → r ≡ length (listed s) → r ≤ length o'
 lines_below s o o' r whole stored told = omega (arith, ap length stored, length-sets o 0 (listed s), listed_short s)
+
+-- and they are the listing
+pub lines_written : (s o o' : List ℕ) (r : ℕ) → listing_limit ≡ length o → o' ≡ sets o 0 (listed s) → r ≡ length (listed s) → take r o' ≡ listed s
+lines_written s o o' r whole stored told = rw (told, stored) (sets_part (listed s) o 0 (omega (arith, listed_short s)))

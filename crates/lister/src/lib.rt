@@ -3,16 +3,19 @@
 
 mod prints;
 
-ghost use Rattle.std.specs.Prelude.{◌≡◌, length};
-ghost use Rattle.lister.specs.Listed.{listing_limit};
+ghost use Rattle.std.specs.Prelude.{◌≡◌, ◌≤◌, length, take, IfOk, IfSome, OnOk};
+ghost use Rattle.std.specs.Io.KnownBytes.{Appends};
+ghost use Rattle.lister.specs.Listed.{listed, listing_limit};
 
-use libc::STDOUT_FILENO;
 use prints::LISTING_LIMIT;
 pub use prints::lines;
+use std::io::{Read, Result, Write};
 use tape::Geometry;
 
 // One byte more than the longest image, so that a longer one is seen.
-fn space() -> [u8; Geometry::IMAGE_LIMIT + 1] {
+fn space() -> [u8; Geometry::IMAGE_LIMIT + 1]
+    ensures { 65537 ≡ length result }
+{
     [0u8; Geometry::IMAGE_LIMIT + 1]
 }
 
@@ -22,16 +25,37 @@ fn lines_space() -> [u8; LISTING_LIMIT]
     [0u8; LISTING_LIMIT]
 }
 
-// Prints the listing of an image. That the bytes go out is the C library's: its write promises nothing that a contract could use.
-pub fn list(image: &[u8]) {
+// Prints the listing of an image. Of a file or a pipe no contract knows what it holds, so that the bytes arrive there is the system's.
+pub fn list<W: Write>(to: &mut W, image: &[u8]) -> Result<()>
+    ensures { OnOk result (Appends (W.contents to.old) (W.contents to.new) (listed image.now)) }
+{
     let mut out = lines_space();
     let n = lines(image, &mut out);
-    io::write_all(STDOUT_FILENO, &out[..n]);
+    to.write_all(&out[..n])
 }
 
-// Prints the listing of what a file or a pipe holds; what a read brings is the C library's too.
-pub fn list_file(fd: i32) {
+// Fills the buffer from its start until it is full or the input ends; how many bytes it got.
+fn read_full<R: Read>(from: &mut R, buffer: &mut [u8]) -> Result<usize>
+    ensures within { IfOk result (λ n. n ≤ length buffer.new) }
+    ensures whole { length buffer.new ≡ length buffer.old }
+    ensures bytes { IfOk result (λ n. IfSome (R.remaining from.old) (λ xs. take n buffer.new ≡ take (length buffer.old) xs)) }
+{
+    let mut got: usize = 0;
+    while got < buffer.len() {
+        let n = from.read(&mut buffer[got..])?;
+        if n == 0 {
+            return Ok(got);
+        }
+        got += n;
+    }
+    Ok(got)
+}
+
+// Prints the listing of what a file or a pipe holds; what a read brings from there is the system's too.
+pub fn list_file<R: Read, W: Write>(from: &mut R, to: &mut W) -> Result<()>
+    ensures { OnOk result (IfSome (R.remaining from.old) (λ xs. Appends (W.contents to.old) (W.contents to.new) (listed xs))) }
+{
     let mut buffer = space();
-    let got = io::read_full(fd, &mut buffer);
-    list(&buffer[..got]);
+    let got = read_full(from, &mut buffer)?;
+    list(to, &buffer[..got])
 }

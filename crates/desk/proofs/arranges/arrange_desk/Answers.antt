@@ -1,6 +1,5 @@
 -- `arrange_desk` is its definition, for each such line.
 use Rattle.desk.specs.Arranges.{arranged}
-use borrow.Author.Rules.{rules}
 use Rattle.desk.proofs.arranges.arrange_desk.Goals as goal
 
 pub returns-in-Case : goal.returns-in-Case

@@ -1,6 +1,5 @@
 -- `cleared_by` is its definition, for each such line.
 use Rattle.desk.specs.Arranges.{cleared_by}
-use borrow.Author.Rules.{rules}
 use Rattle.desk.proofs.arranges.cleared_by.Goals as goal
 
 pub returns-in-Case : goal.returns-in-Case

@@ -1,6 +1,5 @@
 -- `cleared_unless` is its definition.
 use Rattle.desk.specs.Arranges.{cleared_unless}
-use borrow.Author.Rules.{rules}
 use Rattle.desk.proofs.arranges.cleared_unless.Goals as goal
 
 pub returns-then-beyond : goal.returns-then-beyond

@@ -1,6 +1,5 @@
 -- `cut_to` is its definition.
 use Rattle.desk.specs.Arranges.{cut_to}
-use borrow.Author.Rules.{rules}
 use Rattle.desk.proofs.arranges.cut_to.Goals as goal
 
 pub returns-then-beyond : goal.returns-then-beyond

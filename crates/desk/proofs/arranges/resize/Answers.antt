@@ -1,6 +1,5 @@
 -- `resize` is its definition.
 use Rattle.desk.specs.Arranges.{resized}
-use borrow.Author.Rules.{rules}
 use Rattle.desk.proofs.arranges.resize.Goals as goal
 
 pub returns-then-beyond : goal.returns-then-beyond

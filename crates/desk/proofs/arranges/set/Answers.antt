@@ -2,7 +2,6 @@
 use native.Mathlib.Omega.{arith}
 use borrow.Author.Tests.{le-ltb, lt-ltb}
 use Rattle.desk.specs.Arranges.{set_to}
-use borrow.Author.Rules.{rules}
 use Rattle.desk.proofs.arranges.set.Goals as goal
 
 pub returns-then-k-gt23 : goal.returns-then-k-gt23

@@ -1,5 +1,4 @@
 -- `start_case` is its definition.
-use borrow.Author.Rules.{rules}
 use Rattle.desk.proofs.arranges.start_case.Goals as goal
 
 pub returns : goal.returns

@@ -3,7 +3,6 @@ use native.Mathlib.Omega.{arith}
 use lib.Seq.{sets}
 use Rattle.desk.specs.Builds.{check_bytes, check_place}
 use Rattle.desk.proofs.Built.{block_done, block_not, check_put}
-use borrow.Author.Rules.{rules}
 use Rattle.desk.proofs.builds.fix_sum.Goals as goal
 
 pub returns-then-reel-k : goal.returns-then-reel-k

@@ -5,7 +5,6 @@ use Rattle.lists.specs.Pick.{pick}
 use Rattle.tape.specs.Objects.{Object}
 use Rattle.desk.specs.Builds.{laid_at}
 use Rattle.desk.proofs.Built.{block_done, block_not}
-use borrow.Author.Rules.{rules}
 use Rattle.desk.proofs.builds.lay_single.Goals as goal
 
 pub returns-then-reel-p : goal.returns-then-reel-p

@@ -1,7 +1,6 @@
 -- `poke` meets its contract: the bytes fit, or nothing is stored.
 use native.Mathlib.Omega.{arith}
 use Rattle.desk.proofs.Built.{poke_done, poke_not}
-use borrow.Author.Rules.{rules}
 use Rattle.desk.proofs.builds.poke.Goals as goal
 
 pub returns-then-b-d : goal.returns-then-b-d

@@ -3,7 +3,6 @@ use native.Mathlib.Omega.{arith}
 use lib.Seq.{sets}
 use Rattle.lists.specs.Words.{word_bytes}
 use Rattle.desk.proofs.Built.{word_done, word_large, word_not}
-use borrow.Author.Rules.{rules}
 use Rattle.desk.proofs.builds.poke_word.Goals as goal
 
 pub returns-then-w-gt65535 : goal.returns-then-w-gt65535

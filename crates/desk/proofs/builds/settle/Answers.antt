@@ -1,6 +1,5 @@
 -- `settle` is its definition.
 use Rattle.desk.specs.Turns.{settled}
-use borrow.Author.Rules.{rules}
 use Rattle.desk.proofs.builds.settle.Goals as goal
 
 pub returns-in-Wrong : goal.returns-in-Wrong

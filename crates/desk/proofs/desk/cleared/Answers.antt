@@ -1,5 +1,4 @@
 -- `cleared` is its definition.
-use borrow.Author.Rules.{rules}
 use Rattle.desk.proofs.desk.cleared.Goals as goal
 
 pub returns : goal.returns

@@ -1,5 +1,4 @@
 -- `fresh` is its definition.
-use borrow.Author.Rules.{rules}
 use Rattle.desk.proofs.desk.fresh.Goals as goal
 
 pub returns : goal.returns

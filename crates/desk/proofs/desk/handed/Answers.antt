@@ -1,6 +1,5 @@
 -- `handed` is its definition.
 use Rattle.desk.specs.Desks.{handed_of}
-use borrow.Author.Rules.{rules}
 use Rattle.desk.proofs.desk.handed.Goals as goal
 
 pub returns-then-d-2 : goal.returns-then-d-2

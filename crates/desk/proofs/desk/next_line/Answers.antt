@@ -1,7 +1,6 @@
 -- `next_line` is its definition.
 use borrow.Author.Tests.{le-ltb, lt-ltb}
 use native.Mathlib.Omega.{arith}
-use borrow.Author.Rules.{rules}
 use Rattle.desk.proofs.desk.next_line.Goals as goal
 
 pub returns-then-e-lt1000000000000 : goal.returns-then-e-lt1000000000000

@@ -1,5 +1,4 @@
 -- `no_session` is its definition.
-use borrow.Author.Rules.{rules}
 use Rattle.desk.proofs.desk.no_session.Goals as goal
 
 pub returns : goal.returns

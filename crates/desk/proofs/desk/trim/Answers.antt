@@ -1,5 +1,4 @@
 -- `trim` meets its contract: a buffer at a time.
-use borrow.Author.Rules.{rules}
 use Rattle.desk.proofs.desk.trim.Goals as goal
 
 pub returns : goal.returns

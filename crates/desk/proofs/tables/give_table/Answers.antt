@@ -3,7 +3,6 @@ use native.Mathlib.Omega.{arith}
 use borrow.Author.Tests.{le-ltb, lt-ltb}
 use lib.ListN.{length}
 use Rattle.desk.specs.Tables.{given_bytes, given_turn}
-use borrow.Author.Rules.{rules}
 use Rattle.desk.proofs.tables.give_table.Goals as goal
 
 pub returns-then-table-n : goal.returns-then-table-n

@@ -8,7 +8,6 @@ use lib.Seq.{sets}
 use Rattle.lists.proofs.Stores.{put_sets}
 use Rattle.desk.specs.Turns.{settled}
 use Rattle.desk.specs.Tables.{poked_bytes, poked_turn}
-use borrow.Author.Rules.{rules}
 use Rattle.desk.proofs.tables.poke_table.Goals as goal
 
 pub returns : goal.returns
@@ -16,5 +15,6 @@ unfolding poked_bytes poked_turn
 returns c =
     let n = c.least-n in
     let t = c.poke in
-    let e = rw (sub-zero n.result, n.ensures) at t.ensures in
-    record { turn = c.settle.ensures ∙ ap (settled c.args.d) e.0; table = put_sets 0 (n.result - 0) c.args.table.now t.new.0 (omega (arith, t.auto, length-take (n.result - 0) c.args.table.now)) (omega arith) ∙ ap (sets c.args.table.now 0) e.1 }
+    let a = rw (sub-zero n.result, n.ensures) at t.ensures.answer in
+    let s = rw (sub-zero n.result, n.ensures) at t.ensures.stored in
+    record { turn = c.settle.ensures ∙ ap (settled c.args.d) a; table = put_sets 0 (n.result - 0) c.args.table.now t.new.b (omega (arith, t.auto, length-take (n.result - 0) c.args.table.now)) (omega arith) ∙ ap (sets c.args.table.now 0) s }

@@ -1,7 +1,6 @@
 -- `arrange_line` meets its contract, for each first word.
 use borrow.Author.Tests.{ne_eqb}
 use Rattle.lines.specs.Arranging.{arranging}
-use borrow.Author.Rules.{rules}
 use Rattle.lines.proofs.arranges.arrange_line.Goals as goal
 
 pub returns-in-0 : goal.returns-in-0

@@ -1,7 +1,6 @@
 -- `lens_line` meets its contract: the word `off`, or three numbers.
 use Rattle.lines.specs.Arranging.{lens_line}
 use Rattle.lines.proofs.Asked.{is_place, no_place, numbers_not, numbers_read}
-use borrow.Author.Rules.{rules}
 use Rattle.lines.proofs.arranges.lens_line.Goals as goal
 
 pub returns-then-find_word-eq0 : goal.returns-then-find_word-eq0

@@ -1,7 +1,6 @@
 -- `set_line` meets its contract.
 use Rattle.lines.specs.Arranging.{set_line}
 use Rattle.lines.proofs.Asked.{number_not, number_read}
-use borrow.Author.Rules.{rules}
 use Rattle.lines.proofs.arranges.set_line.Goals as goal
 
 pub returns-in-Wrong : goal.returns-in-Wrong

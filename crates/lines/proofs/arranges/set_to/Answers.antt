@@ -3,7 +3,6 @@ use mathlib.Core.Path.{sym, ◌∙◌}
 use native.Mathlib.Omega.{arith}
 use borrow.Author.Tests.{lt-ltb, le-ltb}
 use Rattle.lines.specs.Arranging.{set_to}
-use borrow.Author.Rules.{rules}
 use Rattle.lines.proofs.arranges.set_to.Goals as goal
 
 pub returns-then-k-gt23 : goal.returns-then-k-gt23

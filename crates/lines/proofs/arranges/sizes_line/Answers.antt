@@ -1,7 +1,6 @@
 -- `sizes_line` meets its contract.
 use Rattle.lines.specs.Arranging.{sizes_line}
 use Rattle.lines.proofs.Asked.{numbers_not, numbers_read, sizes_made}
-use borrow.Author.Rules.{rules}
 use Rattle.lines.proofs.arranges.sizes_line.Goals as goal
 
 pub returns-in-Wrong : goal.returns-in-Wrong

@@ -1,7 +1,6 @@
 -- `lay_line` meets its contract, for each first word.
 use borrow.Author.Tests.{ne_eqb}
 use Rattle.lines.specs.Building.{laying}
-use borrow.Author.Rules.{rules}
 use Rattle.lines.proofs.builds.lay_line.Goals as goal
 
 pub returns-in-8 : goal.returns-in-8

@@ -1,7 +1,6 @@
 -- `made_line` meets its contract.
 use Rattle.lines.specs.Building.{made_line}
 use Rattle.lines.proofs.Asked.{numbers_not, numbers_read}
-use borrow.Author.Rules.{rules}
 use Rattle.lines.proofs.builds.made_line.Goals as goal
 
 pub returns-in-Wrong : goal.returns-in-Wrong

@@ -1,7 +1,6 @@
 -- `poke_line` meets its contract.
 use Rattle.lines.specs.Building.{poke_line}
 use Rattle.lines.proofs.Asked.{number_not, number_read}
-use borrow.Author.Rules.{rules}
 use Rattle.lines.proofs.builds.poke_line.Goals as goal
 
 pub returns-then-reel : goal.returns-then-reel

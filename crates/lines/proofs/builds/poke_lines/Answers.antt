@@ -1,7 +1,6 @@
 -- `poke_lines` meets its contract, for each first word.
 use borrow.Author.Tests.{ne_eqb}
 use Rattle.lines.specs.Building.{poking}
-use borrow.Author.Rules.{rules}
 use Rattle.lines.proofs.builds.poke_lines.Goals as goal
 
 pub returns-in-4 : goal.returns-in-4

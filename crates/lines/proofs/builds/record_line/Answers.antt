@@ -1,7 +1,6 @@
 -- `record_line` meets its contract.
 use mathlib.Core.Path.{sym, ◌∙◌}
 use Rattle.lines.specs.Building.{record_line}
-use borrow.Author.Rules.{rules}
 use Rattle.lines.proofs.builds.record_line.Goals as goal
 
 pub returns-then-has_word : goal.returns-then-has_word

@@ -1,7 +1,6 @@
 -- `sum_line` meets its contract.
 use Rattle.lines.specs.Building.{sum_line}
 use Rattle.lines.proofs.Asked.{number_not, number_read}
-use borrow.Author.Rules.{rules}
 use Rattle.lines.proofs.builds.sum_line.Goals as goal
 
 pub returns-in-Wrong : goal.returns-in-Wrong

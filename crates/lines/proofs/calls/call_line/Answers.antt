@@ -1,7 +1,6 @@
 -- `call_line` meets its contract, for each first word.
 use borrow.Author.Tests.{ne_eqb}
 use Rattle.lines.specs.Calling.{calling}
-use borrow.Author.Rules.{rules}
 use Rattle.lines.proofs.calls.call_line.Goals as goal
 
 pub returns-in-12 : goal.returns-in-12

@@ -1,7 +1,6 @@
 -- `end_in` meets its contract: the word `cursor`, or a number.
 use Rattle.lines.specs.Calling.{end_of}
 use Rattle.lines.proofs.Asked.{is_place, no_place}
-use borrow.Author.Rules.{rules}
 use Rattle.lines.proofs.calls.end_in.Goals as goal
 
 pub returns-then-find_word-eq0 : goal.returns-then-find_word-eq0

@@ -1,7 +1,6 @@
 -- `host_line` meets its contract.
 use Rattle.lines.specs.Calling.{host_line}
 use Rattle.lines.proofs.Asked.{number_not, number_read}
-use borrow.Author.Rules.{rules}
 use Rattle.lines.proofs.calls.host_line.Goals as goal
 
 pub returns-in-Wrong : goal.returns-in-Wrong

@@ -1,7 +1,6 @@
 -- `mount_line` meets its contract.
 use Rattle.lines.specs.Calling.{mount_line}
 use Rattle.lines.proofs.Asked.{number_not, number_read, numbers_not, numbers_read}
-use borrow.Author.Rules.{rules}
 use Rattle.lines.proofs.calls.mount_line.Goals as goal
 
 pub returns-in-Wrong : goal.returns-in-Wrong

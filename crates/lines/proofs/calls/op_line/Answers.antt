@@ -1,7 +1,6 @@
 -- `op_line` meets its contract, for each act.
 use Rattle.lines.specs.Calling.{op_line, operate_by}
 use Rattle.lines.proofs.Asked.{at_place, operate_none}
-use borrow.Author.Rules.{rules}
 use Rattle.lines.proofs.calls.op_line.Goals as goal
 
 pub returns-in-0 : goal.returns-in-0

@@ -1,7 +1,6 @@
 -- `reg_line` meets its contract, for each register.
 use Rattle.lines.specs.Calling.{reg_line, register_by}
 use Rattle.lines.proofs.Asked.{at_place, register_none}
-use borrow.Author.Rules.{rules}
 use Rattle.lines.proofs.calls.reg_line.Goals as goal
 
 pub returns-in-0 : goal.returns-in-0

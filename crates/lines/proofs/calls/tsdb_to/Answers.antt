@@ -2,7 +2,6 @@
 use native.Mathlib.Omega.{arith}
 use borrow.Author.Tests.{lt-ltb, le-ltb}
 use Rattle.lines.specs.Calling.{tsdb_to}
-use borrow.Author.Rules.{rules}
 use Rattle.lines.proofs.calls.tsdb_to.Goals as goal
 
 pub returns-then-w-gt65535 : goal.returns-then-w-gt65535

@@ -1,7 +1,6 @@
 -- `bytes_made` meets its contract: there is room, or nothing is made.
 use native.Mathlib.Omega.{arith}
 use Rattle.lines.proofs.Made.{made_done, made_not}
-use borrow.Author.Rules.{rules}
 use Rattle.lines.proofs.gives.bytes_made.Goals as goal
 
 pub returns-then-data-n : goal.returns-then-data-n

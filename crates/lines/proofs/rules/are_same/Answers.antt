@@ -1,5 +1,4 @@
 -- `are_same` meets its contract: each line is held to the other.
-use borrow.Author.Rules.{rules}
 use Rattle.lines.proofs.rules.are_same.Goals as goal
 
 pub returns : goal.returns

@@ -1,8 +1,6 @@
 -- `are_within` meets its contract. All that the words behind word k name is held.
-use mathlib.Core.Path.{◌≡◌, refl, sym, ◌∙◌}
-use Rattle.lines.specs.Rules.{requests, within}
+use mathlib.Core.Path.{refl, sym, ◌∙◌}
 use Rattle.lines.proofs.Ruled.{within_none, within_on, within_stop}
-use borrow.Author.Rules.{rules}
 use native.Mathlib.Omega.{arith}
 use Rattle.lines.proofs.rules.are_within.Goals as goal
 

@@ -1,6 +1,5 @@
 -- `is_held` meets its contract.
 use Rattle.lines.specs.Rules.{held_by}
-use borrow.Author.Rules.{rules}
 use Rattle.lines.proofs.rules.is_held.Goals as goal
 
 pub returns-in-Is : goal.returns-in-Is

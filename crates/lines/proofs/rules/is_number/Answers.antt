@@ -1,5 +1,4 @@
 -- `is_number` meets its contract.
-use borrow.Author.Rules.{rules}
 use Rattle.lines.proofs.rules.is_number.Goals as goal
 
 pub returns-in-Is : goal.returns-in-Is

@@ -1,8 +1,6 @@
 -- `names` meets its contract. None of the words behind word k says n.
-use mathlib.Core.Path.{◌≡◌, refl, sym, ◌∙◌}
-use Rattle.lines.specs.Rules.{named, requests}
+use mathlib.Core.Path.{refl, sym, ◌∙◌}
 use Rattle.lines.proofs.Ruled.{named_none, named_on, named_stop}
-use borrow.Author.Rules.{rules}
 use native.Mathlib.Omega.{arith}
 use Rattle.lines.proofs.rules.names.Goals as goal
 

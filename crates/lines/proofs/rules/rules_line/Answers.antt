@@ -2,7 +2,6 @@
 use mathlib.Core.Path.{sym, ◌∙◌}
 use Rattle.script.specs.Rules.{own_rules}
 use Rattle.lines.specs.Rules.{rules_line}
-use borrow.Author.Rules.{rules}
 use Rattle.lines.proofs.rules.rules_line.Goals as goal
 
 pub returns-then-are_same : goal.returns-then-are_same

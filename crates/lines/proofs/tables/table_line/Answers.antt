@@ -2,7 +2,6 @@
 use borrow.Author.Tests.{eq-eqb, ne_eqb}
 use Rattle.lines.specs.Tabling.{tabling}
 use Rattle.lines.proofs.Asked.{number_not, number_read}
-use borrow.Author.Rules.{rules}
 use Rattle.lines.proofs.tables.table_line.Goals as goal
 
 pub returns-then-k-eq22 : goal.returns-then-k-eq22

@@ -1,6 +1,5 @@
 -- `has_word` meets its contract.
 use Rattle.lines.specs.Starts.{has_word}
-use borrow.Author.Rules.{rules}
 use Rattle.lines.proofs.texts.has_word.Goals as goal
 
 pub returns : goal.returns

@@ -2,7 +2,6 @@
 use native.Mathlib.Omega.{arith}
 use borrow.Author.Tests.{eq-eqb, lt-ltb, le-ltb, ne_eqb}
 use Rattle.lines.specs.Lines.{line_by}
-use borrow.Author.Rules.{rules}
 use Rattle.lines.proofs.texts.line_by.Goals as goal
 
 pub returns-then-k-lt4 : goal.returns-then-k-lt4

@@ -3,7 +3,6 @@ use native.Mathlib.Omega.{arith}
 use borrow.Author.Tests.{lt-ltb, le-ltb}
 use Rattle.lines.specs.Lines.{line_from}
 use Rattle.lines.proofs.Asked.{word_more}
-use borrow.Author.Rules.{rules}
 use Rattle.lines.proofs.texts.line_from.Goals as goal
 
 pub returns-then-k-gt23 : goal.returns-then-k-gt23

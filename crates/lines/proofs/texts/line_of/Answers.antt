@@ -1,7 +1,6 @@
 -- `line_of` meets its contract.
 use mathlib.Core.Path.{sym, ◌∙◌}
 use Rattle.lines.specs.Lines.{line_of}
-use borrow.Author.Rules.{rules}
 use Rattle.lines.proofs.texts.line_of.Goals as goal
 
 pub returns-then-has_word : goal.returns-then-has_word

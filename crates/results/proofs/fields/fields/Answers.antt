@@ -1,7 +1,6 @@
 -- `fields` is its definition, number by number.
 use mathlib.Core.List.{[], ◌∷◌}
 use Rattle.results.specs.Fields.{fields_of}
-use borrow.Author.Rules.{rules}
 use Rattle.results.proofs.fields.fields.Goals as goal
 
 pub returns : goal.returns

@@ -1,8 +1,7 @@
 -- `put_all` meets its contract: so far the first i numbers are put.
 use mathlib.Core.Path.{◌≡◌, ap}
-use Prim.Native.Nat.{ℕ, ◌≤◌, ◌-◌}
-use lib.ListN.{length, take}
-use Rattle.script.specs.Prints.{Put}
+use Prim.Native.Nat.{ℕ}
+use lib.ListN.{take}
 use Rattle.results.specs.Lines.{numbers_text}
 use Rattle.results.proofs.Texts.{numbers_more, put_empty, put_same}
 use borrow.Author.Rules.{rules}

@@ -1,5 +1,4 @@
 -- `put_fields` meets its contract: it puts the numbers of the session.
-use borrow.Author.Rules.{rules}
 use Rattle.results.proofs.fields.put_fields.Goals as goal
 
 pub returns : goal.returns

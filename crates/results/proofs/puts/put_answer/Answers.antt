@@ -1,6 +1,5 @@
 -- `put_answer` meets its contract, for each answer.
 use Rattle.results.specs.Lines.{answer_text}
-use borrow.Author.Rules.{rules}
 use Rattle.results.proofs.puts.put_answer.Goals as goal
 
 pub returns-in-Done : goal.returns-in-Done

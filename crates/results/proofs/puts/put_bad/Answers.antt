@@ -1,6 +1,5 @@
 -- `put_bad` meets its contract: its texts go in a row.
 use Rattle.script.proofs.Printed.{put_more}
-use borrow.Author.Rules.{rules}
 use Rattle.results.proofs.puts.put_bad.Goals as goal
 
 pub returns : goal.returns

@@ -1,7 +1,6 @@
 -- `put_complaint` meets its contract: two texts go in a row.
 use Rattle.script.proofs.Printed.{put_more}
 use Rattle.results.specs.Complaints.{complaint_line}
-use borrow.Author.Rules.{rules}
 use Rattle.results.proofs.puts.put_complaint.Goals as goal
 
 pub returns : goal.returns

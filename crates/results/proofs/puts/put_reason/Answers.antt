@@ -1,7 +1,6 @@
 -- `put_reason` meets its contract, for each fault.
 use Rattle.script.specs.Rules.{own_rules}
 use Rattle.results.specs.Complaints.{reason_text}
-use borrow.Author.Rules.{rules}
 use Rattle.results.proofs.puts.put_reason.Goals as goal
 
 pub returns-in-UnknownWord : goal.returns-in-UnknownWord

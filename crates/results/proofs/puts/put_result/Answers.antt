@@ -1,7 +1,6 @@
 -- `put_result` meets its contract: its texts go in a row.
 use Rattle.script.proofs.Printed.{put_more}
 use Rattle.results.specs.Lines.{result_line}
-use borrow.Author.Rules.{rules}
 use Rattle.results.proofs.puts.put_result.Goals as goal
 
 pub returns : goal.returns

@@ -1,7 +1,6 @@
 -- `put_sums` meets its contract: its texts go in a row.
 use Rattle.script.proofs.Printed.{put_more}
 use Rattle.results.specs.Lines.{sums_text}
-use borrow.Author.Rules.{rules}
 use Rattle.results.proofs.puts.put_sums.Goals as goal
 
 pub returns : goal.returns

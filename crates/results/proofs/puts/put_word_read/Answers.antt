@@ -1,7 +1,6 @@
 -- `put_word_read` meets its contract, for each thing that a line may tell.
 use Rattle.results.proofs.Texts.{put_empty}
 use Rattle.results.specs.Lines.{word_text}
-use borrow.Author.Rules.{rules}
 use Rattle.results.proofs.puts.put_word_read.Goals as goal
 
 pub returns-in-Nothing : goal.returns-in-Nothing
