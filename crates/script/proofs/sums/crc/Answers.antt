@@ -18,5 +18,5 @@ pub returns : goal.returns
 returns c =
     let l = c.loop-i in
     let e = crc_by_lem c.args.table.now c.args.b.now l.c (l.invariant.0 ∙ tabled_end c.args.table.now c.args.b.now l.c l.i (omega arith) (omega arith)) in
-    let k : Bytes c.args.b.now = λ i. omega (arith, c.shared_slice_known-1.given i) in
+    let k : Bytes c.args.b.now = λ i. omega (arith, c.type_inv.b i) in
     record { by = e; right = right_by c.args.table.now c.args.b.now _ k e }
