@@ -1,7 +1,7 @@
 -- `read_full` meets its contract: what it has got is what the reader gave, up to the buffer's or the reader's end.
-use Rattle.std.proofs.Common.{rules, arith, length, take, ap, ◌++◌, ◌∙◌, List, ℕ, sym, subst}
+use Rattle.std.proofs.Common.{rules, arith, sym, subst}
 use Rattle.std.specs.Io.KnownBytes.{Consumes}
-use Rattle.lister.proofs.Reading.{got_end, got_full, put_taken, taken_both}
+use Rattle.lister.proofs.Reading.{put_taken, taken_both}
 use Rattle.lister.proofs.read_full.Goals as goal
 
 pub loop-got-preserved : goal.loop-got-preserved

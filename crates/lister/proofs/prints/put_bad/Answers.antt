@@ -1,5 +1,4 @@
 -- `put_bad` meets its contract: its texts go in a row.
-use borrow.Author.Rules.{rules}
 use Rattle.script.proofs.Printed.{put_more}
 use Rattle.lister.specs.Lines.{bad_line}
 use Rattle.lister.proofs.prints.put_bad.Goals as goal

@@ -1,5 +1,4 @@
 -- `put_line` meets its contract: the line end goes behind the label and the number.
-use borrow.Author.Rules.{rules}
 use Rattle.lister.proofs.Putting.{put_number}
 use Rattle.lister.proofs.prints.put_line.Goals as goal
 

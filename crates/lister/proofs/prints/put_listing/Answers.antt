@@ -1,5 +1,4 @@
 -- `put_listing` meets its contract: the listing goes by what the image was examined to be.
-use borrow.Author.Rules.{rules}
 use Rattle.script.proofs.Printed.{put_more}
 use Rattle.lister.specs.Lines.{number_line}
 use Rattle.lister.specs.Listed.{listed_as}

@@ -1,5 +1,4 @@
 -- `put_met` meets its contract: a line for each variant that is an object, and nothing for the others.
-use borrow.Author.Rules.{rules}
 use Rattle.lister.specs.Lines.{number_line}
 use Rattle.lister.specs.Listed.{met_line}
 use Rattle.lister.proofs.Putting.{put_nothing}

@@ -1,9 +1,7 @@
 -- `put_objects` meets its contract. What the turns that are left put makes the lines whole; the turns run down.
-use mathlib.Core.Path.{◌≡◌}
 use borrow.Author.Rules.{rules}
 use native.Mathlib.Omega.{arith}
-use lib.ListN.{length}
-use Rattle.lister.proofs.Putting.{Left, left_more, left_none}
+use Rattle.lister.proofs.Putting.{left_more, left_none}
 use Rattle.lister.proofs.prints.put_objects.Goals as goal
 
 pub loop-turns-init : goal.loop-turns-init

@@ -1,9 +1,7 @@
 -- `put_objects` meets its contract. What the turns that are left put makes the lines whole; the turns run down.
 use mathlib.Core.Path.{◌≡◌}
-use borrow.Author.Rules.{rules}
-use native.Mathlib.Omega.{arith}
 use lib.ListN.{length}
-use Rattle.lister.proofs.Putting.{Left, left_more, left_none}
+use Rattle.lister.proofs.Putting.{Left}
 use Rattle.lister.proofs.prints.put_objects.Given as goal
 
 abbrev pub invariant-loop-turns : goal.invariant-loop-turns

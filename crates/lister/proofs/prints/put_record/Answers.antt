@@ -1,5 +1,4 @@
 -- `put_record` meets its contract: a letter and a number, and a second number behind them.
-use borrow.Author.Rules.{rules}
 use Rattle.lister.proofs.Putting.{put_pair}
 use Rattle.lister.proofs.prints.put_record.Goals as goal
 

@@ -1,5 +1,4 @@
 -- `append` meets its contract: the two tests together say whether the line holds the part.
-use borrow.Author.Rules.{rules}
 use native.Mathlib.Omega.{arith}
 use Rattle.script.proofs.Filled.{append_count, append_left, append_long, append_put}
 use Rattle.script.proofs.fills.append.Goals as goal

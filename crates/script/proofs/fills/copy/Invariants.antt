@@ -1,12 +1,8 @@
 -- `copy` meets its contract. So far the first i bytes are there.
-use Prim.Native.Nat.{ℕ, ◌≤◌, ◌-◌}
-use mathlib.Core.Path.{◌≡◌, ap, ◌∙◌}
-use lib.ListN.{length, take, set, get_or}
-use borrow.Author.Rules.{rules}
-use mathlib.Core.List.{List}
+use Prim.Native.Nat.{◌≤◌, ◌-◌}
+use mathlib.Core.Path.{◌≡◌}
+use lib.ListN.{length, take}
 use lib.Seq.{sets}
-use Rattle.script.proofs.Filled.{copy_end, store_more}
-use native.Mathlib.Omega.{arith}
 use Rattle.script.proofs.fills.copy.Given as goal
 
 abbrev pub invariant-loop-i : goal.invariant-loop-i

@@ -1,12 +1,9 @@
 -- `generate` meets its contract. So far the first i bytes are there.
 use Prim.Native.Nat.{◌≤◌, ◌-◌}
-use mathlib.Core.Path.{◌≡◌, ◌∙◌}
+use mathlib.Core.Path.{◌≡◌}
 use lib.ListN.{length}
-use borrow.Author.Rules.{rules}
 use lib.Seq.{sets}
 use Rattle.script.specs.Fills.{generated}
-use Rattle.script.proofs.Filled.{generate_end, generate_more}
-use native.Mathlib.Omega.{arith}
 use Rattle.script.proofs.fills.generate.Given as goal
 
 abbrev pub invariant-loop-i : goal.invariant-loop-i

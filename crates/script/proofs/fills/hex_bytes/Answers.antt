@@ -1,9 +1,6 @@
 -- `hex_bytes` meets its contract. So far i pairs were read, and their bytes stand at the front.
-use Prim.Native.Nat.{◌≤◌, ◌-◌}
-use mathlib.Core.Path.{◌≡◌}
-use lib.ListN.{length}
 use borrow.Author.Rules.{rules}
-use Rattle.script.proofs.Paired.{Read, read_all, read_full, read_high, read_low, read_more, read_none, read_odd}
+use Rattle.script.proofs.Paired.{read_all, read_full, read_high, read_low, read_more, read_none, read_odd}
 use native.Mathlib.Omega.{arith}
 use Rattle.script.proofs.fills.hex_bytes.Goals as goal
 

@@ -2,9 +2,7 @@
 use Prim.Native.Nat.{◌≤◌, ◌-◌}
 use mathlib.Core.Path.{◌≡◌}
 use lib.ListN.{length}
-use borrow.Author.Rules.{rules}
-use Rattle.script.proofs.Paired.{Read, read_all, read_full, read_high, read_low, read_more, read_none, read_odd}
-use native.Mathlib.Omega.{arith}
+use Rattle.script.proofs.Paired.{Read}
 use Rattle.script.proofs.fills.hex_bytes.Given as goal
 
 abbrev pub invariant-loop-i : goal.invariant-loop-i

@@ -1,5 +1,4 @@
 -- `wipe` meets its contract: the part that is lent is filled with zeros.
-use borrow.Author.Rules.{rules}
 use native.Mathlib.Omega.{arith}
 use Rattle.script.proofs.Filled.{wipe_beyond, wipe_crossed, wipe_zeros}
 use Rattle.script.proofs.fills.wipe.Goals as goal

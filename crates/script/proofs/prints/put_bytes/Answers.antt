@@ -1,5 +1,4 @@
 -- `put_bytes` meets its contract: what the part that is lent holds of the bytes.
-use borrow.Author.Rules.{rules}
 use native.Mathlib.Omega.{arith}
 use Rattle.script.proofs.Printed.{put_none, put_some}
 use Rattle.script.proofs.prints.put_bytes.Goals as goal

@@ -1,7 +1,6 @@
 -- `put_decimal` meets its contract: the digits that the library makes are the fewest.
 use native.Mathlib.Omega.{arith}
 use Rattle.script.proofs.Spelt.{put_spelt}
-use borrow.Author.Rules.{rules}
 use Rattle.script.proofs.prints.put_decimal.Goals as goal
 
 pub returns : goal.returns

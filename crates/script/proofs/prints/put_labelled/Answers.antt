@@ -1,5 +1,4 @@
 -- `put_labelled` meets its contract: the label and the number go in a row.
-use borrow.Author.Rules.{rules}
 use Rattle.script.proofs.Printed.{put_more}
 use Rattle.script.proofs.prints.put_labelled.Goals as goal
 

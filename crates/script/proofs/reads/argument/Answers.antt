@@ -1,5 +1,4 @@
 -- `argument` meets its contract: the part that goes to `number` is word k.
-use borrow.Author.Rules.{rules}
 use mathlib.Core.Path.{ap, ◌∙◌}
 use Rattle.script.specs.Numbers.{number_in}
 use Rattle.script.proofs.Passing.{part_word}

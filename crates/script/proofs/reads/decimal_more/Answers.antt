@@ -1,5 +1,4 @@
 -- `decimal_more` meets its contract: the two tests together say whether ten times the number and the digit fit.
-use borrow.Author.Rules.{rules}
 use mathlib.Core.Bool.{false}
 use native.Mathlib.Omega.{arith}
 use Rattle.script.proofs.Said.{joined_is, joined_large, joined_wrong}

@@ -1,8 +1,5 @@
 -- `digits` meets its contract. What the digits from here say behind the number so far is what all of them say.
-use Prim.Native.Nat.{◌≤◌, ◌-◌}
-use mathlib.Core.Path.{◌≡◌, sym, ◌∙◌}
-use lib.ListN.{length, drop}
-use Rattle.script.specs.Numbers.{said}
+use mathlib.Core.Path.{sym, ◌∙◌}
 use Rattle.script.proofs.Said.{said_on, said_wrong, said_end}
 use borrow.Author.Rules.{rules}
 use native.Mathlib.Omega.{arith}

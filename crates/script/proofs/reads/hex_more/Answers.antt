@@ -1,5 +1,4 @@
 -- `hex_more` meets its contract: the test says whether sixteen times the number and the digit fit.
-use borrow.Author.Rules.{rules}
 use mathlib.Core.Bool.{true}
 use native.Mathlib.Omega.{arith}
 use Rattle.script.proofs.Said.{joined_is, joined_large, joined_wrong}

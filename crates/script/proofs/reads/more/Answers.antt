@@ -1,5 +1,4 @@
 -- `more` meets its contract: the arm that was taken says the base.
-use borrow.Author.Rules.{rules}
 use Rattle.script.proofs.Said.{joined_hex, joined_ten}
 use Rattle.script.proofs.reads.more.Goals as goal
 

@@ -1,5 +1,4 @@
 -- `number` meets its contract: one law for each way that a word is read.
-use borrow.Author.Rules.{rules}
 use native.Mathlib.Omega.{arith}
 use Rattle.script.specs.declared.Value.TheVariants as value
 use Rattle.script.proofs.Said.{number_hex, number_missing, number_short, number_ten}

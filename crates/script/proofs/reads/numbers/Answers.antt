@@ -1,5 +1,4 @@
 -- `numbers` meets its contract: the arms say what each of the three words says.
-use borrow.Author.Rules.{rules}
 use mathlib.Core.Path.{sym, ◌∙◌}
 use Rattle.script.proofs.Said.{all_three, first_wrong, second_wrong, third_wrong}
 use Rattle.script.proofs.reads.numbers.Goals as goal

@@ -1,5 +1,4 @@
 -- `wanted` meets its contract.
-use borrow.Author.Rules.{rules}
 use native.Mathlib.Omega.{arith}
 use Rattle.script.proofs.Said.{beyond_last, up_to_last}
 use Rattle.script.proofs.reads.wanted.Goals as goal

@@ -1,9 +1,6 @@
 -- `crc_entry` meets its contract. What the bits left make of the number so far is what eight make of i.
-use borrow.Author.Rules.{rules}
-use mathlib.Core.Path.{◌≡◌, sym, ◌∙◌}
+use mathlib.Core.Path.{◌≡◌}
 use Rattle.script.specs.Sums.{steps}
-use Rattle.script.proofs.Xors.{steps_end, steps_on}
-use native.Mathlib.Omega.{arith}
 use Rattle.script.proofs.sums.crc_entry.Given as goal
 
 abbrev pub invariant-loop-turns : goal.invariant-loop-turns

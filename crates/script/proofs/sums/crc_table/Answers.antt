@@ -1,7 +1,4 @@
 -- `crc_table` meets its contract. So far the first i entries are there.
-use Prim.Native.Nat.{◌≤◌, ◌-◌}
-use mathlib.Core.Path.{◌≡◌}
-use lib.ListN.{length, take}
 use Rattle.script.specs.Sums.{table_to}
 use Rattle.script.proofs.Xors.{table_end, table_more}
 use borrow.Author.Rules.{rules}

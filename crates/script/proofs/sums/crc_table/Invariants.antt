@@ -3,9 +3,6 @@ use Prim.Native.Nat.{◌≤◌, ◌-◌}
 use mathlib.Core.Path.{◌≡◌}
 use lib.ListN.{length, take}
 use Rattle.script.specs.Sums.{table_to}
-use Rattle.script.proofs.Xors.{table_end, table_more}
-use borrow.Author.Rules.{rules}
-use native.Mathlib.Omega.{arith}
 use Rattle.script.proofs.sums.crc_table.Given as goal
 
 abbrev pub invariant-loop-i : goal.invariant-loop-i

@@ -1,8 +1,5 @@
 -- `find` meets its contract. Where the walk ends from here is where it ends from the start.
-use Prim.Native.Nat.{◌+◌, ◌≤◌, ◌-◌}
-use mathlib.Core.Path.{◌≡◌, sym, ◌∙◌}
-use lib.ListN.{length, drop}
-use Rattle.script.specs.Words.{before}
+use mathlib.Core.Path.{sym, ◌∙◌}
 use Rattle.script.proofs.Passing.{find_on, find_stop, find_end}
 use borrow.Author.Rules.{rules}
 use native.Mathlib.Omega.{arith}

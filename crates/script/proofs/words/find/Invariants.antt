@@ -1,11 +1,8 @@
 -- `find` meets its contract. Where the walk ends from here is where it ends from the start.
 use Prim.Native.Nat.{◌+◌, ◌≤◌, ◌-◌}
-use mathlib.Core.Path.{◌≡◌, sym, ◌∙◌}
+use mathlib.Core.Path.{◌≡◌}
 use lib.ListN.{length, drop}
 use Rattle.script.specs.Words.{before}
-use Rattle.script.proofs.Passing.{find_on, find_stop, find_end}
-use borrow.Author.Rules.{rules}
-use native.Mathlib.Omega.{arith}
 use Rattle.script.proofs.words.find.Given as goal
 
 abbrev pub invariant-loop-i : goal.invariant-loop-i

@@ -1,5 +1,4 @@
 -- `find_word` meets its contract: the part that goes to `place_in` is word k.
-use borrow.Author.Rules.{rules}
 use mathlib.Core.Path.{ap, ◌∙◌}
 use Rattle.script.specs.Words.{place_of}
 use Rattle.script.proofs.Passing.{part_word}

@@ -1,7 +1,5 @@
 -- `last` meets its contract. Behind i there are only blanks.
-use Prim.Native.Nat.{◌≤◌}
-use mathlib.Core.Path.{◌≡◌, ap, sym, ◌∙◌}
-use lib.ListN.{length, take}
+use mathlib.Core.Path.{ap, sym, ◌∙◌}
 use lib.Seq.{take-length}
 use Rattle.script.specs.Words.{last_end}
 use Rattle.script.proofs.Found.{last_none, last_on, last_stop}

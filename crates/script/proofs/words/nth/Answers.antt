@@ -1,7 +1,5 @@
 -- `nth` meets its contract. So far the walk is where the first i words are over.
-use Prim.Native.Nat.{◌≤◌, ◌-◌}
 use mathlib.Core.Path.{◌≡◌}
-use lib.ListN.{length}
 use Rattle.script.specs.Words.{over}
 use Rattle.script.proofs.Passing.{over_more, word_starts, word_ends}
 use borrow.Author.Rules.{rules}

@@ -3,9 +3,6 @@ use Prim.Native.Nat.{◌≤◌, ◌-◌}
 use mathlib.Core.Path.{◌≡◌}
 use lib.ListN.{length}
 use Rattle.script.specs.Words.{over}
-use Rattle.script.proofs.Passing.{over_more, word_starts, word_ends}
-use borrow.Author.Rules.{rules}
-use native.Mathlib.Omega.{arith}
 use Rattle.script.proofs.words.nth.Given as goal
 
 abbrev pub invariant-loop-i : goal.invariant-loop-i

@@ -1,8 +1,5 @@
 -- `pass` meets its contract. Where the walk ends from here is where it ends from the start.
-use Prim.Native.Nat.{◌+◌, ◌≤◌, ◌-◌}
-use mathlib.Core.Path.{◌≡◌, sym, ◌∙◌}
-use lib.ListN.{length, drop}
-use Rattle.script.specs.Words.{spanned}
+use mathlib.Core.Path.{sym, ◌∙◌}
 use Rattle.script.proofs.Passing.{pass_on, pass_stop, pass_end}
 use borrow.Author.Rules.{rules}
 use native.Mathlib.Omega.{arith}

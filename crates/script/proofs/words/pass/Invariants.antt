@@ -1,11 +1,8 @@
 -- `pass` meets its contract. Where the walk ends from here is where it ends from the start.
 use Prim.Native.Nat.{◌+◌, ◌≤◌, ◌-◌}
-use mathlib.Core.Path.{◌≡◌, sym, ◌∙◌}
+use mathlib.Core.Path.{◌≡◌}
 use lib.ListN.{length, drop}
 use Rattle.script.specs.Words.{spanned}
-use Rattle.script.proofs.Passing.{pass_on, pass_stop, pass_end}
-use borrow.Author.Rules.{rules}
-use native.Mathlib.Omega.{arith}
 use Rattle.script.proofs.words.pass.Given as goal
 
 abbrev pub invariant-loop-i : goal.invariant-loop-i

@@ -1,9 +1,8 @@
 -- `place_in` meets its contract. None of the first k words is w, and the walk is where they are over.
-use Prim.Native.Nat.{◌≤◌, ◌-◌}
-use mathlib.Core.Path.{◌≡◌, ap, sym, ◌∙◌}
+use mathlib.Core.Path.{ap, sym, ◌∙◌}
 use native.Mathlib.Nat.{sub-zero}
 use lib.ListN.{length}
-use Rattle.script.specs.Words.{over, place_from, place_of}
+use Rattle.script.specs.Words.{over, place_from}
 use Rattle.script.proofs.Found.{place_on, place_stop, place_end}
 use Rattle.script.proofs.Passing.{over_more, word_is}
 use borrow.Author.Rules.{rules}

@@ -1,8 +1,5 @@
 -- `same` meets its contract. So far the two texts are the same.
-use Prim.Native.Nat.{◌≤◌, ◌-◌}
-use mathlib.Core.Path.{◌≡◌, sym, ◌∙◌}
-use lib.ListN.{length, drop}
-use Rattle.script.specs.Words.{eqs}
+use mathlib.Core.Path.{sym, ◌∙◌}
 use Rattle.script.proofs.Found.{eqs_on, eqs_stop, eqs_end, eqs_long}
 use borrow.Author.Rules.{rules}
 use native.Mathlib.Omega.{arith}
