@@ -1,6 +1,7 @@
 -- A line of output, made in a lent slice. What doesn't fit is left out.
-use Rattle.std.specs.Prelude.{◌≡◌, List, ℕ, ◌+◌, ◌-◌, min, length, take}
+use Rattle.std.specs.Prelude.{◌≡◌, List, [], ℕ, ◌+◌, ◌-◌, leb, min, length, take}
 use Rattle.std.proofs.lemmas.List.Edits.{sets}
+use Rattle.lists.specs.Pick.{pick}
 
 -- the slice after a text went to a place in it, and where the next goes
 abbrev pub put_at : List ℕ → ℕ → List ℕ → List ℕ
@@ -12,3 +13,7 @@ next_at o at t = at + min (length o - at) (length t)
 pub record Put (o : List ℕ) (at : ℕ) (t o' : List ℕ) (r : ℕ) : Type 0 where
   pub stored : o' ≡ put_at o at t
   pub next : r ≡ next_at o at t
+
+-- what goes out of a slice of which n bytes are asked for: nothing where it has fewer
+abbrev pub sent : List ℕ → ℕ → List ℕ
+sent o n = pick (leb n (length o)) (take n o) []

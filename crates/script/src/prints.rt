@@ -1,11 +1,12 @@
 // A line of output, made in a lent slice: each function answers where the next byte goes. What doesn't fit is left out.
-ghost use Rattle.std.specs.Prelude.{[], ◌∷◌, ◌++◌, max, min};
-ghost use Rattle.script.specs.Prints.{Put};
+ghost use Rattle.std.specs.Prelude.{[], ◌∷◌, ◌++◌, max, min, OnOk};
+ghost use Rattle.std.specs.Io.KnownBytes.{Appends};
+ghost use Rattle.script.specs.Prints.{Put, sent};
 ghost use Rattle.script.specs.Spelling.{spelling};
 
 use crate::fills::copy;
-use libc::STDOUT_FILENO;
 use lists::least;
+use std::io::{Result, Write};
 
 pub fn put_bytes(out: &mut [u8], at: usize, b: &[u8]) -> usize
     ensures { Put out.old at b.now out.new result }
@@ -47,9 +48,12 @@ pub fn put_labelled(out: &mut [u8], at: usize, label: &[u8], n: usize) -> usize
     put_decimal(out, next, n)
 }
 
-// The first n bytes go to standard output. That they arrive is the C library's: its write promises nothing that a contract could use.
-pub fn write_out(out: &[u8], n: usize) {
+// The first n bytes go to the writer. Of a file or a pipe no contract knows what it holds, so that they arrive there is the system's.
+pub fn write_out<W: Write>(to: &mut W, out: &[u8], n: usize) -> Result<()>
+    ensures { OnOk result (Appends (W.contents to.old) (W.contents to.new) (sent out.now n)) }
+{
     if n <= out.len() {
-        io::write_all(STDOUT_FILENO, &out[0..n]);
+        return to.write_all(&out[0..n]);
     }
+    Ok(())
 }

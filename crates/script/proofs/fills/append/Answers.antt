@@ -12,6 +12,4 @@ returns-then-line-filled-2 c = record { answer = append_long c.args.line.now c.a
 
 pub returns : goal.returns
 returns c =
-    record { answer = append_count c.args.line.now c.args.part.now c.args.filled c.args.long (omega arith); line = (
-      append_put c.args.line.now c.args.part.now c.args.filled c.args.long _ (omega arith) c.copy.ensures,
-    ) }
+    record { answer = append_count c.args.line.now c.args.part.now c.args.filled c.args.long (omega arith); line = append_put c.args.line.now c.args.part.now c.args.filled c.args.long _ (omega arith) c.copy.ensures }

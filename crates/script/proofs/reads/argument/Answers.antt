@@ -8,4 +8,4 @@ use Rattle.script.proofs.reads.argument.Goals as goal
 pub returns : goal.returns
 returns c =
     let n = c.nth-s.ensures in
-    c.number.ensures ∙ ap number_in (part_word c.args.text.now c.args.k _ _ n.0 n.1.0)
+    c.number.ensures ∙ ap number_in (part_word c.args.text.now c.args.k _ _ n.start n.end)

@@ -8,4 +8,4 @@ use Rattle.script.proofs.words.find_word.Goals as goal
 pub returns : goal.returns
 returns c =
     let n = c.nth-s.ensures in
-    c.place_in.ensures ∙ ap (place_of c.args.list.now) (part_word c.args.text.now c.args.k _ _ n.0 n.1.0)
+    c.place_in.ensures ∙ ap (place_of c.args.list.now) (part_word c.args.text.now c.args.k _ _ n.start n.end)

@@ -22,7 +22,9 @@ pub returns : goal.returns
 returns c =
     let l = c.loop-i in
     let e : c.args.k ≡ l.i = omega arith in
-    let both = let s = c.pass-start-2.ensures.is in (
-      rw e (word_starts c.args.text.now l.i l.at _ 0 l.invariant.0 s),
-      (rw e (word_ends c.args.text.now l.i l.at _ _ l.invariant.0 s c.pass-end.ensures.is), search rules),
-    ) in record { start = both.0; end = both.1.0; within = both.1.1 }
+    let s = c.pass-start-2.ensures.is in
+    record {
+      start = rw e (word_starts c.args.text.now l.i l.at _ 0 l.invariant.0 s);
+      end = rw e (word_ends c.args.text.now l.i l.at _ _ l.invariant.0 s c.pass-end.ensures.is);
+      within = search rules;
+    }
