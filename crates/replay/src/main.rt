@@ -1,8 +1,10 @@
 // Replays the session script on standard input, and prints the result lines.
 #![tactic(auto)]
 
-use libc::STDIN_FILENO;
+use std::io;
 
-fn main() {
-    replayer::replay(STDIN_FILENO);
+fn main(rt: HostRuntime) -> io::Result<()> {
+    let mut from = rt.stdin();
+    let mut to = rt.stdout();
+    replayer::replay(&mut from, &mut to)
 }

@@ -1,8 +1,10 @@
 // The same program as replay, held to a longer script.
 #![tactic(auto)]
 
-use libc::STDIN_FILENO;
+use std::io;
 
-fn main() {
-    replayer::replay(STDIN_FILENO);
+fn main(rt: HostRuntime) -> io::Result<()> {
+    let mut from = rt.stdin();
+    let mut to = rt.stdout();
+    replayer::replay(&mut from, &mut to)
 }

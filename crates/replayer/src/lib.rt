@@ -11,6 +11,7 @@ ghost use Rattle.std.specs.Prelude.{◌≡◌, length};
 use desk::fresh;
 use reading::read_all;
 use script::crc_table;
+use std::io::{self, Read, Write};
 
 fn memory() -> [u8; 262146] {
     [0u8; 262146]
@@ -33,27 +34,36 @@ fn data_space() -> [u8; 131072] {
     [0u8; 131072]
 }
 
+// What one read takes, at most.
+fn chunk_space() -> [u8; 65536]
+    ensures { 65536 ≡ length result }
+{
+    [0u8; 65536]
+}
+
 fn line_space() -> [u8; 4096]
     ensures { 4096 ≡ length result }
 {
     [0u8; 4096]
 }
 
-// The script that a file or a pipe holds, over these buffers.
-fn replay_over(
-    fd: i32,
+// The script that the reader gives, over these buffers.
+fn replay_over<R: Read, W: Write>(
+    from: &mut R,
+    to: &mut W,
     mem: &mut [u8; 262146],
     reel: &mut [u8; 131072],
     table: &mut [u8; 4096],
     jrnl: &mut [u8; 1048576],
     data: &mut [u8; 131072],
-) {
-    let mut chunk = io::large_buffer();
+) -> io::Result<()> {
+    let mut chunk = chunk_space();
     let mut line = line_space();
     let sums = crc_table();
     read_all(
         fresh(),
-        fd,
+        from,
+        to,
         &mut chunk,
         &mut line,
         mem,
@@ -62,15 +72,17 @@ fn replay_over(
         jrnl,
         data,
         &sums,
-    );
+    )
 }
 
-// No contract can say more than that it returns: the C library's read and write promise nothing that one could use.
-pub fn replay(fd: i32) {
+// No contract here says more than that it returns. A read or a write that fails ends the replay, and its error is the answer.
+pub fn replay<R: Read, W: Write>(from: &mut R, to: &mut W) -> io::Result<()> {
     let mut mem = memory();
     let mut reel = reel_space();
     let mut table = table_space();
     let mut jrnl = journal_space();
     let mut data = data_space();
-    replay_over(fd, &mut mem, &mut reel, &mut table, &mut jrnl, &mut data);
+    replay_over(
+        from, to, &mut mem, &mut reel, &mut table, &mut jrnl, &mut data,
+    )
 }

@@ -1,21 +1,21 @@
-// What a line prints. No contract here can say more: the C library's write promises nothing of what is written.
+// What a line prints. No contract here says what is written.
 ghost use Rattle.std.specs.Prelude.{◌≡◌, ◌*◌, min, length};
 
 use desk::Said;
-use libc::STDOUT_FILENO;
 use lists::least;
 use results::{Told, put_complaint, put_result};
 use script::{Fault, crc, last, nth, write_out};
+use std::io::{self, Write};
 
 // A line with no blanks around it.
-fn print_line(text: &[u8]) {
+fn print_line<W: Write>(to: &mut W, text: &[u8]) -> io::Result<()> {
     let s = nth(text, 0);
     let start = s.start;
     let end = last(text);
     if start <= end {
-        io::write_all(STDOUT_FILENO, &text[start..end]);
+        to.write_all(&text[start..end])?;
     }
-    io::write_all(STDOUT_FILENO, b"\n");
+    to.write_all(b"\n")
 }
 
 // More than any line that is printed.
@@ -25,10 +25,10 @@ fn line_space() -> [u8; 1000]
     [0u8; 1000]
 }
 
-fn print_complaint(line: usize, f: Fault) {
+fn print_complaint<W: Write>(to: &mut W, line: usize, f: Fault) -> io::Result<()> {
     let mut out = line_space();
     let n = put_complaint(&mut out, line, f);
-    write_out(&out, n);
+    write_out(to, &out, n)
 }
 
 fn crc_of(b: &[u8], n: usize, sums: &[usize; 256]) -> usize {
@@ -47,7 +47,8 @@ fn used_bytes(objects: usize, n: usize) -> usize
 }
 
 // The result line over m bytes of memory, r of reel, and of the n bytes of the table those in use.
-fn print_result(
+fn print_result<W: Write>(
+    to: &mut W,
     t: Told,
     mem: &[u8],
     m: usize,
@@ -56,7 +57,7 @@ fn print_result(
     table: &[u8],
     n: usize,
     sums: &[usize; 256],
-) {
+) -> io::Result<()> {
     let used = used_bytes(t.session.objects, n);
     let mut out = line_space();
     let k = put_result(
@@ -66,11 +67,12 @@ fn print_result(
         crc_of(reel, r, sums),
         crc_of(table, used, sums),
     );
-    write_out(&out, k);
+    write_out(to, &out, k)
 }
 
 // What line number `line` has printed, over m bytes of memory, r of reel and n of the table.
-pub fn print(
+pub fn print<W: Write>(
+    to: &mut W,
     said: Said,
     line: usize,
     text: &[u8],
@@ -81,11 +83,11 @@ pub fn print(
     table: &[u8],
     n: usize,
     sums: &[usize; 256],
-) {
+) -> io::Result<()> {
     match said {
-        Said::Nothing => {}
-        Said::Itself => print_line(text),
-        Said::Result(t) => print_result(t, mem, m, reel, r, table, n, sums),
-        Said::Wrong(f) => print_complaint(line, f),
+        Said::Nothing => Ok(()),
+        Said::Itself => print_line(to, text),
+        Said::Result(t) => print_result(to, t, mem, m, reel, r, table, n, sums),
+        Said::Wrong(f) => print_complaint(to, line, f),
     }
 }

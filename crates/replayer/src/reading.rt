@@ -1,5 +1,4 @@
-// The script in chunks, its lines out of them, and each line run. No contract here can say more: the C library's read promises nothing of
-// what is read.
+// The script in chunks, its lines out of them, and each line run. No contract here says what is read and printed.
 ghost use Rattle.std.specs.Prelude.{◌≡◌, ◌≤◌, ◌<◌, length};
 
 use crate::prints::print;
@@ -8,6 +7,7 @@ use desk::{Desk, Said, Turn, next_line};
 use lines::{Does, Given, Line, fill, line_of};
 use lists::least;
 use script::{Fault, Value, append, find};
+use std::io::{self, Read, Write};
 
 // More than any line holds.
 const LONG: usize = 1000000;
@@ -74,24 +74,33 @@ fn end_script(r: Reader) -> Reader {
     }
 }
 
-fn read_more(r: Reader, fd: i32, chunk: &mut [u8], line: &mut [u8]) -> Reader {
-    let got = libc::read(fd, chunk);
-    let n = io::count(got, chunk);
+fn read_more<R: Read>(
+    r: Reader,
+    from: &mut R,
+    chunk: &mut [u8],
+    line: &mut [u8],
+) -> io::Result<Reader> {
+    let n = from.read(chunk)?;
     if n == 0 {
-        return end_script(r);
+        return Ok(end_script(r));
     }
     let mut next = r;
     next.at = 0;
     next.got = n;
-    take_part(next, chunk, line)
+    Ok(take_part(next, chunk, line))
 }
 
 // More of the line, as far as the chunk has it.
-fn take_more(r: Reader, fd: i32, chunk: &mut [u8], line: &mut [u8]) -> Reader {
+fn take_more<R: Read>(
+    r: Reader,
+    from: &mut R,
+    chunk: &mut [u8],
+    line: &mut [u8],
+) -> io::Result<Reader> {
     if r.at < r.got {
-        return take_part(r, chunk, line);
+        return Ok(take_part(r, chunk, line));
     }
-    read_more(r, fd, chunk, line)
+    read_more(r, from, chunk, line)
 }
 
 // How many bytes stand before a comment; 0 of a line that is too long.
@@ -150,7 +159,8 @@ fn ended(t: Turn, last: bool) -> Desk {
 }
 
 // The line is run, and prints.
-fn run_line(
+fn run_line<W: Write>(
+    to: &mut W,
     d: Desk,
     r: Reader,
     line: &[u8],
@@ -160,7 +170,7 @@ fn run_line(
     jrnl: &mut [u8; 1048576],
     data: &mut [u8; 131072],
     sums: &[usize; 256],
-) -> Desk {
+) -> io::Result<Desk> {
     let e = next_line(d);
     let n = text_length(line, r.filled);
     let l = line_in(line, r.filled, n, e.cursor);
@@ -171,6 +181,7 @@ fn run_line(
     let t = carry_out(e, agreed(does, v), data, k, mem, reel, table, jrnl);
     let said = t.said;
     print(
+        to,
         said,
         e.line,
         &line[0..n],
@@ -181,12 +192,13 @@ fn run_line(
         table,
         t.desk.sizes.table,
         sums,
-    );
-    ended(t, r.ended)
+    )?;
+    Ok(ended(t, r.ended))
 }
 
 // The line is run if it is whole.
-fn turn(
+fn turn<W: Write>(
+    to: &mut W,
     d: Desk,
     r: Reader,
     line: &[u8],
@@ -196,17 +208,18 @@ fn turn(
     jrnl: &mut [u8; 1048576],
     data: &mut [u8; 131072],
     sums: &[usize; 256],
-) -> Desk {
+) -> io::Result<Desk> {
     if r.whole {
-        return run_line(d, r, line, mem, reel, table, jrnl, data, sums);
+        return run_line(to, d, r, line, mem, reel, table, jrnl, data, sums);
     }
-    d
+    Ok(d)
 }
 
 // Nothing says that the input ends, so the turns run down from a number that no run uses up.
-pub fn read_all(
+pub fn read_all<R: Read, W: Write>(
     d: Desk,
-    fd: i32,
+    from: &mut R,
+    to: &mut W,
     chunk: &mut [u8; 65536],
     line: &mut [u8; 4096],
     mem: &mut [u8; 262146],
@@ -215,16 +228,17 @@ pub fn read_all(
     jrnl: &mut [u8; 1048576],
     data: &mut [u8; 131072],
     sums: &[usize; 256],
-) {
+) -> io::Result<()> {
     let mut e = d;
     let mut r = start();
     let mut turns: usize = 1000000000000;
     while 0 < turns {
         turns -= 1;
-        r = take_more(r, fd, chunk, line);
-        e = turn(e, r, line, mem, reel, table, jrnl, data, sums);
+        r = take_more(r, from, chunk, line)?;
+        e = turn(to, e, r, line, mem, reel, table, jrnl, data, sums)?;
         if e.stopped {
-            return;
+            return Ok(());
         }
     }
+    Ok(())
 }

@@ -1,6 +1,5 @@
 -- `ask` meets its contract: each step is the call of the journal that takes it.
 use Rattle.replayer.specs.Asks.{ask_of}
-use borrow.Author.Rules.{rules}
 use Rattle.replayer.proofs.asks.ask.Goals as goal
 
 pub returns-in-WriteTsdb : goal.returns-in-WriteTsdb

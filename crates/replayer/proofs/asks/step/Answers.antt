@@ -1,7 +1,6 @@
 -- `step` is its definition: the used journal is longer by the entry.
 use borrow.Enum.Refused.{opened}
 use Rattle.replayer.proofs.Telling.{advance_told, entry_told}
-use borrow.Author.Rules.{rules}
 use Rattle.replayer.proofs.asks.step.Goals as goal
 
 pub returns-in-Advance : goal.returns-in-Advance

@@ -2,31 +2,30 @@
 use mathlib.Core.Path.{refl}
 use native.Mathlib.Nat.{sub-zero}
 use Rattle.replayer.specs.Turns.{JournalOn, memory_on, reel_on, table_on, turn_on}
-use borrow.Author.Rules.{rules}
 use Rattle.replayer.proofs.turns.carry_out.Goals as goal
 
 pub returns-in-Nothing : goal.returns-in-Nothing
 unfolding turn_on memory_on reel_on table_on JournalOn
-returns-in-Nothing c = let both = rw c.in-Nothing.is (c.nothing.ensures, (refl, (refl, (refl, refl)))) in record { turn = both.0; memory = both.1.0; reel = both.1.1.0; table = both.1.1.1.0; journal = both.1.1.1.1 }
+returns-in-Nothing c = record { turn = rw c.in-Nothing.is c.nothing.ensures; memory = rw c.in-Nothing.is refl; reel = rw c.in-Nothing.is refl; table = rw c.in-Nothing.is refl; journal = rw c.in-Nothing.is refl }
 
 pub returns-in-Arranges : goal.returns-in-Arranges
 unfolding turn_on memory_on reel_on table_on JournalOn
-returns-in-Arranges c = let both = rw c.in-Arranges.is c.arrange.ensures in record { turn = both.0; memory = both.1.0; reel = both.1.1.0; table = both.1.1.1.0; journal = both.1.1.1.1 }
+returns-in-Arranges c = record { turn = rw c.in-Arranges.is c.arrange.ensures.turn; memory = rw c.in-Arranges.is c.arrange.ensures.memory; reel = rw c.in-Arranges.is c.arrange.ensures.reel; table = rw c.in-Arranges.is c.arrange.ensures.table; journal = rw c.in-Arranges.is c.arrange.ensures.journal }
 
 pub returns-in-Builds : goal.returns-in-Builds
 unfolding turn_on memory_on reel_on table_on JournalOn
-returns-in-Builds c = let both = rw c.in-Builds.is (c.build.ensures.turn, (c.build.ensures.memory, (c.build.ensures.reel, (refl, refl)))) in record { turn = both.0; memory = both.1.0; reel = both.1.1.0; table = both.1.1.1.0; journal = both.1.1.1.1 }
+returns-in-Builds c = record { turn = rw c.in-Builds.is c.build.ensures.turn; memory = rw c.in-Builds.is c.build.ensures.memory; reel = rw c.in-Builds.is c.build.ensures.reel; table = rw c.in-Builds.is refl; journal = rw c.in-Builds.is refl }
 
 pub returns-in-Tables : goal.returns-in-Tables
 unfolding turn_on memory_on reel_on table_on JournalOn
-returns-in-Tables c = let both = rw c.in-Tables.is (c.tabled.ensures.turn, (refl, (refl, (c.tabled.ensures.table, refl)))) in record { turn = both.0; memory = both.1.0; reel = both.1.1.0; table = both.1.1.1.0; journal = both.1.1.1.1 }
+returns-in-Tables c = record { turn = rw c.in-Tables.is c.tabled.ensures.turn; memory = rw c.in-Tables.is refl; reel = rw c.in-Tables.is refl; table = rw c.in-Tables.is c.tabled.ensures.table; journal = rw c.in-Tables.is refl }
 
 pub returns-in-Calls : goal.returns-in-Calls
 unfolding turn_on memory_on reel_on table_on JournalOn
 returns-in-Calls c =
     let e = rw (sub-zero c.args.n) at c.make_call.ensures in
-    let both = rw c.in-Calls.is e in record { turn = both.0; memory = both.1.0; reel = both.1.1.0; table = both.1.1.1.0; journal = both.1.1.1.1 }
+    record { turn = rw c.in-Calls.is e.turn; memory = rw c.in-Calls.is e.memory; reel = rw c.in-Calls.is e.reel; table = rw c.in-Calls.is e.table; journal = rw c.in-Calls.is e.journal }
 
 pub returns-in-Wrong : goal.returns-in-Wrong
 unfolding turn_on memory_on reel_on table_on JournalOn
-returns-in-Wrong c = let both = rw c.in-Wrong.is (c.wrong.ensures, (refl, (refl, (refl, refl)))) in record { turn = both.0; memory = both.1.0; reel = both.1.1.0; table = both.1.1.1.0; journal = both.1.1.1.1 }
+returns-in-Wrong c = record { turn = rw c.in-Wrong.is c.wrong.ensures; memory = rw c.in-Wrong.is refl; reel = rw c.in-Wrong.is refl; table = rw c.in-Wrong.is refl; journal = rw c.in-Wrong.is refl }

@@ -1,7 +1,10 @@
 -- `make_call` meets its contract: the call, then the zeros, and the desk with its session.
 use Rattle.replayer.proofs.Handing.{kept_call}
-use borrow.Author.Rules.{rules}
 use Rattle.replayer.proofs.turns.make_call.Goals as goal
 
 pub returns : goal.returns
-returns c = let both = kept_call _ _ _ _ _ _ _ _ _ _ _ _ _ _ _ _ _ _ c.hand-t.ensures c.handed.ensures c.trim.ensures c.kept.ensures in record { turn = both.0; memory = both.1.0; reel = both.1.1.0; table = both.1.1.1.0; journal = both.1.1.1.1 }
+returns c =
+    let h = c.hand-t.ensures in
+    let w = c.trim.ensures in
+    let both = kept_call _ _ _ _ _ _ _ _ _ _ _ _ _ _ _ _ _ _ (h.told, (h.memory, (h.reel, (h.table, h.journal)))) c.handed.ensures (w.memory, (w.reel, (w.table, w.journal))) c.kept.ensures in
+    record { turn = both.0; memory = both.1.0; reel = both.1.1.0; table = both.1.1.1.0; journal = both.1.1.1.1 }
