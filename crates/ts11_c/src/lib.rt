@@ -119,7 +119,9 @@ pub extern "C" fn ts11_advance(
     ensures gives { Gives (holding state.old memory.old reel.old table.old journal.old) (step_given Ask.advance (holding state.old memory.old reel.old table.old journal.old)) result (holding state.new memory.new reel.new table.new journal.new) }
     ensures tells { Tells (step_given Ask.advance (holding state.old memory.old reel.old table.old journal.old)) stepped.new interrupt.new block.new fault.new }
 {
-    ts11::ts11_advance(state, memory, reel, table, journal, stepped, interrupt, block, fault)
+    ts11::ts11_advance(
+        state, memory, reel, table, journal, stepped, interrupt, block, fault,
+    )
 }
 
 #[unsafe(no_mangle)]
