@@ -1,4 +1,5 @@
-// The library that a debugger links: the journal's calls for C, C++ and Rust, with the state as a block of 128 bytes.
+// The calls of the library that a debugger links, which `ts11_c` exports: the journal's calls for C, C++ and Rust, with the state as a block of
+// 128 bytes.
 #![tactic(auto)]
 
 mod calls;
