@@ -1,8 +1,6 @@
-# Sourced by tools/run and host/run: where the toolchain keeps what runs an x86-64 program here.
-#   tools      its folder with the C library, for this processor
+# Sourced by host/library, host/run and host/bench/measure: where the toolchain lies, and what runs an x86-64 program here.
+#   kit        the toolchain's folder
 #   emulator   what runs an x86-64 program; empty where the processor is one
-kit=$(cd "$(dirname "$(rt doc)")/.." && pwd)
-tools=$kit/toolchain
-[ -d "$kit/on/$(uname -m)/toolchain" ] && tools=$kit/on/$(uname -m)/toolchain
-emulator=$tools/bin/qemu-x86_64
-[ -x "$emulator" ] || emulator=
+kit=$(dirname "$(rt doc)")
+emulator=
+[ "$(uname -m)" = x86_64 ] || emulator=qemu-x86_64

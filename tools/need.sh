@@ -1,4 +1,4 @@
-# Sourced by host/build and host/bench/count.
+# Sourced by host/build, host/run and host/bench/count.
 #   need COMMAND PACKAGE..   installs Debian's packages if the command is not there
 need() {
 	command -v "$1" >/dev/null && return

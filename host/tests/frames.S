@@ -153,6 +153,7 @@
 	ret
 2:	jump_by table_2
 	mov %rdi, 8(%rsp)
+	movzbl 16(%rsp), %edx
 	jmp *%rax
 3:	call callee
 	jmp 1b
@@ -184,6 +185,16 @@ table:	.long 1b - table, 2b - table
 2:	ret
 	.section .rodata.call, "a"
 table:	.long 2b - table
+#endif
+
+#ifdef BYTE_OVER_A_TABLE
+	function call
+	jump_by table
+	movzbl (%rdx), %eax
+	jmp *%rax
+1:	ret
+	.section .rodata.call, "a"
+table:	.long 1b - table
 #endif
 
 #ifdef POINTER_BESIDE_A_TABLE

@@ -102,12 +102,16 @@ function beneath(f, text) {
 	return hex(substr(text, RSTART + 3, RLENGTH - 9))
 }
 
-# A jump by a table: `movslq (B,X,4),R; add B,R; jmp *R`, with moves to other registers, or of registers into the frame or below the stack pointer, before the jump, and nothing that
-# leads in between.
+# An instruction that may stand before the jump: a move to another register than R, whole or of a byte or word widened, or of a register into the frame or below the stack pointer.
+function spares(text, r) {
+	return text ~ /^mov(z[bw]l)? +[^*]+,%[er][a-z0-9]+$/ && text !~ (",%[er]" substr(r, 3) "[dwb]?$") || text ~ /^mov +%r[a-z0-9]+,(-?0x[0-9a-f]+)?\(%rsp\)$/
+}
+
+# A jump by a table: `movslq (B,X,4),R; add B,R; jmp *R`, with instructions that spare R before the jump, and nothing that leads in between.
 function expect_table(f, i, r, k, b) {
 	r = line[f, i]
 	sub(/^jmp +\*/, "", r)
-	for (k = i - 1; k > 2 && (line[f, k] ~ /^mov +[^*]+,%r[a-z0-9]+$/ && line[f, k] !~ ("," r "[dwb]?$") || line[f, k] ~ /^mov +%r[a-z0-9]+,(-?0x[0-9a-f]+)?\(%rsp\)$/) && !((f, k + 1) in entered); k--) ;
+	for (k = i - 1; k > 2 && spares(line[f, k], r) && !((f, k + 1) in entered); k--) ;
 	b = line[f, k]
 	gsub(/^add +|,.*/, "", b)
 	if (!entries[f] || r !~ /^%r[a-z0-9]+$/ || b !~ /^%r[a-z0-9]+$/ || line[f, k] != "add    " b "," r ||

@@ -1,4 +1,4 @@
-# The exported signatures of crates/ts11/src, as assertions that a host's declarations are just these:
+# The exported signatures of crates/ts11_c/src, as assertions that a host's declarations are just these:
 #   awk -f signatures.awk SOURCE..                   C, of ts11.h
 #   awk -v rust=PATH -f signatures.awk SOURCE..      Rust, of the file ts11.rs at PATH
 function set(type, in_c, in_rust) { name_of[type] = rust ? in_rust : in_c }

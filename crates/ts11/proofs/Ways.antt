@@ -1,6 +1,6 @@
 -- The ways out of an exported call: bytes that are no session's block are refused with 1, else the journal's call decides.
 use mathlib.Core.Path.{◌≡◌, refl, sym, ap, subst, ◌∙◌}
-use mathlib.Core.Bool.{Bool, true, false, not}
+use mathlib.Core.Bool.{Bool, true, false}
 use mathlib.Core.List.{List}
 use Prim.Native.Nat.{ℕ}
 use lib.ListN.{length}
@@ -21,21 +21,12 @@ use Rattle.stateblock.specs.Block.{block_after, is_block, session_in}
 use Rattle.ts11.specs.Given.{Gives, Host, Mounts, Reads, Tells, back_given, holding, opened, register_given, register_of, step_given, world_in}
 use Rattle.ts11.specs.Finds.{Finds, is_found, no_finding, place_found}
 
--- the test `!right`, as it comes out
-no_block : (right : Bool) → not right ≡ true → right ≡ false
-no_block true t = sym t
-no_block false t = refl
-
-a_block : (right : Bool) → not right ≡ false → right ≡ true
-a_block true t = refl
-a_block false t = sym t
-
 module _ (h : Host) (right : Bool) (told : right ≡ is_block h.block) where
   -- no session's block
-  module _ (t : not right ≡ true) where
+  module _ (t : right ≡ false) where
     stops : (x : Answered) → Gives h (opened h x) 1 h
     unfolding opened number_of block_after
-    stops x = rw (← told, no_block right t) (record { answer = refl; state = refl; memory = refl; reel = refl; table = refl; journal = refl; unless_step = λ z. refl })
+    stops x = rw (← told, t) (record { answer = refl; state = refl; memory = refl; reel = refl; table = refl; journal = refl; unless_step = λ z. refl })
 
     pub step_stops : (a : Ask) → Gives h (step_given a h) 1 h
     unfolding step_given
@@ -47,10 +38,10 @@ module _ (h : Host) (right : Bool) (told : right ≡ is_block h.block) where
 
     pub stops_told : (a : Ask) → Tells (step_given a h) false false 0 0
     unfolding step_given opened is_step interrupt_in block_in fault_in
-    stops_told a = rw (← told, no_block right t) (record { stepped = refl; interrupt = refl; block = refl; fault = refl })
+    stops_told a = rw (← told, t) (record { stepped = refl; interrupt = refl; block = refl; fault = refl })
 
   -- the call f was made with the session that the block is read as
-  module _ (s : Session) (o : Outcome) (m' r' tb' j' : List ℕ) (t : not right ≡ false) (read : s ≡ session_in h.block) where
+  module _ (s : Session) (o : Outcome) (m' r' tb' j' : List ℕ) (t : right ≡ true) (read : s ≡ session_in h.block) where
     module _ (f : World → ℕ → Answered) (left : Leaves (f (world_of 0 s h.memory h.reel h.table h.journal) (length h.journal)) h.journal o m' r' tb' j') where
       abbrev answers : Answered
       answers = f (world_in h) (length h.journal)
@@ -61,7 +52,7 @@ module _ (h : Host) (right : Bool) (told : right ≡ is_block h.block) where
       goes : {n : ℕ} {b' : List ℕ} → n ≡ number_of o.answer → b' ≡ block_after h.block o.answer o.session → Gives h (opened h answers) n (holding b' m' r' tb' j')
       unfolding opened
       goes p q =
-          rw (← told, a_block right t)
+          rw (← told, t)
           (record {
             answer = p ∙ ap number_of there.answer;
             state = q ∙ ap (λ (a : Answer). block_after h.block a o.session) there.answer ∙ ap (λ (w : World). block_after h.block answers.answer (session_of w)) there.world;
@@ -75,7 +66,7 @@ module _ (h : Host) (right : Bool) (told : right ≡ is_block h.block) where
       goes_told : {p i : Bool} {k l : ℕ} → p ≡ is_step o.answer → i ≡ interrupt_in o.answer → k ≡ block_in o.answer → l ≡ fault_in o.answer → Tells (opened h answers) p i k l
       unfolding opened
       goes_told x y z v =
-          rw (← told, a_block right t)
+          rw (← told, t)
           (record {
             stepped = x ∙ ap is_step there.answer;
             interrupt = y ∙ ap interrupt_in there.answer;
@@ -101,22 +92,22 @@ pub asked : (w : World) (n : ℕ) (o : Outcome) (j m r tb j' : List ℕ) (a c : 
 asked w n o j m r tb j' a c e h = subst (λ (x : Ask). Leaves (step_on w n x) j o m r tb j') e h
 
 -- a register, read from no session's block and from one
-pub unread : (b : List ℕ) (right tssr : Bool) → right ≡ is_block b → not right ≡ true → Reads (register_given b tssr) 1 0
+pub unread : (b : List ℕ) (right tssr : Bool) → right ≡ is_block b → right ≡ false → Reads (register_given b tssr) 1 0
 unfolding register_given number_of
-unread b right tssr told t = rw (← told, no_block right t) (record { answer = refl; word = refl })
+unread b right tssr told t = rw (← told, t) (record { answer = refl; word = refl })
 
-pub was_read : (b : List ℕ) (right tssr : Bool) (s : Session) (x : RegisterRead) (g : Register) (n : ℕ) → right ≡ is_block b → not right ≡ false → s ≡ session_in b → g ≡ register_of tssr → x ≡ register_on s g → n ≡ number_of x.answer → Reads (register_given b tssr) n x.word
+pub was_read : (b : List ℕ) (right tssr : Bool) (s : Session) (x : RegisterRead) (g : Register) (n : ℕ) → right ≡ is_block b → right ≡ true → s ≡ session_in b → g ≡ register_of tssr → x ≡ register_on s g → n ≡ number_of x.answer → Reads (register_given b tssr) n x.word
 unfolding register_given
 was_read b right tssr s x g n told t read which is p =
     let there : x ≡ register_on (session_in b) (register_of tssr) = is ∙ ap (λ (z : Session). register_on z g) read ∙ ap (register_on (session_in b)) which in
-    rw (← told, a_block right t) (record { answer = p ∙ ap (λ (z : RegisterRead). number_of z.answer) there; word = ap (λ (z : RegisterRead). z.word) there })
+    rw (← told, t) (record { answer = p ∙ ap (λ (z : RegisterRead). number_of z.answer) there; word = ap (λ (z : RegisterRead). z.word) there })
 
 -- a look-up in no session's block and in one: g is what the journal's look-up finds with a session
-pub not_looked : (b : List ℕ) (right : Bool) (x y : Finding) → right ≡ is_block b → not right ≡ true → x ≡ no_finding → x ≡ pick (is_block b) y no_finding
-not_looked b right x y told t is = is ∙ rw (← told, no_block right t)
+pub not_looked : (b : List ℕ) (right : Bool) (x y : Finding) → right ≡ is_block b → right ≡ false → x ≡ no_finding → x ≡ pick (is_block b) y no_finding
+not_looked b right x y told t is = is ∙ rw (← told, t)
 
-pub was_looked : (g : Session → Finding) (b : List ℕ) (right : Bool) (s : Session) (x : Finding) → right ≡ is_block b → not right ≡ false → s ≡ session_in b → x ≡ g s → x ≡ pick (is_block b) (g (session_in b)) no_finding
-was_looked g b right s x told t read is = is ∙ ap g read ∙ rw (← told, a_block right t)
+pub was_looked : (g : Session → Finding) (b : List ℕ) (right : Bool) (s : Session) (x : Finding) → right ≡ is_block b → right ≡ true → s ≡ session_in b → x ≡ g s → x ≡ pick (is_block b) (g (session_in b)) no_finding
+was_looked g b right s x told t read is = is ∙ ap g read ∙ rw (← told, t)
 
 -- what was found, told by its number, flag and place
 pub finds : {x y : Finding} {n i : ℕ} {f : Bool} → y ≡ x → n ≡ number_of y.answer → f ≡ is_found y.found → i ≡ place_found y.found → Finds x n f i

@@ -7,4 +7,4 @@ use borrow.Author.Rules.{rules}
 use Rattle.ts11.proofs.calls.ts11_mount.Goals as goal
 
 pub returns : goal.returns
-returns c = mounts (λ (s : Session). mount_on s c.args.memory-length c.args.reel.now (length c.args.table.now) c.args.journal-length c.args.end c.args.online c.args.locked) _ _ _ _ _ _ _ _ _ _ c.session_in-session.ensures c.mount-o.ensures.outcome c.mount-o.ensures.table c.number_in.ensures c.close.ensures c.block_in.ensures c.fault_in.ensures
+returns c = mounts (λ (s : Session). mount_on s c.args.memory_length c.args.reel.now (length c.args.table.now) c.args.journal_length c.args.end c.args.online c.args.locked) _ _ _ _ _ _ _ _ _ _ c.session_in-session.ensures c.mount-o.ensures.outcome c.mount-o.ensures.table c.number_in.ensures c.close.ensures c.block_in.ensures c.fault_in.ensures
