@@ -1,5 +1,5 @@
 -- Mounting a reel: refusals 2, 3 and 7. (01, "Calls" and the table)
-use Rattle.std.specs.Prelude.{Bool, true, false, ◌||◌, not, List, ℕ, ◌/◌, ◌%◌, eqb, ltb, length}
+use Rattle.std.specs.Prelude.{Bool, false, ◌||◌, not, List, ℕ, ◌/◌, ◌%◌, eqb, ltb, length}
 use Rattle.lists.specs.Pick.{pick}
 use Rattle.tape.specs.Numbers.{block_bytes, record_limit}
 use Rattle.tape.specs.Sweep.{swept_below_under}

@@ -1,6 +1,6 @@
 -- What carrying out a plan changes: the data's places, the message's, the reel's blocks. (01: "Memory outside the named bytes stays"; "Writing
 -- stores only the new object's blocks"), and the table's places of the new objects (02, [8])
-use Rattle.std.specs.Prelude.{false, ℕ, ◌+◌}
+use Rattle.std.specs.Prelude.{ℕ, ◌+◌}
 use Rattle.lists.specs.Pick.{pick}
 use Rattle.tape.specs.Bytes.{moved_to}
 use Rattle.signals.specs.Message.{message_bytes}

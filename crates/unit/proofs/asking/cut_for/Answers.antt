@@ -1,5 +1,4 @@
 -- `cut_for` meets its contract: what lays nothing is spared the search.
-use borrow.Author.Rules.{rules}
 use borrow.Author.Tests.{eq-eqb, ne_eqb}
 use Rattle.unit.specs.Steps.{cut_for}
 use Rattle.unit.proofs.asking.cut_for.Goals as goal

@@ -1,5 +1,4 @@
 -- `laid_places` meets its contract.
-use borrow.Author.Rules.{rules}
 use native.Mathlib.Omega.{arith}
 use Rattle.unit.specs.Touching.{laid_places}
 use Rattle.unit.proofs.asking.laid_places.Goals as goal

@@ -1,7 +1,6 @@
 -- `moved_place`: a short record read in reverse lies at the high end.
 use Rattle.unit.proofs.Moving.{place_high, place_low, short}
 use native.Mathlib.Omega.{arith}
-use borrow.Author.Rules.{rules}
 use Rattle.unit.proofs.asking.moved_place.Goals as goal
 
 pub overflow_sub-result : goal.overflow_sub-result

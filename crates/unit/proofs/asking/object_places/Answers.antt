@@ -1,5 +1,4 @@
 -- `object_places` meets its contract: an arm for each object.
-use borrow.Author.Rules.{rules}
 use native.Mathlib.Omega.{arith}
 use Rattle.unit.specs.Touching.{object_places}
 use Rattle.unit.proofs.asking.object_places.Goals as goal

@@ -1,5 +1,4 @@
 -- `objects_after` meets its contract.
-use borrow.Author.Rules.{rules}
 use borrow.Author.Tests.{eq-eqb, ne_eqb}
 use Rattle.unit.specs.Steps.{objects_after}
 use Rattle.unit.proofs.asking.objects_after.Goals as goal

@@ -4,7 +4,6 @@ use native.Mathlib.Omega.{arith}
 use lib.Dec.{ltb}
 use Rattle.unit.specs.Steps.{host_limit, store_wrong}
 use Rattle.unit.proofs.Outside.{by_difference, short_enough, too_long}
-use borrow.Author.Rules.{rules}
 use native.Mathlib.Omega.{arith}
 use Rattle.unit.proofs.asking.store_wrong.Goals as goal
 

@@ -1,5 +1,4 @@
 -- `too_small` is its definition.
-use borrow.Author.Rules.{rules}
 use Rattle.unit.specs.Steps.{too_small}
 use Rattle.unit.proofs.asking.too_small.Goals as goal
 

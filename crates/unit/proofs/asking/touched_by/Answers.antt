@@ -1,6 +1,5 @@
 -- `touched_by` is its definition, with or without a message.
 use Rattle.unit.specs.Touching.{touched_by}
-use borrow.Author.Rules.{rules}
 use Rattle.unit.proofs.asking.touched_by.Goals as goal
 
 pub returns-then-p : goal.returns-then-p

@@ -1,5 +1,4 @@
 -- `mount` meets its contract: a refusal or a bad block leaves the old state, a whole reel gives the new one.
-use borrow.Author.Rules.{rules}
 use borrow.Author.Tests.{eq-eqb, ne_eqb}
 use Rattle.unit.specs.Mounts.{mount_call_under, mount_swept}
 use Rattle.unit.proofs.mounting.mount.Goals as goal

@@ -1,6 +1,4 @@
 -- `mount_refusal` meets its contract: both tests are the definition's.
-use borrow.Author.Rules.{rules}
-use borrow.Author.Tests.{not-true, not-false}
 use Rattle.unit.specs.Mounts.{mount_refusal}
 use Rattle.unit.proofs.mounting.mount_refusal.Goals as goal
 

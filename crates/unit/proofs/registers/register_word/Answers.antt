@@ -1,6 +1,5 @@
 -- `register_word`: each arm returns its register's word.
 use Rattle.unit.specs.Registers.{register_word}
-use borrow.Author.Rules.{rules}
 use Rattle.unit.proofs.registers.register_word.Goals as goal
 
 pub returns-in-Tsba : goal.returns-in-Tsba
