@@ -1,6 +1,6 @@
 -- "Entry length is 128 + stored memory bytes + stored reel bytes, data and message counted separately even if they overlap." (01, Calls) It "grows by
 -- eight bytes for each table place filled" (02, [8]). An entry's bytes: its length, the old bytes of the places touched, its head. So it can be read from both ends.
-use Rattle.std.specs.Prelude.{Bool, ◌&&◌, not, List, ◌++◌, ℕ, ◌+◌, ◌-◌, eqb, leb, drop, length, take}
+use Rattle.std.specs.Prelude.{Bool, ◌&&◌, List, ◌++◌, ℕ, ◌+◌, ◌-◌, eqb, leb, drop, length, take}
 use Rattle.state.specs.declared.Lengths.{Lengths}
 use Rattle.touched.specs.Touches.{saved_bytes, saved_length, touched_fits}
 use Rattle.lists.specs.Fours.{number_at, number_bytes}

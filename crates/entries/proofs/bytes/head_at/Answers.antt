@@ -1,11 +1,9 @@
 -- `head_at` meets its contract. What is still to read, from number i on, gives the whole.
-use borrow.Author.Rules.{rules}
 use native.Mathlib.Omega.{arith}
 use mathlib.Core.Path.{◌≡◌, sym, ◌∙◌}
-use Prim.Native.Nat.{suc, ◌≤◌, ◌-◌, ◌+◌, ◌*◌}
+use Prim.Native.Nat.{suc, ◌-◌, ◌+◌, ◌*◌}
 use native.Mathlib.Nat.{add-zero}
-use lib.ListN.{length, length-set, drop}
-use lib.Seq.{sets}
+use lib.ListN.{length-set, drop}
 use Rattle.lists.proofs.Stores.{sets_whole}
 use Rattle.entries.specs.Bytes.{head_numbers}
 use Rattle.entries.proofs.Turns.{length_read, read_end_lem, read_turn}

@@ -1,14 +1,9 @@
 -- `head_at` meets its contract. What is still to read, from number i on, gives the whole.
-use borrow.Author.Rules.{rules}
-use native.Mathlib.Omega.{arith}
-use mathlib.Core.Path.{◌≡◌, sym, ◌∙◌}
-use Prim.Native.Nat.{suc, ◌≤◌, ◌-◌, ◌+◌, ◌*◌}
-use native.Mathlib.Nat.{add-zero}
-use lib.ListN.{length, length-set, drop}
+use mathlib.Core.Path.{◌≡◌}
+use Prim.Native.Nat.{◌≤◌, ◌-◌, ◌+◌, ◌*◌}
+use lib.ListN.{length, drop}
 use lib.Seq.{sets}
-use Rattle.lists.proofs.Stores.{sets_whole}
 use Rattle.entries.specs.Bytes.{head_numbers}
-use Rattle.entries.proofs.Turns.{length_read, read_end_lem, read_turn}
 use Rattle.entries.proofs.bytes.head_at.Given as goal
 
 abbrev pub invariant-loop-i : goal.invariant-loop-i

@@ -1,13 +1,9 @@
 -- `put_head` meets its contract. What is still to store, from number i on, gives the whole.
-use borrow.Author.Rules.{rules}
-use native.Mathlib.Omega.{arith}
-use mathlib.Core.Path.{◌≡◌, refl, sym, ◌∙◌}
+use mathlib.Core.Path.{◌≡◌}
 use Prim.Native.Nat.{◌≤◌, ◌-◌, ◌+◌, ◌*◌}
-use native.Mathlib.Nat.{add-zero}
 use lib.ListN.{length, drop}
 use lib.Seq.{sets}
 use Rattle.entries.specs.Bytes.{numbers_bytes}
-use Rattle.entries.proofs.Turns.{put_end, put_turn}
 use Rattle.entries.proofs.bytes.put_head.Given as goal
 
 abbrev pub invariant-loop-i : goal.invariant-loop-i

@@ -1,5 +1,4 @@
 -- `enter_bare` meets its contract: the length and the head join.
-use borrow.Author.Rules.{rules}
 use Rattle.entries.proofs.Joined.{bare_entered}
 use Rattle.entries.proofs.entering.enter_bare.Goals as goal
 

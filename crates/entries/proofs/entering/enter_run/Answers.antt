@@ -1,6 +1,5 @@
 -- `enter_run` meets its contract: the length, the run and the head join.
 use mathlib.Core.Path.{refl}
-use borrow.Author.Rules.{rules}
 use Rattle.entries.proofs.Joined.{run_entered}
 use Rattle.entries.proofs.entering.enter_run.Goals as goal
 

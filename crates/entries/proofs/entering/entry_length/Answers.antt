@@ -1,8 +1,5 @@
 -- `entry_length` is its definition. The range of `places` lies deep in what is known of the entry, so it is named.
 use Rattle.entries.specs.Entries.{entry_length}
-use borrow.Author.Rules.{rules}
-use Prim.Native.Nat.{◌<◌}
-use native.Mathlib.Omega.{arith}
 use Rattle.entries.proofs.entering.entry_length.Goals as goal
 
 pub returns : goal.returns

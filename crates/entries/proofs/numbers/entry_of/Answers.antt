@@ -1,6 +1,5 @@
 -- `entry_of` is its definition.
 use Rattle.entries.specs.Numbers.{entry_of}
-use borrow.Author.Rules.{rules}
 use Rattle.entries.proofs.numbers.entry_of.Goals as goal
 
 pub returns : goal.returns

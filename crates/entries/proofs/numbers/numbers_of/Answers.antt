@@ -1,7 +1,6 @@
 -- `numbers_of` is its definition, number by number.
 use mathlib.Core.List.{[], ◌∷◌}
 use Rattle.entries.specs.Numbers.{numbers_of}
-use borrow.Author.Rules.{rules}
 use Rattle.entries.proofs.numbers.numbers_of.Goals as goal
 
 pub returns : goal.returns

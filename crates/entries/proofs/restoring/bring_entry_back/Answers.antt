@@ -2,7 +2,6 @@
 use native.Mathlib.Omega.{arith}
 use Rattle.entries.proofs.Joined.{entry_whole}
 use Rattle.entries.proofs.Used.{brought_as, saved_lent, saved_read}
-use borrow.Author.Rules.{rules}
 use Rattle.entries.proofs.restoring.bring_entry_back.Goals as goal
 
 pub overflow_sub-head : goal.overflow_sub-head

@@ -3,8 +3,6 @@ use native.Mathlib.Omega.{arith}
 use Rattle.entries.proofs.Fitting.{fit_by, places_in_lem, unfit}
 use mathlib.Core.Path.{refl, ap}
 use mathlib.Core.Bool.{not}
-use Prim.Native.Nat.{◌<◌}
-use borrow.Author.Rules.{rules}
 use Rattle.entries.proofs.restoring.entry_fits.Goals as goal
 
 pub returns-then-not-same-touched_fits : goal.returns-then-not-same-touched_fits

@@ -1,6 +1,5 @@
 -- `newest_entry` reads what stands in the used journal alone.
 use Rattle.entries.proofs.Used.{newest_read}
-use borrow.Author.Rules.{rules}
 use Rattle.entries.proofs.restoring.newest_entry.Goals as goal
 
 pub returns : goal.returns
