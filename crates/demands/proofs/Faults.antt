@@ -12,7 +12,6 @@ use Rattle.tape.specs.Numbers.{pieces_of, record_limit}
 use Rattle.tape.specs.Pass.{ahead, bad_at, beyond, fault_of, first_met, is_piece, lowest, met_by, met_by_under, order_met, passed, passed_under, pieces_met, pieces_met_under, record_met, record_met_under}
 use Rattle.tape.specs.Reading.{class_at}
 use Rattle.tape.specs.Sweep.{swept_below, swept_below_under, swept_from, swept_from_under, swept_on}
-use Rattle.tape.specs.Wrong.{WrongAt}
 use Rattle.tape.specs.declared.BlockFault.{BlockFault}
 use Rattle.tape.specs.declared.BlockFault.TheVariants as fault
 use Rattle.tape.specs.declared.Block.{Block}

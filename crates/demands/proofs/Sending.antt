@@ -2,12 +2,12 @@
 -- release sends none). "A message goes out only if NBA is clear." (01)
 use mathlib.Core.Bool.{Bool, true, false, ◌&&◌, not}
 use mathlib.Core.List.{List}
-use mathlib.Core.Path.{◌≡◌, refl, sym}
+use mathlib.Core.Path.{◌≡◌, refl}
 use Prim.Native.Nat.{ℕ}
 use native.Mathlib.Omega.{arith}
 use lib.Dec.{eqb}
 use Rattle.tape.proofs.Accepted.{clash}
-use Rattle.signals.specs.Codes.{command_of, control_mode, format_mode, position_mode, read_mode, single_mode, write_mode}
+use Rattle.signals.specs.Codes.{command_of, format_mode, position_mode, read_mode, single_mode, write_mode}
 use Rattle.signals.specs.declared.codes.Command.{Command}
 use Rattle.signals.specs.declared.codes.Command.TheVariants as command
 use Rattle.signals.specs.declared.packet.Header.{Header}

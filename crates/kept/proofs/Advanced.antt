@@ -8,7 +8,6 @@ use Rattle.tape.specs.Objects.{Holds, Object}
 use Rattle.tape.proofs.Accepted.{clash}
 use Rattle.tape.specs.declared.BlockFault.{BlockFault}
 use Rattle.signals.specs.Codes.{command_of}
-use Rattle.state.specs.declared.Tape.{Tape}
 use Rattle.state.specs.declared.Unit.{Unit}
 use Rattle.moves.specs.Between.{Bound}
 use Rattle.commands.specs.declared.plans.Answer.TheVariants as answer

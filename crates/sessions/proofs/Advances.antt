@@ -1,5 +1,5 @@
 -- Demand 2 at the call: what is proved of an advance, and of the sweep, holds of the calls `advance` and `mount`.
-use mathlib.Core.Bool.{Bool, true, false, ◌||◌, ◌&&◌, not, true≢false}
+use mathlib.Core.Bool.{Bool, ◌||◌, ◌&&◌, not, true≢false}
 use mathlib.Core.List.{List}
 use mathlib.Core.Path.{◌≡◌, refl, sym, ap, ◌∙◌}
 use Prim.Native.Nat.{ℕ, ◌*◌, ◌/◌, ◌%◌, ◌-◌, ◌≤◌}

@@ -19,7 +19,6 @@ use Rattle.worlds.specs.declared.Coupler.{Coupler}
 use Rattle.worlds.specs.declared.Outcome.{Outcome}
 use Rattle.worlds.specs.declared.RegisterRead.{RegisterRead}
 use Rattle.worlds.specs.declared.Seat.{Seat}
-use Rattle.worlds.specs.declared.Session.{Session}
 use Rattle.worlds.specs.declared.Transport.{Transport}
 
 -- a transport: its record, its reel and its table

@@ -1,5 +1,5 @@
 -- A row of transports over one coupler: their records, what they share, and the refusals of calls over them. (02, [9])
-use Rattle.std.specs.Prelude.{Bool, true, false, ◌&&◌, ◌||◌, not, List, [], ◌∷◌, ℕ, ◌*◌, eqb, leb, ltb, get_or, length, take}
+use Rattle.std.specs.Prelude.{Bool, false, ◌&&◌, ◌||◌, not, List, [], ◌∷◌, ℕ, ◌*◌, eqb, leb, ltb, get_or, length, take}
 use Rattle.lists.specs.Pick.{pick}
 use Rattle.tape.specs.Numbers.{block_bytes}
 use Rattle.state.specs.Checks.{memory_right, state_wrong}

@@ -1,6 +1,5 @@
 -- `back_refusal` meets its contract: a law for each answer, in number order.
 use Rattle.coupler.proofs.Refusing.{back_checked_lem, back_empty, back_inside, back_lost, back_short, back_stands}
-use borrow.Author.Rules.{rules}
 use Rattle.coupler.proofs.backs.back_refusal.Goals as goal
 
 pub returns-then-r-ne0 : goal.returns-then-r-ne0

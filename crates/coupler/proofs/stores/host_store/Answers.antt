@@ -1,6 +1,5 @@
 -- `host_store` meets its contract: refusals 1, 2, 4 and 5, else the step.
 use Rattle.coupler.proofs.Hosting.{host_goes, host_outside, host_ready, host_stops}
-use borrow.Author.Rules.{rules}
 use Rattle.coupler.proofs.stores.host_store.Goals as goal
 
 pub returns-then-n-ne0 : goal.returns-then-n-ne0

@@ -6,7 +6,6 @@ use Rattle.worlds.specs.Worlds.{world_of}
 use Rattle.worlds.specs.Calls.{step_on, taken_by}
 use Rattle.worlds.proofs.Passing.{passed, plannable}
 use mathlib.Core.Path.{◌∙◌, refl, sym}
-use borrow.Author.Rules.{rules}
 use Rattle.journal.proofs.calls.advance.Goals as goal
 
 pub returns-then-n-ne0 : goal.returns-then-n-ne0

@@ -4,7 +4,6 @@ use Rattle.steps.proofs.Called.{store_stops, store_takes}
 use Rattle.steps.proofs.Readies.{host_ready}
 use Rattle.unit.specs.Steps.{step_of}
 use Rattle.worlds.specs.Calls.{step_on}
-use borrow.Author.Rules.{rules}
 use Rattle.journal.proofs.calls.host_store.Goals as goal
 
 pub returns-then-n-ne0 : goal.returns-then-n-ne0

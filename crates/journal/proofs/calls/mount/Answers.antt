@@ -3,7 +3,6 @@ use mathlib.Core.Path.{refl}
 use native.Mathlib.Omega.{arith}
 use Rattle.steps.proofs.Mounting.{mount_holds, mount_long, mount_rests, mount_stops, mount_tables}
 use Rattle.worlds.specs.Calls.{mounted_by, table_mounted}
-use borrow.Author.Rules.{rules}
 use Rattle.journal.proofs.calls.mount.Goals as goal
 
 pub returns-then-n-ne0 : goal.returns-then-n-ne0

@@ -1,6 +1,5 @@
 -- `read_register` is its definition.
 use Rattle.worlds.specs.Calls.{register_on}
-use borrow.Author.Rules.{rules}
 use Rattle.journal.proofs.calls.read_register.Goals as goal
 
 pub returns-then-session_wrong : goal.returns-then-session_wrong

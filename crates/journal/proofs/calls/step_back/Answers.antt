@@ -2,7 +2,6 @@
 use Rattle.steps.proofs.Backs.{back_goes, back_none, back_short}
 use Rattle.steps.proofs.Outs.{guarded_stops}
 use Rattle.worlds.specs.Calls.{back_on}
-use borrow.Author.Rules.{rules}
 use Rattle.journal.proofs.calls.step_back.Goals as goal
 
 pub returns-then-n-ne0 : goal.returns-then-n-ne0

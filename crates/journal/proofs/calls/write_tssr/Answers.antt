@@ -2,7 +2,6 @@
 use Rattle.steps.proofs.Changing.{change_goes, change_stops}
 use Rattle.unit.specs.Steps.{step_of}
 use Rattle.worlds.specs.Calls.{step_on}
-use borrow.Author.Rules.{rules}
 use Rattle.journal.proofs.calls.write_tssr.Goals as goal
 
 pub returns-then-n-ne0 : goal.returns-then-n-ne0

@@ -1,6 +1,5 @@
 -- `block_place` is its definition.
 use Rattle.worlds.specs.Calls.{block_on}
-use borrow.Author.Rules.{rules}
 use Rattle.journal.proofs.finds.block_place.Goals as goal
 
 pub returns : goal.returns

@@ -1,6 +1,5 @@
 -- `file_place` is its definition.
 use Rattle.worlds.specs.Calls.{file_on}
-use borrow.Author.Rules.{rules}
 use Rattle.journal.proofs.finds.file_place.Goals as goal
 
 pub returns : goal.returns

@@ -1,7 +1,6 @@
 -- `find_refusal` is its definition.
 use Rattle.worlds.specs.Calls.{find_refusal}
 use borrow.Author.Tests.{le-ltb, lt-ltb}
-use borrow.Author.Rules.{rules}
 use Rattle.journal.proofs.finds.find_refusal.Goals as goal
 
 pub returns-then-session_wrong : goal.returns-then-session_wrong

@@ -1,7 +1,6 @@
 -- `record_of` meets its contract, number by number.
 use mathlib.Core.List.{[], ◌∷◌}
 use Rattle.records.specs.Records.{numbers_of}
-use borrow.Author.Rules.{rules}
 use Rattle.records.proofs.records.record_of.Goals as goal
 
 pub returns : goal.returns

@@ -1,7 +1,6 @@
 -- `put_coupler` meets its contract, number by number.
 use mathlib.Core.List.{[], ◌∷◌}
 use Rattle.records.specs.Shares.{shares_of}
-use borrow.Author.Rules.{rules}
 use Rattle.records.proofs.shares.put_coupler.Goals as goal
 
 pub returns : goal.returns

@@ -1,6 +1,5 @@
 -- `block_right` meets its contract: the block's numbers, tested.
 use Rattle.stateblock.specs.Block.{is_block}
-use borrow.Author.Rules.{rules}
 use Rattle.stateblock.proofs.block.block_right.Goals as goal
 
 pub returns : goal.returns

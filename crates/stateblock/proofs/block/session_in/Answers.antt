@@ -1,6 +1,5 @@
 -- `session_in` meets its contract: the block's numbers, read as a session.
 use Rattle.stateblock.specs.Block.{session_in}
-use borrow.Author.Rules.{rules}
 use Rattle.stateblock.proofs.block.session_in.Goals as goal
 
 pub returns : goal.returns

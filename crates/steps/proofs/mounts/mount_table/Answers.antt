@@ -1,6 +1,5 @@
 -- `mount_table` meets its contract: refusal 11, or the table filled.
 use Rattle.steps.proofs.Mounting.{table_filled, table_lacks}
-use borrow.Author.Rules.{rules}
 use Rattle.steps.proofs.mounts.mount_table.Goals as goal
 
 pub returns-then-places-n : goal.returns-then-places-n

@@ -4,7 +4,6 @@ use Rattle.unit.proofs.Touches.{host_run}
 use Rattle.worlds.proofs.Coupling.{coupler_passed}
 use Rattle.steps.proofs.Sharing.{none_sizes, store_full, store_goes, store_room}
 use native.Mathlib.Omega.{arith}
-use borrow.Author.Rules.{rules}
 use Rattle.steps.proofs.shared.store_step.Goals as goal
 
 pub overflow_add-n : goal.overflow_add-n

@@ -4,7 +4,6 @@ use mathlib.Core.Path.{ap}
 use Rattle.worlds.proofs.Coupling.{coupler_passed}
 use Rattle.steps.proofs.Sharing.{none_fits, none_goes, none_places, none_sizes, none_stops}
 use native.Mathlib.Omega.{arith}
-use borrow.Author.Rules.{rules}
 use Rattle.steps.proofs.shared.undo_none.Goals as goal
 
 pub newest_entry-e-requires : goal.newest_entry-e-requires

@@ -10,7 +10,6 @@ use Rattle.steps.proofs.Entered.{bare_length, change_after, change_entry}
 use Rattle.worlds.specs.Worlds.{world_of}
 use Rattle.worlds.proofs.Passing.{passed, room}
 use native.Mathlib.Omega.{arith}
-use borrow.Author.Rules.{rules}
 use Rattle.steps.proofs.steps.change.Goals as goal
 
 pub enter_bare-requires : goal.enter_bare-requires

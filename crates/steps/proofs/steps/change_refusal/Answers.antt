@@ -4,7 +4,6 @@ use native.Mathlib.Omega.{arith}
 use borrow.Author.Tests.{eq-eqb, le-ltb, lt-ltb, ne_eqb}
 use Rattle.steps.specs.Readiness.{change_refusal}
 use Rattle.worlds.proofs.Passing.{passed}
-use borrow.Author.Rules.{rules}
 use Rattle.steps.proofs.steps.change_refusal.Goals as goal
 
 pub returns-then-n-ne0 : goal.returns-then-n-ne0

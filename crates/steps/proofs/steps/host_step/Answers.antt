@@ -12,7 +12,6 @@ use Rattle.unit.proofs.Rows.{small_now}
 use Rattle.worlds.specs.Worlds.{world_of}
 use Rattle.worlds.proofs.Passing.{passed, room}
 use native.Mathlib.Omega.{arith}
-use borrow.Author.Rules.{rules}
 use Rattle.steps.proofs.steps.host_step.Goals as goal
 
 pub returns-then-too_small : goal.returns-then-too_small

@@ -7,7 +7,6 @@ use Rattle.steps.proofs.Readies.{cut_counted}
 use Rattle.unit.proofs.Rows.{small_now}
 use Rattle.unit.proofs.Rows.{enough_before}
 use Rattle.worlds.specs.Worlds.{world_of}
-use borrow.Author.Rules.{rules}
 use Rattle.steps.proofs.steps.step.Goals as goal
 
 pub returns-then-too_small : goal.returns-then-too_small

@@ -5,7 +5,6 @@ use Rattle.steps.proofs.Readies.{filled_in, fills, sound_sizes, step_in}
 use Rattle.worlds.specs.Worlds.{world_of}
 use Rattle.worlds.proofs.Passing.{passed, room}
 use native.Mathlib.Omega.{arith}
-use borrow.Author.Rules.{rules}
 use Rattle.steps.proofs.steps.take_step.Goals as goal
 
 pub entry_length-n-requires : goal.entry_length-n-requires

@@ -5,7 +5,6 @@ use Rattle.steps.proofs.Backs.{undo_fits, undo_goes, undo_lacks, undo_places, un
 use Rattle.steps.proofs.Readies.{sound_sizes}
 use Rattle.worlds.proofs.Passing.{passed}
 use native.Mathlib.Omega.{arith}
-use borrow.Author.Rules.{rules}
 use Rattle.steps.proofs.steps.undo.Goals as goal
 
 pub newest_entry-e-requires : goal.newest_entry-e-requires

@@ -1,7 +1,6 @@
 -- `check` meets its contract: one line for each refusal, in number order.
 use Rattle.worlds.specs.Refusals.{checked}
 use borrow.Author.Tests.{eq-eqb, ne_eqb}
-use borrow.Author.Rules.{rules}
 use Rattle.worlds.proofs.checks.check.Goals as goal
 
 pub returns-then-session_wrong : goal.returns-then-session_wrong

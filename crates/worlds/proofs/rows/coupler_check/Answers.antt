@@ -1,5 +1,4 @@
 -- `coupler_check` meets its contract: one line for each refusal, in number order.
-use borrow.Author.Rules.{rules}
 use borrow.Author.Tests.{eq-eqb, ne_eqb}
 use Rattle.worlds.specs.Rows.{coupler_checked}
 use Rattle.worlds.proofs.rows.coupler_check.Goals as goal

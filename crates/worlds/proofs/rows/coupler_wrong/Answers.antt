@@ -1,5 +1,4 @@
 -- `coupler_wrong` is its definition, by the call that looks at memory's length.
-use borrow.Author.Rules.{rules}
 use Rattle.worlds.specs.Rows.{coupler_wrong}
 use Rattle.worlds.proofs.rows.coupler_wrong.Goals as goal
 

@@ -1,5 +1,4 @@
 -- `reel_seat_wrong` is its definition, by the law of whole blocks.
-use borrow.Author.Rules.{rules}
 use Rattle.state.proofs.Tests.{whole_blocks}
 use Rattle.worlds.specs.Rows.{reel_seat_wrong}
 use Rattle.worlds.proofs.rows.reel_seat_wrong.Goals as goal

@@ -1,5 +1,4 @@
 -- `row_check` meets its contract: a law of the row for each answer, in number order.
-use borrow.Author.Rules.{rules}
 use Rattle.worlds.proofs.Seating.{row_four, row_none, row_one, row_three, row_two}
 use Rattle.worlds.proofs.rows.row_check.Goals as goal
 

@@ -1,5 +1,4 @@
 -- `session_over` is its definition, by the call that makes the unit.
-use borrow.Author.Rules.{rules}
 use Rattle.worlds.proofs.rows.session_over.Goals as goal
 
 pub returns : goal.returns

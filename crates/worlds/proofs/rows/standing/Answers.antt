@@ -1,6 +1,5 @@
 -- `standing` is its definition: what it asks of four, by the laws of a row.
 use mathlib.Core.Path.{sym, ◌∙◌}
-use borrow.Author.Rules.{rules}
 use Rattle.worlds.proofs.Seating.{standing_absent, standing_present}
 use Rattle.worlds.proofs.rows.standing.Goals as goal
 

@@ -1,5 +1,4 @@
 -- `state_seat_wrong` is its definition, by the call that looks at the state.
-use borrow.Author.Rules.{rules}
 use Rattle.worlds.specs.Rows.{state_seat_wrong}
 use Rattle.worlds.proofs.rows.state_seat_wrong.Goals as goal
 
