@@ -4,7 +4,6 @@ use Rattle.lists.specs.Pick.{pick}
 use Rattle.state.specs.declared.act.Act.{Act}
 use Rattle.state.specs.declared.act.Act.TheVariants as act
 use Rattle.commands.specs.Answers.{block_in, fault_in, interrupt_in, is_step, number_of}
-use Rattle.commands.specs.declared.plans.Answer.{Answer}
 use Rattle.commands.specs.declared.plans.Answer.TheVariants as answer
 use Rattle.unit.specs.Asks.{Ask}
 use Rattle.unit.specs.declared.registers.Register.{Register}
@@ -12,10 +11,9 @@ use Rattle.unit.specs.declared.registers.Register.TheVariants as register
 use Rattle.entries.specs.Entries.{used_in}
 use Rattle.worlds.specs.Worlds.{Answered, World, session_of, world_of}
 use Rattle.worlds.specs.Calls.{back_on, refused_as, register_on, step_on}
-use Rattle.worlds.specs.declared.Session.{Session}
 use Rattle.worlds.specs.declared.Outcome.{Outcome}
 use Rattle.worlds.specs.declared.RegisterRead.{RegisterRead}
-use Rattle.stateblock.specs.Block.{block_after, is_block, session_in, state_block}
+use Rattle.stateblock.specs.Block.{block_after, is_block, session_in}
 
 -- all that a host holds and hands to a call: the state's block and four buffers
 pub record Host : Type 0 where

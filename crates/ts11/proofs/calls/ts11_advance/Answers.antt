@@ -1,6 +1,5 @@
 -- `ts11_advance` meets its contract: as the other calls, and its answer is told beside its number.
 use Rattle.ts11.proofs.Ways.{step_goes, step_stops, step_told_lem, stops_told}
-use borrow.Author.Rules.{rules}
 use Rattle.ts11.proofs.calls.ts11_advance.Goals as goal
 
 pub returns-then-not-block_right : goal.returns-then-not-block_right

@@ -3,7 +3,6 @@ use lib.ListN.{length}
 use Rattle.worlds.specs.Calls.{mount_on}
 use Rattle.worlds.specs.declared.Session.{Session}
 use Rattle.ts11.proofs.Ways.{mounts}
-use borrow.Author.Rules.{rules}
 use Rattle.ts11.proofs.calls.ts11_mount.Goals as goal
 
 pub returns : goal.returns

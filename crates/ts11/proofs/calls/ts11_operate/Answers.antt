@@ -2,7 +2,6 @@
 use mathlib.Core.Path.{ap}
 use Rattle.unit.specs.Asks.{Ask}
 use Rattle.ts11.proofs.Ways.{asked, step_goes, step_stops}
-use borrow.Author.Rules.{rules}
 use Rattle.ts11.proofs.calls.ts11_operate.Goals as goal
 
 pub returns-then-not-block_right : goal.returns-then-not-block_right

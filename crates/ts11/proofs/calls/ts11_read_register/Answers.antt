@@ -1,6 +1,5 @@
 -- `ts11_read_register` meets its contract: refused with 1 where the bytes are no session's block, else the register's word.
 use Rattle.ts11.proofs.Ways.{unread, was_read}
-use borrow.Author.Rules.{rules}
 use Rattle.ts11.proofs.calls.ts11_read_register.Goals as goal
 
 pub returns-then-not-block_right : goal.returns-then-not-block_right

@@ -1,6 +1,5 @@
 -- `ts11_write_tssr` meets its contract: refused with 1 where the bytes are no session's block, else what the journal's call leaves.
 use Rattle.ts11.proofs.Ways.{step_goes, step_stops}
-use borrow.Author.Rules.{rules}
 use Rattle.ts11.proofs.calls.ts11_write_tssr.Goals as goal
 
 pub returns-then-not-block_right : goal.returns-then-not-block_right

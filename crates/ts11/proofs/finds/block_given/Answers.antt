@@ -3,7 +3,6 @@ use Rattle.worlds.specs.Calls.{block_on}
 use Rattle.worlds.specs.declared.Session.{Session}
 use Rattle.ts11.proofs.Ways.{not_looked, was_looked}
 use Rattle.ts11.specs.Finds.{block_given}
-use borrow.Author.Rules.{rules}
 use Rattle.ts11.proofs.finds.block_given.Goals as goal
 
 pub returns-then-not-block_right : goal.returns-then-not-block_right

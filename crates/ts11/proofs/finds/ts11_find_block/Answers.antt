@@ -1,6 +1,5 @@
 -- `ts11_find_block` meets its contract: what was found is told as number, flag and place.
 use Rattle.ts11.proofs.Ways.{finds}
-use borrow.Author.Rules.{rules}
 use Rattle.ts11.proofs.finds.ts11_find_block.Goals as goal
 
 pub returns : goal.returns
