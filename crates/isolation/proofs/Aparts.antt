@@ -5,22 +5,18 @@ use mathlib.Core.List.{List, [], ◌∷◌}
 use Prim.Native.Nat.{ℕ}
 use native.Mathlib.Omega.{arith}
 use borrow.Author.Tests.{eqb-true}
-use lib.Dec.{eqb}
 use lib.ListN.{get_or, length}
-use Rattle.lists.specs.Pick.{pick}
 use Rattle.lists.proofs.Cases.{by_test}
-use Rattle.unit.specs.Asks.{Ask, advance, host_store}
-use Rattle.unit.specs.Steps.{step_of}
-use Rattle.unit.specs.declared.registers.Register.{Register}
-use Rattle.worlds.specs.Coupled.{Coupled, core_of, core_of_none, view_of, with_core, with_memory}
+use Rattle.unit.specs.Asks.{Ask, advance}
+use Rattle.worlds.specs.Coupled.{core_of, core_of_none, view_of, with_core}
 use Rattle.worlds.specs.Worlds.{session_of}
 use Rattle.worlds.proofs.Passing.{core_accepted, passed}
 use Rattle.sessions.specs.Session.{Kind, does, looked, refused, stepped}
 use Rattle.sessions.proofs.Taken.{sound_asked}
 use Rattle.histories.specs.Calling.{Call, Here, OfUnit, call_kind, calls, coupled_from, doing, kind_now, next_rig, on_call, read_register, step, step_to, store}
 use Rattle.histories.specs.Good.{Among, Good}
-use Rattle.histories.proofs.Taking.{Taken, asked, step_taken}
-use Rattle.isolation.specs.Reads.{ReadsAt, SameRead, TouchesAt}
+use Rattle.histories.proofs.Taking.{asked, step_taken}
+use Rattle.isolation.specs.Reads.{SameRead, TouchesAt}
 use Rattle.isolation.specs.Runs.{Apart, IsAdvance, ReadsSame, Refusal, Undisturbed, Unrefused, remains}
 use Rattle.isolation.specs.Runs as runs
 use Rattle.isolation.proofs.Beside.{Beside, stores_alike}

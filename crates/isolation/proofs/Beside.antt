@@ -1,32 +1,25 @@
 -- Two moments of one coupler in which unit u stands alike: its record, reel and table are the same, and the second has no more in its journal. What a call that remains
 -- answers is then the same at both, and leaves them so.
-use mathlib.Core.Path.{◌≡◌, refl, sym, ap, subst, ◌∙◌}
-use mathlib.Core.Bool.{Bool, true, false}
-use mathlib.Core.List.{List, [], ◌∷◌}
-use mathlib.Core.Logic.{◌⊎◌, inl, inr}
-use Prim.Native.Nat.{ℕ, ◌+◌, ◌≤◌, ◌<◌}
+use mathlib.Core.Path.{◌≡◌, refl, sym, ap, ◌∙◌}
+use mathlib.Core.Bool.{true, false}
+use mathlib.Core.List.{List}
+use mathlib.Core.Logic.{inl, inr}
+use Prim.Native.Nat.{ℕ, ◌≤◌}
 use native.Mathlib.Omega.{arith}
-use borrow.Author.Tests.{eqb-true, eqb-false}
-use lib.Dec.{eqb}
 use lib.ListN.{length}
-use Rattle.lists.specs.Pick.{pick}
 use Rattle.lists.proofs.Cases.{by_test, past}
-use Rattle.commands.specs.declared.plans.Answer.{Answer}
-use Rattle.commands.specs.declared.plans.Answer.TheVariants as answer
 use Rattle.unit.specs.Asks.{Ask, advance, host_store}
-use Rattle.unit.specs.Cores.{Admitted, Core}
+use Rattle.unit.specs.Cores.{Admitted}
 use Rattle.unit.specs.Steps.{Step, step_of}
 use Rattle.unit.specs.declared.registers.Register.{Register}
-use Rattle.entries.specs.Entries.{entry_length}
 use Rattle.worlds.specs.Calls.{register_on, step_on, taken_by}
-use Rattle.worlds.specs.Coupled.{Coupled, Deck, Rig, core_of, core_of_none, coupler_in, deck_at, host_at, host_on, is_absent, lifted, lifted_none, register_at, step_at, view_of, view_of_none, with_core, with_memory}
+use Rattle.worlds.specs.Coupled.{Coupled, Deck, Rig, core_of, core_of_none, deck_at, host_at, host_on, is_absent, lifted, lifted_none, register_at, step_at, view_of, view_of_none}
 use Rattle.worlds.specs.Refusals.{checked, session_wrong}
-use Rattle.worlds.specs.Rows.{absent_in, coupler_checked, unit_over}
+use Rattle.worlds.specs.Rows.{absent_in}
 use Rattle.worlds.specs.Worlds.{World, session_of}
 use Rattle.worlds.proofs.Passing.{core_accepted, passed}
-use Rattle.sessions.specs.Session.{Kind, does, looked, refused, stepped}
 use Rattle.sessions.proofs.Taken.{let_through}
-use Rattle.histories.specs.Calling.{Call, Here, Noted, OfUnit, call_kind, calls, coupled_from, entry_at, kind_now, length_of, noted_at, on_call, read_register, step, step_to, store}
+use Rattle.histories.specs.Calling.{Here, coupled_from, length_of}
 use Rattle.histories.specs.Good.{Among, Good, GoodDeck}
 use Rattle.histories.proofs.Taking.{passing}
 use Rattle.isolation.specs.Alike.{SameButMemory, StepsAlike}

@@ -1,19 +1,15 @@
 -- Units don't disturb each other: of a run, and of the same run without the other units' calls, what is seen of unit u is the same, and so is what it ends with. (02, [9])
 use mathlib.Core.Path.{◌≡◌, refl, sym, ap, subst, ◌∙◌}
-use mathlib.Core.Bool.{Bool, true, false}
+use mathlib.Core.Bool.{true, false}
 use mathlib.Core.List.{List, [], ◌∷◌}
 use Prim.Native.Nat.{ℕ}
 use native.Mathlib.Omega.{arith}
 use borrow.Author.Tests.{eqb-true}
-use lib.Dec.{eqb}
-use lib.ListN.{get_or}
-use Rattle.lists.specs.Pick.{pick}
 use Rattle.lists.proofs.Cases.{by_test}
 use Rattle.commands.specs.Answers.{is_step}
 use Rattle.commands.specs.declared.plans.Answer.{Answer}
 use Rattle.commands.specs.declared.plans.Answer.TheVariants as answer
 use Rattle.unit.specs.Asks.{Ask, advance}
-use Rattle.unit.specs.Stores.{bytes_of, no_bytes}
 use Rattle.worlds.specs.Coupled.{core_of, deck_at}
 use Rattle.sessions.specs.Calling.{step_kind}
 use Rattle.sessions.specs.Session.{does, stepped}

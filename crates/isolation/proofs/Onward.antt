@@ -1,37 +1,29 @@
 -- From moments that stand beside each other every call leads to moments that do: one that remains at both, one of another unit at the first alone.
 use mathlib.Core.Path.{◌≡◌, refl, sym, ap, subst, ◌∙◌}
-use mathlib.Core.Bool.{Bool, true, false}
-use mathlib.Core.List.{List, [], ◌∷◌}
-use Prim.Native.Nat.{ℕ, ◌+◌, ◌≤◌, ◌<◌}
+use mathlib.Core.Bool.{true, false}
+use mathlib.Core.List.{List}
+use Prim.Native.Nat.{ℕ, ◌+◌, ◌<◌}
 use native.Mathlib.Omega.{arith}
 use borrow.Author.Tests.{eqb-true, eqb-false}
-use lib.Dec.{eqb}
-use lib.ListN.{get_or, length, set}
+use lib.ListN.{length}
 use lib.Seq.{get_or-set_same}
-use Rattle.lists.specs.Pick.{pick}
-use Rattle.lists.proofs.Cases.{by_test}
-use Rattle.commands.specs.Answers.{is_step}
-use Rattle.commands.specs.declared.plans.Answer.{Answer}
-use Rattle.commands.specs.declared.plans.Answer.TheVariants as answer
 use Rattle.unit.specs.Asks.{Ask, advance, host_store}
 use Rattle.unit.specs.Cores.{Core}
 use Rattle.unit.specs.Steps.{Step, step_of}
 use Rattle.unit.specs.declared.registers.Register.{Register}
-use Rattle.touched.specs.declared.Touched.{Touched}
 use Rattle.entries.specs.Entries.{entry_length}
 use Rattle.worlds.specs.Calls.{entry_for}
-use Rattle.worlds.specs.Coupled.{Deck, Rig, core_of, core_of_none, deck_at, deck_of, is_absent, no_deck, step_at, with_core, with_memory}
+use Rattle.worlds.specs.Coupled.{Rig, core_of, core_of_none, deck_at, deck_of, no_deck, step_at, with_core}
 use Rattle.worlds.proofs.Coupling.{decks_long, other_deck}
-use Rattle.sessions.specs.Calling.{read_kind, step_kind}
-use Rattle.sessions.specs.Session.{Kind, after, does, looked, refused, stepped}
+use Rattle.sessions.specs.Session.{Kind, does, looked, refused, stepped}
 use Rattle.sessions.proofs.Taken.{read_none}
 use Rattle.histories.specs.Calling.{Call, Here, OfUnit, call_kind, calls, core_for, coupled_from, doing, entry_at, kind_now, length_of, name_of, next_rig, noted_at, on_call, read_register, step, step_to, store}
-use Rattle.histories.specs.Good.{Among, Good, bytes_at}
+use Rattle.histories.specs.Good.{Among}
 use Rattle.histories.proofs.Keeping.{keeps_good, taken_memory}
 use Rattle.histories.proofs.Taking.{Taken, present_is, step_taken}
 use Rattle.isolation.specs.Alike.{SameButMemory, StepsAlike}
 use Rattle.isolation.specs.Reads.{SameRead}
-use Rattle.isolation.specs.Runs.{IsAdvance, Refusal, is_of, remains, sight_of}
+use Rattle.isolation.specs.Runs.{IsAdvance, Refusal, remains}
 use Rattle.isolation.proofs.Beside.{Beside, BesideRig, read_answer, step_answer, store_answer, stores_alike, unit_alike}
 
 -- a unit's deck after its own step is the step's

@@ -1,19 +1,16 @@
 -- A run and the same run without the other units' calls, side by side: at each moment unit u stands alike in both.
-use mathlib.Core.Path.{◌≡◌, refl, sym, ap, subst, ◌∙◌}
-use mathlib.Core.Bool.{Bool, true, false, ◌||◌}
-use mathlib.Core.List.{List, [], ◌∷◌}
-use mathlib.Core.Logic.{◌⊎◌, inl, inr}
-use Prim.Native.Nat.{ℕ, ◌+◌, ◌-◌, ◌≤◌}
+use mathlib.Core.Path.{◌≡◌, refl, sym, ap, ◌∙◌}
+use mathlib.Core.Bool.{false}
+use mathlib.Core.List.{List}
+use Prim.Native.Nat.{ℕ, ◌-◌, ◌≤◌}
 use native.Mathlib.Omega.{arith}
-use borrow.Author.Tests.{eqb-true, eqb-false, eq-eqb, le-ltb, ltb-false}
-use lib.Dec.{eqb, ltb}
+use borrow.Author.Tests.{le-ltb, ltb-false}
 use lib.ListN.{length}
-use Rattle.lists.specs.Pick.{pick}
-use Rattle.lists.proofs.Cases.{by_test, past}
+use Rattle.lists.proofs.Cases.{by_test}
 use Rattle.commands.specs.declared.plans.Answer.{Answer}
 use Rattle.commands.specs.declared.plans.Answer.TheVariants as answer
-use Rattle.unit.specs.Asks.{Ask, advance, host_store}
-use Rattle.unit.specs.Cores.{Admitted, Core}
+use Rattle.unit.specs.Asks.{Ask}
+use Rattle.unit.specs.Cores.{Core}
 use Rattle.unit.specs.Steps.{Step, step_of, too_small}
 use Rattle.entries.specs.Entries.{entry_length}
 use Rattle.worlds.specs.Calls.{entry_for, absent_place, taken_as, taken_by, too_full}

@@ -5,7 +5,7 @@ use mathlib.Core.Path.{◌≡◌, refl, sym, ◌∙◌}
 use Prim.Native.Nat.{ℕ, ◌+◌, ◌<◌}
 use native.Mathlib.Omega.{arith}
 use lib.Dec.{ltb}
-use lib.ListN.{get_or, length}
+use lib.ListN.{get_or}
 use lib.Seq.{ext_get_or}
 use Rattle.lists.specs.Pick.{Always}
 use Rattle.lists.specs.Places.{gathered, place}
