@@ -1,5 +1,5 @@
 -- Demand 2 for a host: what an exported advance comes to, and which block it or a mount names.
-use mathlib.Core.Bool.{Bool, true, false, true≢false}
+use mathlib.Core.Bool.{Bool, false}
 use mathlib.Core.List.{List}
 use mathlib.Core.Path.{◌≡◌, refl, sym, ap, subst, ◌∙◌}
 use Prim.Native.Nat.{ℕ, ◌/◌, ◌<◌, ◌≤◌}
@@ -17,7 +17,7 @@ use Rattle.demands.specs.Faults.{FirstFault}
 use Rattle.unit.specs.Asks.{advance}
 use Rattle.worlds.specs.Worlds.{Answered, World, session_of}
 use Rattle.worlds.specs.Calls.{mount_on, step_on}
-use Rattle.sessions.specs.Advancing.{Comes, FaultAhead, a_step, at_fault, checked_with, idle, no_place, no_room, refused}
+use Rattle.sessions.specs.Advancing.{Comes, FaultAhead, a_step, at_fault, idle, no_place, no_room, refused}
 use Rattle.sessions.specs.Calling.{Call, on_call, step}
 use Rattle.sessions.specs.Rules.{Obeys}
 use Rattle.sessions.proofs.Advances.{advance_comes, checked_few, mount_names}
