@@ -136,6 +136,7 @@ fn read_motion(r: Buffer, reverse: bool, n: usize, q: usize, t: Tape, rev: bool)
     })
 }
 
+#[inline(always)]
 pub fn read_one(reel: &[u8], t: Tape, r: Buffer, reverse: bool) -> Motion
     ensures { result ≡ read_one reel.now t r reverse }
 {
@@ -215,6 +216,7 @@ fn read_then_space(reel: &[u8], t: Tape, r: Buffer, reverse: bool) -> Motion
     }
 }
 
+#[inline(always)]
 pub fn reread_one(reel: &[u8], t: Tape, r: Buffer, reverse: bool, opp: bool) -> Motion
     ensures { result ≡ reread reel.now t r reverse opp }
 {
