@@ -1,6 +1,6 @@
 // The state as a block of 128 bytes: what a host keeps between the calls.
 #![tactic(auto)]
 
-mod block;
+mod encoding;
 
-pub use block::{STATE, block_right, close, session_in};
+pub use encoding::{STATE, block_right, close, session_in};

@@ -1,6 +1,6 @@
 -- `block_right` meets its contract: the block's numbers, tested.
 use Rattle.stateblock.specs.Block.{is_block}
-use Rattle.stateblock.proofs.block.block_right.Goals as goal
+use Rattle.stateblock.proofs.encoding.block_right.Goals as goal
 
 pub returns : goal.returns
 unfolding is_block

@@ -5,7 +5,7 @@ use Rattle.stateblock.specs.Block.{state_length}
 use Rattle.stateblock.specs.Block.{block_after}
 use Rattle.stateblock.proofs.Written.{written}
 use borrow.Author.Rules.{rules}
-use Rattle.stateblock.proofs.block.close.Goals as goal
+use Rattle.stateblock.proofs.encoding.close.Goals as goal
 
 pub returns-in-Done : goal.returns-in-Done
 unfolding block_after
