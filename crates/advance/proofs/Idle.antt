@@ -1,13 +1,13 @@
 -- An advance is idle, or it runs its course: one test tells which.
-use mathlib.Core.Path.{_≡_, refl, sym}
-use mathlib.Core.Bool.{Bool, true, false, _&&_, not, true≢false}
+use mathlib.Core.Path.{◌≡◌, refl, sym}
+use mathlib.Core.Bool.{Bool, true, false, ◌&&◌, not, true≢false}
 use mathlib.Core.List.{List}
 use Prim.Native.Nat.{ℕ}
-use Rattle·lists.specs.Pick.{pick}
-use Rattle·state.specs.declared.Unit.{Unit}
-use Rattle·commands.specs.Ends.{still}
-use Rattle·commands.specs.declared.plans.Answer.the-variants as answer
-use Rattle·advance·specs.specs.Steps.{advanced, advancedUnder, attended, stepHeader}
+use Rattle.lists.specs.Pick.{pick}
+use Rattle.state.specs.declared.Unit.{Unit}
+use Rattle.commands.specs.Ends.{still}
+use Rattle.commands.specs.declared.plans.Answer.TheVariants as answer
+use Rattle.advance.specs.Steps.{advanced, advancedUnder, attended, stepHeader}
 
 rests-pick : {A : Type 0} (b c : Bool) (x y z : A) → (b && not c) ≡ true → z ≡ pick b (pick c x z) y
 rests-pick true true x y z h = absurd (true≢false (sym h))
@@ -21,13 +21,13 @@ runs-pick false c x y z h = refl
 
 -- no command waits, and there is no attention that the unit may send
 abbrev isIdle : Unit → Bool
-isIdle u = u .registers .ssr && not (u .attention .pending && u .attention .«unit_owns»)
+isIdle u = u.registers.ssr && not (u.attention.pending && u.attention.unit_owns)
 
 module _ (u : Unit) (m s : List ℕ) where
   pub idles : isIdle u ≡ true → still u answer.Idle ≡ advanced u m s
   unfolding advancedUnder
-  idles h = rests-pick (u .registers .ssr) (u .attention .pending && u .attention .«unit_owns») _ _ _ h
+  idles h = rests-pick u.registers.ssr (u.attention.pending && u.attention.unit_owns) _ _ _ h
 
-  pub runs : isIdle u ≡ false → pick (u .registers .ssr) (attended u (u .attention .«release_ie»)) (stepHeader u m s) ≡ advanced u m s
+  pub runs : isIdle u ≡ false → pick u.registers.ssr (attended u u.attention.release_ie) (stepHeader u m s) ≡ advanced u m s
   unfolding advancedUnder
-  runs h = runs-pick (u .registers .ssr) (u .attention .pending && u .attention .«unit_owns») _ _ _ h
+  runs h = runs-pick u.registers.ssr (u.attention.pending && u.attention.unit_owns) _ _ _ h

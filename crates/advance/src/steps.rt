@@ -1,38 +1,22 @@
 // Advance, in order: a function for each step of the paper, each going on to the next.
-use commands::Answer;
-use commands::Course;
-use commands::How;
-use commands::Plan;
-use commands::carry_out;
-use commands::plan_of;
-use commands::still_plan;
-use commands::told_course;
+ghost use Rattle.std.specs.Prelude.{◌≡◌, ◌+◌, ◌<◌, ◌≤◌, ltb};
+ghost use Rattle.tape.specs.Numbers.{capacityLimit};
+ghost use Rattle.signals.specs.Numbers.{packetBytes, pointerLimit};
+ghost use Rattle.lists.specs.Pick.{pick};
+ghost use Rattle.commands.specs.Ends.{plan_of};
+ghost use Rattle.advance.specs.Rules.{hasExtent, isIllegal, isTape, lengthWrong, notExecutable, reverseFirst, wholeCount, writes};
+ghost use Rattle.advance.specs.Steps.{advanced, attended, rejected, stepAttention, stepExecutable, stepExtent, stepFetch, stepHeader, stepIllegal, stepNoBuffer, stepOwner, stepPointer, stepVolume};
+
+use commands::{Answer, Course, How, Plan, carry_out, plan_of, still_plan, told_course};
 use lists::word;
-use motions::Motion;
-use motions::rest;
-use signals::ByteCount;
-use signals::Command;
-use signals::End;
-use signals::Header;
-use signals::MarkCount;
-use signals::Packet;
-use signals::RecordCount;
-use signals::Residual;
+use motions::{Motion, rest};
+use signals::{ByteCount, Command, End, Header, MarkCount, Packet, RecordCount, Residual};
 use state::Unit;
 use tape::Geometry;
-ghost use mathlib.Core.Path.{_≡_};
-ghost use Prim.Native.Nat.{_+_, _<_, _≤_};
-ghost use lib.Dec.{ltb};
-ghost use Rattle·tape.specs.Numbers.{capacityLimit};
-ghost use Rattle·signals.specs.Numbers.{packetBytes, pointerLimit};
-ghost use Rattle·lists.specs.Pick.{pick};
-ghost use Rattle·commands.specs.Ends.{planOf};
-ghost use Rattle·advance·specs.specs.Rules.{hasExtent, isIllegal, isTape, lengthWrong, notExecutable, reverseFirst, wholeCount, writes};
-ghost use Rattle·advance·specs.specs.Steps.{advanced, attended, rejected, stepAttention, stepExecutable, stepExtent, stepFetch, stepHeader, stepIllegal, stepNoBuffer, stepOwner, stepPointer, stepVolume};
 
 // What a rejected command says: class 3, or 5 with NXM.
 fn reject(u: Unit, ie: bool, class: usize, found: u16, residual: Residual) -> Course
-    ensures { λ r. ⌜ planOf r ≡ rejected u ie class found residual ⌝ }
+    ensures { plan_of result ≡ rejected u ie class found residual }
 {
     let end = End {
         class,
@@ -46,7 +30,7 @@ fn reject(u: Unit, ie: bool, class: usize, found: u16, residual: Residual) -> Co
 
 // The whole count: bytes for Read, records or marks for Position modes 0 to 3, else 0.
 fn whole_count(h: Header, count: u16) -> Residual
-    ensures { λ r. ⌜ r ≡ wholeCount h count ⌝ }
+    ensures { result ≡ wholeCount h count }
 {
     if h.code == 1 {
         return Residual::Bytes(ByteCount(count));
@@ -62,20 +46,20 @@ fn whole_count(h: Header, count: u16) -> Residual
 
 // Read, Write, Position, Format, rewind and unload.
 fn is_tape(h: Header) -> bool
-    ensures { λ r. ⌜ r ≡ isTape h ⌝ }
+    ensures { result ≡ isTape h }
 {
     (h.code == 1) | (h.code == 5) | (h.code == 8) | (h.code == 9) | ((h.code == 10) & (h.mode == 1))
 }
 
 fn writes_tape(h: Header) -> bool
-    ensures { λ r. ⌜ r ≡ writes h ⌝ }
+    ensures { result ≡ writes h }
 {
     (h.code == 5) | (h.code == 9)
 }
 
 // The first stage goes in reverse.
 fn reverse_first(h: Header) -> bool
-    ensures { λ r. ⌜ r ≡ reverseFirst h ⌝ }
+    ensures { result ≡ reverseFirst h }
 {
     ((h.code == 1) & ((h.mode == 1) | (h.mode == 2)))
         | ((h.code == 5) & (h.mode == 2))
@@ -84,19 +68,19 @@ fn reverse_first(h: Header) -> bool
 }
 
 fn length_wrong(h: Header, count: u16) -> bool
-    ensures { λ r. ⌜ r ≡ lengthWrong h count ⌝ }
+    ensures { result ≡ lengthWrong h count }
 {
     (h.code == 5) & ((count == 0) | (Geometry::RECORD_LIMIT < count as usize))
 }
 
 fn has_extent(h: Header) -> bool
-    ensures { λ r. ⌜ r ≡ hasExtent h ⌝ }
+    ensures { result ≡ hasExtent h }
 {
     signals::has_pointer(h.code)
 }
 
 fn is_illegal(c: Command) -> bool
-    ensures { λ r. ⌜ r ≡ isIllegal c ⌝ }
+    ensures { result ≡ isIllegal c }
 {
     match c {
         Command::ReadNext => false,
@@ -125,8 +109,8 @@ fn is_illegal(c: Command) -> bool
 
 // 10. Data extent past the end of memory: NXM, class 5.
 fn step_extent(u: Unit, mem: &[u8], reel: &[u8], h: Header, p: Packet) -> Course
-    requires { ⌜ (u .tape .end ≤ capacityLimit) × (p .pointer < pointerLimit) ⌝ }
-    ensures { λ r. ⌜ planOf r ≡ stepExtent u (now (mem .entry)) (now (reel .entry)) h p ⌝ }
+    requires { (u.tape.end ≤ capacityLimit) × (p.pointer < pointerLimit) }
+    ensures { plan_of result ≡ stepExtent u mem.now reel.now h p }
 {
     if has_extent(h) & (mem.len() < p.pointer + p.count as usize) {
         return reject(u, h.ie, 5, 0, whole_count(h, p.count));
@@ -136,15 +120,15 @@ fn step_extent(u: Unit, mem: &[u8], reel: &[u8], h: Header, p: Packet) -> Course
 
 // What keeps a command of step 9 from running, but for the write lock.
 fn not_executable(u: Unit, h: Header, p: Packet) -> bool
-    ensures { λ r. ⌜ r ≡ notExecutable u h p ⌝ }
+    ensures { result ≡ notExecutable u h p }
 {
     (reverse_first(h) & (u.tape.position == 0)) | length_wrong(h, p.count)
 }
 
 // 9. Off line or VCK: NEF. Write lock: NEF and WLE. Reverse at block 0, a written length out of range: NEF.
 fn step_executable(u: Unit, mem: &[u8], reel: &[u8], h: Header, p: Packet) -> Course
-    requires { ⌜ (u .tape .end ≤ capacityLimit) × (p .pointer < pointerLimit) ⌝ }
-    ensures { λ r. ⌜ planOf r ≡ stepExecutable u (now (mem .entry)) (now (reel .entry)) h p ⌝ }
+    requires { (u.tape.end ≤ capacityLimit) × (p.pointer < pointerLimit) }
+    ensures { plan_of result ≡ stepExecutable u mem.now reel.now h p }
 {
     if is_tape(h) & ((!u.panel.online) | u.panel.vck) {
         return reject(u, h.ie, 3, signals::NEF, whole_count(h, p.count));
@@ -166,8 +150,8 @@ fn step_executable(u: Unit, mem: &[u8], reel: &[u8], h: Header, p: Packet) -> Co
 
 // 8. Pointer bits above A17, or odd pointer in Write Characteristics: ILA, class 3.
 fn step_pointer(u: Unit, mem: &[u8], reel: &[u8], h: Header, p: Packet) -> Course
-    requires { ⌜ (u .tape .end ≤ capacityLimit) × (p .pointer < pointerLimit) ⌝ }
-    ensures { λ r. ⌜ planOf r ≡ stepPointer u (now (mem .entry)) (now (reel .entry)) h p ⌝ }
+    requires { (u.tape.end ≤ capacityLimit) × (p.pointer < pointerLimit) }
+    ensures { plan_of result ≡ stepPointer u mem.now reel.now h p }
 {
     if p.high | ((h.code == 4) & (p.pointer % 2 == 1)) {
         return reject(u, h.ie, 3, signals::ILA, whole_count(h, p.count));
@@ -177,16 +161,16 @@ fn step_pointer(u: Unit, mem: &[u8], reel: &[u8], h: Header, p: Packet) -> Cours
 
 // Does the packet end past memory? All four words are fetched, whichever the command uses.
 fn overhangs(room: usize, at: usize) -> bool
-    requires { ⌜ at < pointerLimit ⌝ }
-    ensures { λ r. ⌜ r ≡ ltb room (at + packetBytes) ⌝ }
+    requires { at < pointerLimit }
+    ensures { result ≡ ltb room (at + packetBytes) }
 {
     room < at + signals::PACKET_BYTES
 }
 
 // 7. One of the packet's eight bytes outside memory: NXM, class 5.
 fn step_fetch(u: Unit, mem: &[u8], reel: &[u8], h: Header) -> Course
-    requires { ⌜ (u .tape .end ≤ capacityLimit) × (u .registers .pointer < pointerLimit) ⌝ }
-    ensures { λ r. ⌜ planOf r ≡ stepFetch u (now (mem .entry)) (now (reel .entry)) h ⌝ }
+    requires { (u.tape.end ≤ capacityLimit) × (u.registers.pointer < pointerLimit) }
+    ensures { plan_of result ≡ stepFetch u mem.now reel.now h }
 {
     let at = u.registers.pointer;
     if overhangs(mem.len(), at) {
@@ -197,8 +181,8 @@ fn step_fetch(u: Unit, mem: &[u8], reel: &[u8], h: Header) -> Course
 
 // 6. NBA set and not Write Characteristics: class 3.
 fn step_no_buffer(u: Unit, mem: &[u8], reel: &[u8], h: Header) -> Course
-    requires { ⌜ (u .tape .end ≤ capacityLimit) × (u .registers .pointer < pointerLimit) ⌝ }
-    ensures { λ r. ⌜ planOf r ≡ stepNoBuffer u (now (mem .entry)) (now (reel .entry)) h ⌝ }
+    requires { (u.tape.end ≤ capacityLimit) × (u.registers.pointer < pointerLimit) }
+    ensures { plan_of result ≡ stepNoBuffer u mem.now reel.now h }
 {
     if u.registers.nba & (h.code != 4) {
         return reject(u, h.ie, 3, 0, Residual::Nothing);
@@ -208,8 +192,8 @@ fn step_no_buffer(u: Unit, mem: &[u8], reel: &[u8], h: Header) -> Course
 
 // 5. Bits 7:5 neither 000 nor 100, or unknown code or mode: ILC, class 3.
 fn step_illegal(u: Unit, mem: &[u8], reel: &[u8], h: Header) -> Course
-    requires { ⌜ (u .tape .end ≤ capacityLimit) × (u .registers .pointer < pointerLimit) ⌝ }
-    ensures { λ r. ⌜ planOf r ≡ stepIllegal u (now (mem .entry)) (now (reel .entry)) h ⌝ }
+    requires { (u.tape.end ≤ capacityLimit) × (u.registers.pointer < pointerLimit) }
+    ensures { plan_of result ≡ stepIllegal u mem.now reel.now h }
 {
     if (!h.plain) | is_illegal(signals::decode(h.code, h.mode)) {
         return reject(u, h.ie, 3, signals::ILC, Residual::Nothing);
@@ -219,8 +203,8 @@ fn step_illegal(u: Unit, mem: &[u8], reel: &[u8], h: Header) -> Course
 
 // 4. CVC clears VCK.
 fn step_volume(u: Unit, mem: &[u8], reel: &[u8], h: Header) -> Course
-    requires { ⌜ (u .tape .end ≤ capacityLimit) × (u .registers .pointer < pointerLimit) ⌝ }
-    ensures { λ r. ⌜ planOf r ≡ stepVolume u (now (mem .entry)) (now (reel .entry)) h ⌝ }
+    requires { (u.tape.end ≤ capacityLimit) × (u.registers.pointer < pointerLimit) }
+    ensures { plan_of result ≡ stepVolume u mem.now reel.now h }
 {
     let mut v = u;
     let vck = u.panel.vck & !h.cvc;
@@ -230,7 +214,7 @@ fn step_volume(u: Unit, mem: &[u8], reel: &[u8], h: Header) -> Course
 
 // An attention goes out: class 1, and none is pending then.
 fn attend(u: Unit, ie: bool) -> Course
-    ensures { λ r. ⌜ planOf r ≡ attended u ie ⌝ }
+    ensures { plan_of result ≡ attended u ie }
 {
     let mut v = u;
     v.attention.pending = false;
@@ -239,8 +223,8 @@ fn attend(u: Unit, ie: bool) -> Course
 
 // 3. Attention pending and the unit owns the buffer: the command is lost.
 fn step_attention(u: Unit, mem: &[u8], reel: &[u8], h: Header) -> Course
-    requires { ⌜ (u .tape .end ≤ capacityLimit) × (u .registers .pointer < pointerLimit) ⌝ }
-    ensures { λ r. ⌜ planOf r ≡ stepAttention u (now (mem .entry)) (now (reel .entry)) h ⌝ }
+    requires { (u.tape.end ≤ capacityLimit) × (u.registers.pointer < pointerLimit) }
+    ensures { plan_of result ≡ stepAttention u mem.now reel.now h }
 {
     if u.attention.pending {
         return attend(u, h.ie);
@@ -250,8 +234,8 @@ fn step_attention(u: Unit, mem: &[u8], reel: &[u8], h: Header) -> Course
 
 // 2. ACK gives the message buffer to the unit. No ACK while the CPU owns it: class 0, no message, the command isn't run.
 fn step_owner(u: Unit, mem: &[u8], reel: &[u8], h: Header) -> Course
-    requires { ⌜ (u .tape .end ≤ capacityLimit) × (u .registers .pointer < pointerLimit) ⌝ }
-    ensures { λ r. ⌜ planOf r ≡ stepOwner u (now (mem .entry)) (now (reel .entry)) h ⌝ }
+    requires { (u.tape.end ≤ capacityLimit) × (u.registers.pointer < pointerLimit) }
+    ensures { plan_of result ≡ stepOwner u mem.now reel.now h }
 {
     let owns = u.attention.unit_owns | h.ack;
     let mut v = u;
@@ -268,8 +252,8 @@ fn step_owner(u: Unit, mem: &[u8], reel: &[u8], h: Header) -> Course
 
 // 1. Header word outside memory: NXM, class 5, no message, no interrupt, the message buffer's owner kept.
 fn step_header(u: Unit, mem: &[u8], reel: &[u8]) -> Course
-    requires { ⌜ (u .tape .end ≤ capacityLimit) × (u .registers .pointer < pointerLimit) ⌝ }
-    ensures { λ r. ⌜ planOf r ≡ stepHeader u (now (mem .entry)) (now (reel .entry)) ⌝ }
+    requires { (u.tape.end ≤ capacityLimit) × (u.registers.pointer < pointerLimit) }
+    ensures { plan_of result ≡ stepHeader u mem.now reel.now }
 {
     let at = u.registers.pointer;
     if mem.len() < at + 2 {
@@ -284,8 +268,8 @@ fn step_header(u: Unit, mem: &[u8], reel: &[u8]) -> Course
 
 // The command that waits, or the attention that goes out with the release's IE.
 fn course(u: Unit, mem: &[u8], reel: &[u8]) -> Course
-    requires { ⌜ (u .tape .end ≤ capacityLimit) × (u .registers .pointer < pointerLimit) ⌝ }
-    ensures { λ r. ⌜ planOf r ≡ pick (u .registers .ssr) (attended u (u .attention .«release_ie»)) (stepHeader u (now (mem .entry)) (now (reel .entry))) ⌝ }
+    requires { (u.tape.end ≤ capacityLimit) × (u.registers.pointer < pointerLimit) }
+    ensures { plan_of result ≡ pick u.registers.ssr (attended u u.attention.release_ie) (stepHeader u mem.now reel.now) }
 {
     if u.registers.ssr {
         return attend(u, u.attention.release_ie);
@@ -295,8 +279,8 @@ fn course(u: Unit, mem: &[u8], reel: &[u8]) -> Course
 
 // What an advance is about to do. With no command waiting, and no attention that the unit may send, nothing.
 pub fn plan_advance(u: Unit, mem: &[u8], reel: &[u8]) -> Plan
-    requires { ⌜ (u .tape .end ≤ capacityLimit) × (u .registers .pointer < pointerLimit) ⌝ }
-    ensures { λ r. ⌜ r ≡ advanced u (now (mem .entry)) (now (reel .entry)) ⌝ }
+    requires { (u.tape.end ≤ capacityLimit) × (u.registers.pointer < pointerLimit) }
+    ensures { result ≡ advanced u mem.now reel.now }
 {
     if u.registers.ssr & !(u.attention.pending & u.attention.unit_owns) {
         return still_plan(u, Answer::Idle);

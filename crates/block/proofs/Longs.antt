@@ -1,27 +1,27 @@
 -- Numbers of four bytes for words: the same sum modulo 65,535, and 0 for the same bytes.
-use mathlib.Core.List.{List, [], _∷_, _++_}
-use mathlib.Core.Path.{_≡_, refl, ap, sym, _∙_}
-use Prim.Native.Nat.{ℕ, zero, suc, _+_, _-_, _*_, _/_, _%_, _≤_, _<_}
+use mathlib.Core.List.{List, [], ◌∷◌, ◌++◌}
+use mathlib.Core.Path.{◌≡◌, refl, ap, sym, ◌∙◌}
+use Prim.Native.Nat.{ℕ, zero, suc, ◌+◌, ◌-◌, ◌*◌, ◌/◌, ◌%◌, ◌≤◌, ◌<◌}
 use native.Mathlib.Omega.{arith}
-use borrow.Author.Tests.{eq-eqb, ne-eqb}
+use borrow.Author.Tests.{eq-eqb, ne_eqb}
 use lib.Dec.{eqb}
-use lib.ListN.{length, take, drop, getD}
+use lib.ListN.{length, take, drop, get_or}
 use lib.Seq.{take-add, take-take}
-use Rattle·lists.specs.Words.{wordAt, wordSum}
-use Rattle·lists.proofs.Sums.{sum-split}
-use Rattle·block·specs.specs.Sums.{longAt, longSum}
-use Rattle·tape.specs.Numbers.{checkModulus}
+use Rattle.lists.specs.Words.{word_at, wordSum}
+use Rattle.lists.proofs.Sums.{sum-split}
+use Rattle.block.specs.Sums.{longAt, longSum}
+use Rattle.tape.specs.Numbers.{checkModulus}
 
 -- four times a number by recursion, since `4 * suc j` does not compute
 abbrev four : ℕ → ℕ
 four zero = zero
 four (suc j) = suc (suc (suc (suc (four j))))
 
-four-is : (j : ℕ) → four j ≡ 4 * j
-four-is zero = refl
-four-is (suc j) = omega (arith, four-is j)
+four_is : (j : ℕ) → four j ≡ 4 * j
+four_is zero = refl
+four_is (suc j) = omega (arith, four_is j)
 
-step : (j : ℕ) (l : List ℕ) → four (suc j) ≤ length l → longSum (take (four (suc j)) l) ≡ longSum (take (four j) l) + (getD l (four j) 0 + 256 * getD l (suc (four j)) 0 + 65536 * (getD l (suc (suc (four j))) 0 + 256 * getD l (suc (suc (suc (four j)))) 0))
+step : (j : ℕ) (l : List ℕ) → four (suc j) ≤ length l → longSum (take (four (suc j)) l) ≡ longSum (take (four j) l) + (get_or l (four j) 0 + 256 * get_or l (suc (four j)) 0 + 65536 * (get_or l (suc (suc (four j))) 0 + 256 * get_or l (suc (suc (suc (four j)))) 0))
 unfolding longSum
 step j [] h = absurd (omega arith)
 step j (a ∷ []) h = absurd (omega arith)
@@ -33,12 +33,12 @@ step (suc j) (a ∷ (b ∷ (c ∷ (d ∷ r)))) h = omega (arith, step j r (omega
 -- one number more
 more : (j : ℕ) (l : List ℕ) → 4 * j + 3 < length l → longSum (take (4 * (j + 1)) l) ≡ longSum (take (4 * j) l) + longAt l (4 * j)
 more j l h =
-    let e : 4 * (j + 1) ≡ four (suc j) = omega (arith, four-is j) in
-    let f : 4 * j ≡ four j = omega (arith, four-is j) in
-    let p : 4 * j + 1 ≡ suc (four j) = omega (arith, four-is j) in
-    let q : 4 * j + 2 ≡ suc (suc (four j)) = omega (arith, four-is j) in
-    let r : 4 * j + 2 + 1 ≡ suc (suc (suc (four j))) = omega (arith, four-is j) in
-    rw (e, r, q, p, f) (step j l (omega (arith, four-is j)))
+    let e : 4 * (j + 1) ≡ four (suc j) = omega (arith, four_is j) in
+    let f : 4 * j ≡ four j = omega (arith, four_is j) in
+    let p : 4 * j + 1 ≡ suc (four j) = omega (arith, four_is j) in
+    let q : 4 * j + 2 ≡ suc (suc (four j)) = omega (arith, four_is j) in
+    let r : 4 * j + 2 + 1 ≡ suc (suc (suc (four j))) = omega (arith, four_is j) in
+    rw (e, r, q, p, f) (step j l (omega (arith, four_is j)))
 
 -- two numbers more
 pub two-more : (j : ℕ) (l : List ℕ) → 8 * j + 7 < length l → longSum (take (8 * (j + 1)) l) ≡ longSum (take (8 * j) l) + (longAt l (8 * j) + longAt l (8 * j + 4))
@@ -63,18 +63,18 @@ folds (suc j) (a ∷ (b ∷ [])) h = absurd (omega arith)
 folds (suc j) (a ∷ (b ∷ (c ∷ []))) h = absurd (omega arith)
 folds (suc j) (a ∷ (b ∷ (c ∷ (d ∷ r)))) h =
     let f = folds j r (omega arith) in
-    record { over = c + 256 * d + f .over; is = omega (arith, f .is); least = omega (arith, f .least) }
+    record { over = c + 256 * d + f.over; is = omega (arith, f.is); least = omega (arith, f.least) }
 
 none-by : (s t k : ℕ) → s ≡ t + checkModulus * k → k ≤ t → eqb s 0 ≡ eqb t 0
 none-by s zero k e h = eq-eqb s 0 (omega arith) ∙ sym (eq-eqb 0 0 refl)
-none-by s (suc t) k e h = ne-eqb s 0 (λ (z : s ≡ 0). omega arith) ∙ sym (ne-eqb (suc t) 0 (λ (z : suc t ≡ 0). omega arith))
+none-by s (suc t) k e h = ne_eqb s 0 (λ (z : s ≡ 0). omega arith) ∙ sym (ne_eqb (suc t) 0 (λ (z : suc t ≡ 0). omega arith))
 
 module _ (s t : ℕ) (f : Folds s t) where
-  pub fold-same : s % checkModulus ≡ t % checkModulus
-  fold-same = omega (arith, f .is)
+  pub fold_same : s % checkModulus ≡ t % checkModulus
+  fold_same = omega (arith, f.is)
 
   pub fold-none : eqb s 0 ≡ eqb t 0
-  fold-none = none-by s t (f .over) (f .is) (f .least)
+  fold-none = none-by s t f.over f.is f.least
 
 -- the first n words: runs of eight bytes as numbers, and the words left over
 module _ (b : List ℕ) (n : ℕ) (long : 2 * n ≤ length b) where
@@ -90,10 +90,10 @@ module _ (b : List ℕ) (n : ℕ) (long : 2 * n ≤ length b) where
 
   pub summed : (x y : ℕ) → x ≡ longSum (take cut b) → y ≡ wordSum (take (2 * (n % 4)) (drop cut b)) → Folds (x + y) (wordSum (take (2 * n) b))
   summed x y p q =
-      let e : four (2 * (n / 4)) ≡ cut = four-is (2 * (n / 4)) ∙ omega arith in
+      let e : four (2 * (n / 4)) ≡ cut = four_is (2 * (n / 4)) ∙ omega arith in
       let f = folds (2 * (n / 4)) b (omega (arith, e)) in
       let g : Folds (longSum (take cut b)) (wordSum (take cut b)) = rw (← e) f in
-      record { over = g .over; is = omega (arith, parts, p, q, g .is); least = omega (arith, parts, g .least) }
+      record { over = g.over; is = omega (arith, parts, p, q, g.is); least = omega (arith, parts, g.least) }
 
   -- the words left over, as they stand in the part that is lent
   pub summed-lent : (x y : ℕ) → x ≡ longSum (take cut b) → y ≡ wordSum (take (2 * (n % 4)) (take (length b - cut) (drop cut b))) → Folds (x + y) (wordSum (take (2 * n) b))

@@ -1,12 +1,10 @@
 -- A block's two halves, as the code looks at them: the three words first, then the data bytes with the check word.
-use mathlib.Core.Bool.{Bool, _&&_}
-use mathlib.Core.List.{List}
-use Prim.Native.Nat.{ℕ}
-use Rattle·lists.specs.Pick.{pick}
-use Rattle·lists.specs.Words.{wordAt}
-use Rattle·tape.specs.Reading.{checkRight, indexRight, kindRight, lengthRight, paddingRight, usedOf}
-use Rattle·tape.specs.declared.BlockFault.{BlockFault}
-use Rattle·tape.specs.declared.BlockFault.the-variants as fault
+use Rattle.std.specs.Prelude.{Bool, ◌&&◌, List, ℕ}
+use Rattle.lists.specs.Pick.{pick}
+use Rattle.lists.specs.Words.{word_at}
+use Rattle.tape.specs.Reading.{checkRight, indexRight, kindRight, lengthRight, paddingRight, usedOf}
+use Rattle.tape.specs.declared.BlockFault.{BlockFault}
+use Rattle.tape.specs.declared.BlockFault.TheVariants as fault
 
 unfoldable pub headRight : ℕ → ℕ → ℕ → Bool
 headRight k n i = kindRight k && (lengthRight k n && indexRight k n i)
@@ -22,4 +20,4 @@ wrongBy b k n i =
     fault.Kind
 
 unfoldable pub wrongIn : List ℕ → BlockFault
-wrongIn b = wrongBy b (wordAt b 0) (wordAt b 2) (wordAt b 4)
+wrongIn b = wrongBy b (word_at b 0) (word_at b 2) (word_at b 4)

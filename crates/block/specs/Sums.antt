@@ -1,11 +1,10 @@
 -- 65,536 is 1 modulo 65,535: two words may be added as one number of four bytes.
-use mathlib.Core.List.{List, [], _∷_}
-use Prim.Native.Nat.{ℕ, _+_, _*_}
-use Rattle·lists.specs.Words.{wordAt}
+use Rattle.std.specs.Prelude.{List, [], ◌∷◌, ℕ, ◌+◌, ◌*◌}
+use Rattle.lists.specs.Words.{word_at}
 
 -- the number in the four bytes at i
 abbrev pub longAt : List ℕ → ℕ → ℕ
-longAt b i = wordAt b i + 65536 * wordAt b (i + 2)
+longAt b i = word_at b i + 65536 * word_at b (i + 2)
 
 -- the sum of the numbers of four bytes of a list; what is left over does not count
 unfoldable pub longSum : List ℕ → ℕ

@@ -1,16 +1,13 @@
 // Laying one block: its data bytes go from memory straight into their place.
+ghost use Rattle.std.specs.Prelude.{◌≡◌, ◌+◌, ◌%◌, ◌<◌, ◌≤◌, length};
+ghost use Rattle.lists.specs.Places.{gathered};
+ghost use Rattle.lists.specs.Words.{wordLimit};
+ghost use Rattle.tape.specs.Numbers.{blockBytes, dataBytes};
+ghost use Rattle.tape.specs.Layout.{block_of};
+
 use crate::sum::check_sum;
-use lists::gather;
-use lists::put_word;
-use lists::zero_fill;
+use lists::{gather, put_word, zero_fill};
 use tape::Geometry;
-ghost use mathlib.Core.Path.{_≡_};
-ghost use Prim.Native.Nat.{_+_, _%_, _<_, _≤_};
-ghost use lib.ListN.{length};
-ghost use Rattle·lists.specs.Places.{gathered};
-ghost use Rattle·lists.specs.Words.{wordLimit};
-ghost use Rattle·tape.specs.Numbers.{blockBytes, dataBytes};
-ghost use Rattle·tape.specs.Layout.{blockOf};
 
 // The block of kind k, with n and i, whose data are the `used` bytes at the places from address a on.
 pub fn lay_block(
@@ -23,8 +20,8 @@ pub fn lay_block(
     used: usize,
     swb: bool,
 )
-    requires { ⌜ (length (now b) ≡ blockBytes) × (k < wordLimit) × (n < wordLimit) × (i < wordLimit) × (used ≤ dataBytes) × (a + used ≤ length (now mem)) × (length (now mem) % 2 ≡ 0) ⌝ }
-    ensures { λ _. ⌜ now (b .exit) ≡ blockOf k n i (gathered swb (now (mem .entry)) a used) ⌝ }
+    requires { (length b.old ≡ blockBytes) × (k < wordLimit) × (n < wordLimit) × (i < wordLimit) × (used ≤ dataBytes) × (a + used ≤ length mem.now) × (length mem.now % 2 ≡ 0) }
+    ensures { b.new ≡ block_of k n i (gathered swb mem.now a used) }
 {
     put_word(b, 0, k);
     put_word(b, 2, n);

@@ -1,26 +1,21 @@
 // The block reader. Kind, length, index, padding and check are looked at in this order.
+ghost use Rattle.std.specs.Prelude.{true, ◌≡◌, ◌≤◌, length};
+ghost use Rattle.tape.specs.Numbers.{blockBytes, dataBytes};
+ghost use Rattle.tape.specs.Reading.{class_at, class_of, indexRight, kind_of, kindRight, lengthRight, paddingRight, usedOf};
+ghost use Rattle.block.specs.Halves.{bodyRight, wrongIn, headRight};
+
 use crate::sum::check_sum;
-use lists::wide;
-use lists::word;
-use tape::Block;
-use tape::BlockFault;
-use tape::Geometry;
-ghost use mathlib.Core.Bool.{true};
-ghost use mathlib.Core.Path.{_≡_};
-ghost use Prim.Native.Nat.{_≤_};
-ghost use lib.ListN.{length};
-ghost use Rattle·tape.specs.Numbers.{blockBytes, dataBytes};
-ghost use Rattle·tape.specs.Reading.{classAt, classOf, indexRight, kindOf, kindRight, lengthRight, paddingRight, usedOf};
-ghost use Rattle·block·specs.specs.Halves.{bodyRight, wrongIn, headRight};
+use lists::{wide, word};
+use tape::{Block, BlockFault, Geometry};
 
 fn kind_right(k: usize) -> bool
-    ensures { λ r. ⌜ r ≡ kindRight k ⌝ }
+    ensures { result ≡ kindRight k }
 {
     (tape::PIECE_KIND <= k) & (k <= tape::GAP_KIND)
 }
 
 fn length_right(k: usize, n: usize) -> bool
-    ensures { λ r. ⌜ r ≡ lengthRight k n ⌝ }
+    ensures { result ≡ lengthRight k n }
 {
     if k == tape::PIECE_KIND {
         (1 <= n) & (n <= Geometry::RECORD_LIMIT)
@@ -30,7 +25,7 @@ fn length_right(k: usize, n: usize) -> bool
 }
 
 fn index_right(k: usize, n: usize, i: usize) -> bool
-    ensures { λ r. ⌜ r ≡ indexRight k n i ⌝ }
+    ensures { result ≡ indexRight k n i }
 {
     if k == tape::PIECE_KIND {
         i < tape::pieces(n)
@@ -40,16 +35,16 @@ fn index_right(k: usize, n: usize, i: usize) -> bool
 }
 
 fn head_right(k: usize, n: usize, i: usize) -> bool
-    ensures { λ r. ⌜ r ≡ headRight k n i ⌝ }
+    ensures { result ≡ headRight k n i }
 {
     kind_right(k) & (length_right(k, n) & index_right(k, n, i))
 }
 
 // How many data bytes the block uses.
 fn used_of(k: usize, n: usize, i: usize) -> usize
-    requires { ⌜ headRight k n i ≡ true ⌝ }
-    ensures is { λ r. ⌜ r ≡ usedOf k n i ⌝ }
-    ensures low { λ r. ⌜ r ≤ dataBytes ⌝ }
+    requires { headRight k n i ≡ true }
+    ensures is { result ≡ usedOf k n i }
+    ensures low { result ≤ dataBytes }
 {
     if k == tape::PIECE_KIND {
         let left = n - Geometry::DATA * i;
@@ -65,8 +60,8 @@ fn used_of(k: usize, n: usize, i: usize) -> usize
 
 // Padding and check in one pass: the words in use are summed, then those that must be 0. An odd last data byte shares its word.
 fn padded_right(b: &[u8], used: usize) -> bool
-    requires { ⌜ (length (now b) ≡ blockBytes) × (used ≤ dataBytes) ⌝ }
-    ensures { λ r. ⌜ r ≡ bodyRight (now (b .entry)) used ⌝ }
+    requires { (length b.now ≡ blockBytes) × (used ≤ dataBytes) }
+    ensures { result ≡ bodyRight b.now used }
 {
     let words = 3 + (used + 1) / 2;
     let cut = 2 * words;
@@ -78,8 +73,8 @@ fn padded_right(b: &[u8], used: usize) -> bool
 
 // Padding alone.
 fn padding_right(b: &[u8], used: usize) -> bool
-    requires { ⌜ (length (now b) ≡ blockBytes) × (used ≤ dataBytes) ⌝ }
-    ensures { λ r. ⌜ r ≡ paddingRight (now (b .entry)) used ⌝ }
+    requires { (length b.now ≡ blockBytes) × (used ≤ dataBytes) }
+    ensures { result ≡ paddingRight b.now used }
 {
     let mut i = Geometry::HEAD + used;
     while i < Geometry::SUMMED {
@@ -93,15 +88,15 @@ fn padding_right(b: &[u8], used: usize) -> bool
 
 // All data bytes are in use, so there is no padding. Its own function, since the sum then runs over a fixed number of words.
 fn full_right(b: &[u8]) -> bool
-    requires { ⌜ length (now b) ≡ blockBytes ⌝ }
-    ensures { λ r. ⌜ r ≡ bodyRight (now (b .entry)) dataBytes ⌝ }
+    requires { length b.now ≡ blockBytes }
+    ensures { result ≡ bodyRight b.now dataBytes }
 {
     word(b, Geometry::SUMMED) == check_sum(b, Geometry::SUMMED_WORDS) % Geometry::CHECK_MODULUS
 }
 
 fn body_right(b: &[u8], used: usize) -> bool
-    requires { ⌜ (length (now b) ≡ blockBytes) × (used ≤ dataBytes) ⌝ }
-    ensures { λ r. ⌜ r ≡ bodyRight (now (b .entry)) used ⌝ }
+    requires { (length b.now ≡ blockBytes) × (used ≤ dataBytes) }
+    ensures { result ≡ bodyRight b.now used }
 {
     if used == Geometry::DATA {
         return full_right(b);
@@ -110,7 +105,7 @@ fn body_right(b: &[u8], used: usize) -> bool
 }
 
 fn kind_of(k: usize, n: usize, i: usize) -> Block
-    ensures { λ r. ⌜ r ≡ kindOf k n i ⌝ }
+    ensures { result ≡ kind_of k n i }
 {
     if k == tape::PIECE_KIND {
         return Block::Piece(n, i);
@@ -124,8 +119,8 @@ fn kind_of(k: usize, n: usize, i: usize) -> Block
 // The first thing that is wrong with a block that isn't right; the check, if nothing else is. Only a block known to be wrong comes here, and all of it is
 // read again: so a sound one costs nothing more.
 fn wrong_in(b: &[u8]) -> BlockFault
-    requires { ⌜ length (now b) ≡ blockBytes ⌝ }
-    ensures { λ r. ⌜ r ≡ wrongIn (now (b .entry)) ⌝ }
+    requires { length b.now ≡ blockBytes }
+    ensures { result ≡ wrongIn b.now }
 {
     let k = word(b, 0);
     let n = word(b, 2);
@@ -146,8 +141,8 @@ fn wrong_in(b: &[u8]) -> BlockFault
 }
 
 fn class_of(b: &[u8]) -> Block
-    requires { ⌜ length (now b) ≡ blockBytes ⌝ }
-    ensures { λ r. ⌜ r ≡ classOf (now (b .entry)) ⌝ }
+    requires { length b.now ≡ blockBytes }
+    ensures { result ≡ class_of b.now }
 {
     let k = word(b, 0);
     let n = word(b, 2);
@@ -163,7 +158,7 @@ fn class_of(b: &[u8]) -> Block
 
 // Block k of a reel; one that the slice does not hold whole has no place on it, so that every number is some answer.
 pub fn read_block(reel: &[u8], k: usize) -> Block
-    ensures { λ r. ⌜ r ≡ classAt (now (reel .entry)) k ⌝ }
+    ensures { result ≡ class_at reel.now k }
 {
     if reel.len() / Geometry::BLOCK <= k {
         return Block::Damaged(BlockFault::Index);

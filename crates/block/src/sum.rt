@@ -1,27 +1,24 @@
 // The sum for a block's check, eight bytes at a time: 65,536 is 1 modulo 65,535, so two words may be added as one number.
-use lists::word;
-use lists::word_sum;
-ghost use mathlib.Core.Path.{_≡_};
-ghost use Prim.Native.Nat.{_+_, _*_, _%_, _≤_, _<_};
-ghost use lib.Dec.{eqb};
-ghost use lib.ListN.{length, take};
-ghost use Rattle·lists.specs.Words.{wordLimit, wordSum};
-ghost use Rattle·tape.specs.Numbers.{checkModulus};
-ghost use Rattle·block·specs.specs.Sums.{longAt, longSum};
+ghost use Rattle.std.specs.Prelude.{◌≡◌, ◌+◌, ◌*◌, ◌%◌, ◌≤◌, ◌<◌, eqb, length, take};
+ghost use Rattle.lists.specs.Words.{wordLimit, wordSum};
+ghost use Rattle.tape.specs.Numbers.{checkModulus};
+ghost use Rattle.block.specs.Sums.{longAt, longSum};
+
+use lists::{word, word_sum};
 
 fn long(b: &[u8], at: usize) -> usize
-    requires { ⌜ at + 3 < length (now b) ⌝ }
-    ensures is { λ r. ⌜ r ≡ longAt (now (b .entry)) at ⌝ }
-    ensures low { λ r. ⌜ r < 4294967296 ⌝ }
+    requires { at + 3 < length b.now }
+    ensures is { result ≡ longAt b.now at }
+    ensures low { result < 4294967296 }
 {
     word(b, at) + 65536 * word(b, at + 2)
 }
 
 // The first n runs of eight bytes, two numbers each.
 fn long_sum(b: &[u8], n: usize) -> usize
-    requires { ⌜ (8 * n ≤ length (now b)) × (n ≤ wordLimit) ⌝ }
-    ensures is { λ r. ⌜ r ≡ longSum (take (8 * n) (now (b .entry))) ⌝ }
-    ensures low { λ r. ⌜ r ≤ 8589934592 * n ⌝ }
+    requires { (8 * n ≤ length b.now) × (n ≤ wordLimit) }
+    ensures is { result ≡ longSum (take (8 * n) b.now) }
+    ensures low { result ≤ 8589934592 * n }
 {
     let mut sum: usize = 0;
     let mut j: usize = 0;
@@ -34,10 +31,10 @@ fn long_sum(b: &[u8], n: usize) -> usize
 
 // The sum of the first n words as far as the check and the padding ask: modulo 65,535, and whether it is 0.
 pub fn check_sum(b: &[u8], n: usize) -> usize
-    requires { ⌜ (2 * n ≤ length (now b)) × (n ≤ 256) ⌝ }
-    ensures same { λ r. ⌜ r % checkModulus ≡ wordSum (take (2 * n) (now (b .entry))) % checkModulus ⌝ }
-    ensures none { λ r. ⌜ eqb r 0 ≡ eqb (wordSum (take (2 * n) (now (b .entry)))) 0 ⌝ }
-    ensures low { λ r. ⌜ r ≤ 1099511627776 ⌝ }
+    requires { (2 * n ≤ length b.now) × (n ≤ 256) }
+    ensures same { result % checkModulus ≡ wordSum (take (2 * n) b.now) % checkModulus }
+    ensures none { eqb result 0 ≡ eqb (wordSum (take (2 * n) b.now)) 0 }
+    ensures low { result ≤ 1099511627776 }
 {
     let runs = n / 4;
     let cut = 8 * runs;

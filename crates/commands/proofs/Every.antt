@@ -1,37 +1,37 @@
 -- What holds of every end that is told and of every plan that stores nothing holds of every command carried out. The state of such a plan has
 -- the message buffer of the state before, or one that lies inside memory.
-use mathlib.Core.Bool.{Bool, false, _||_}
+use mathlib.Core.Bool.{Bool, false, ◌||◌}
 use mathlib.Core.List.{List}
-use mathlib.Core.Logic.{_⊎_, inl, inr}
-use mathlib.Core.Path.{_≡_, refl}
+use mathlib.Core.Logic.{◌⊎◌, inl, inr}
+use mathlib.Core.Path.{◌≡◌, refl}
 use Prim.Native.Nat.{ℕ}
 use lib.Dec.{leb, ltb}
 use lib.ListN.{length}
-use Rattle·lists.specs.Pick.{Always}
-use Rattle·lists.proofs.Cases.{pick-told}
-use Rattle·signals.specs.Numbers.{pointerLimit}
-use Rattle·signals.specs.declared.codes.Command.{Command}
-use Rattle·signals.specs.declared.codes.Command.the-variants as command
-use Rattle·signals.specs.declared.packet.Header.{Header}
-use Rattle·signals.specs.declared.packet.Packet.{Packet}
-use Rattle·state.specs.Checks.{bufferWrong}
-use Rattle·state.specs.Legal.{BufferFits}
-use Rattle·state.specs.declared.Characteristics.{Characteristics}
-use Rattle·state.specs.declared.Unit.{Unit}
-use Rattle·state.proofs.Legal.{buffer-right}
-use Rattle·state.proofs.Tests.{either, neither}
-use Rattle·motions.specs.declared.parts.Ending.{Ending}
-use Rattle·motions.specs.declared.parts.Motion.{Motion}
-use Rattle·commands·specs.specs.Commands.{carriedOut, carriedOutUnder, characteristicsAt, characterized, characterizedUnder, formattedUnder, plainEffectUnder, positionedByUnder, readByUnder, refusedCharacteristicsUnder, released, rereadByUnder, rewoundUnder, takenCharacteristicsUnder, unloadedUnder, writtenByUnder}
-use Rattle·commands·specs.specs.Ends.{ended, motionPlan, still, told, untold}
-use Rattle·commands·specs.specs.declared.plans.Answer.{Answer}
-use Rattle·commands·specs.specs.declared.plans.Answer.the-variants as answer
-use Rattle·commands·specs.specs.declared.plans.Plan.{Plan}
-use Rattle·commands·proofs.proofs.Told.{motion-either}
+use Rattle.lists.specs.Pick.{Always}
+use Rattle.lists.proofs.Cases.{pick-told}
+use Rattle.signals.specs.Numbers.{pointerLimit}
+use Rattle.signals.specs.declared.codes.Command.{Command}
+use Rattle.signals.specs.declared.codes.Command.TheVariants as command
+use Rattle.signals.specs.declared.packet.Header.{Header}
+use Rattle.signals.specs.declared.packet.Packet.{Packet}
+use Rattle.state.specs.Checks.{bufferWrong}
+use Rattle.state.specs.Legal.{BufferFits}
+use Rattle.state.specs.declared.Characteristics.{Characteristics}
+use Rattle.state.specs.declared.Unit.{Unit}
+use Rattle.state.proofs.Legal.{buffer-right}
+use Rattle.state.proofs.Tests.{either, neither}
+use Rattle.motions.specs.declared.parts.Ending.{Ending}
+use Rattle.motions.specs.declared.parts.Motion.{Motion}
+use Rattle.commands.specs.Commands.{carriedOut, carriedOutUnder, characteristicsAt, characterized, characterizedUnder, formattedUnder, plainEffectUnder, positionedByUnder, readByUnder, refusedCharacteristicsUnder, released, rereadByUnder, rewoundUnder, takenCharacteristicsUnder, unloadedUnder, writtenByUnder}
+use Rattle.commands.specs.Ends.{ended, motionPlan, still, told, untold}
+use Rattle.commands.specs.declared.plans.Answer.{Answer}
+use Rattle.commands.specs.declared.plans.Answer.TheVariants as answer
+use Rattle.commands.specs.declared.plans.Plan.{Plan}
+use Rattle.commands.proofs.Told.{motion-either}
 
 -- "all old values kept", or all taken
 abbrev pub Buffered : Characteristics → ℕ → Unit → Type 0
-Buffered c memory v = (v .characteristics ≡ c) ⊎ BufferFits (v .characteristics) memory
+Buffered c memory v = (v.characteristics ≡ c) ⊎ BufferFits v.characteristics memory
 
 -- every end that is told, and every plan that stores nothing
 abbrev pub ToldAll : Characteristics → ℕ → (Plan → Type 0) → Type 0
@@ -47,7 +47,7 @@ DoneOrBad (answer.BadBlock why k) = Always
 abbrev pub Stands : Characteristics → ℕ → (Plan → Type 0) → Type 0
 Stands c memory P = (v : Unit) → Buffered c memory v → (a : Answer) → DoneOrBad a → P (still v a)
 
-module _ (u : Unit) (m : List ℕ) (P : Plan → Type 0) (tells : ToldAll (u .characteristics) (length m) P) (stands : Stands (u .characteristics) (length m) P) where
+module _ (u : Unit) (m : List ℕ) (P : Plan → Type 0) (tells : ToldAll u.characteristics (length m) P) (stands : Stands u.characteristics (length m) P) where
   moves : (ie : Bool) (y : Motion) → P (motionPlan u ie y)
   moves ie y = motion-either u ie P y (λ x e. tells u (inl refl) ie x) (λ why k e. stands u (inl refl) (answer.BadBlock why k) tt)
 
@@ -55,30 +55,30 @@ module _ (u : Unit) (m : List ℕ) (P : Plan → Type 0) (tells : ToldAll (u .ch
   unfolding characterizedUnder refusedCharacteristicsUnder takenCharacteristicsUnder
   characterizes p ie =
       let c = characteristicsAt m p in
-      either P (ltb (p .count) 6) _ _ (tells _ (inl refl) ie _)
-      (pick-told P (leb pointerLimit (c .address) || bufferWrong c (length m)) _ _ (λ t. tells _ (inl refl) ie _)
-      (λ t. tells _ (inr (buffer-right c (length m) (neither (leb pointerLimit (c .address)) (bufferWrong c (length m)) t .1))) ie _))
+      either P (ltb p.count 6) _ _ (tells _ (inl refl) ie _)
+      (pick-told P (leb pointerLimit c.address || bufferWrong c (length m)) _ _ (λ t. tells _ (inl refl) ie _)
+      (λ t. tells _ (inr (buffer-right c (length m) (neither (leb pointerLimit c.address) (bufferWrong c (length m)) t).1)) ie _))
 
   pub every-carried : (s : List ℕ) (h : Header) (p : Packet) (c : Command) → P (carriedOut u m s h p c)
   unfolding carriedOutUnder readByUnder rereadByUnder positionedByUnder writtenByUnder formattedUnder rewoundUnder released unloadedUnder plainEffectUnder untold ended
-  every-carried s h p command.ReadNext = moves (h .ie) _
-  every-carried s h p command.ReadPrevious = moves (h .ie) _
-  every-carried s h p command.RereadPrevious = moves (h .ie) _
-  every-carried s h p command.RereadNext = moves (h .ie) _
-  every-carried s h p command.WriteCharacteristics = characterizes p (h .ie)
-  every-carried s h p command.Write = moves (h .ie) _
-  every-carried s h p command.WriteRetry = moves (h .ie) _
-  every-carried s h p command.RecordsForward = moves (h .ie) _
-  every-carried s h p command.RecordsReverse = moves (h .ie) _
-  every-carried s h p command.MarksForward = moves (h .ie) _
-  every-carried s h p command.MarksReverse = moves (h .ie) _
-  every-carried s h p command.Rewind = tells u (inl refl) (h .ie) _
-  every-carried s h p command.WriteMark = moves (h .ie) _
-  every-carried s h p command.Erase = moves (h .ie) _
-  every-carried s h p command.MarkRetry = moves (h .ie) _
+  every-carried s h p command.ReadNext = moves h.ie _
+  every-carried s h p command.ReadPrevious = moves h.ie _
+  every-carried s h p command.RereadPrevious = moves h.ie _
+  every-carried s h p command.RereadNext = moves h.ie _
+  every-carried s h p command.WriteCharacteristics = characterizes p h.ie
+  every-carried s h p command.Write = moves h.ie _
+  every-carried s h p command.WriteRetry = moves h.ie _
+  every-carried s h p command.RecordsForward = moves h.ie _
+  every-carried s h p command.RecordsReverse = moves h.ie _
+  every-carried s h p command.MarksForward = moves h.ie _
+  every-carried s h p command.MarksReverse = moves h.ie _
+  every-carried s h p command.Rewind = tells u (inl refl) h.ie _
+  every-carried s h p command.WriteMark = moves h.ie _
+  every-carried s h p command.Erase = moves h.ie _
+  every-carried s h p command.MarkRetry = moves h.ie _
   every-carried s h p command.Release = stands _ (inl refl) (answer.Done false) tt
-  every-carried s h p command.Unload = tells _ (inl refl) (h .ie) _
-  every-carried s h p command.Clean = tells u (inl refl) (h .ie) _
-  every-carried s h p command.Initialize = tells u (inl refl) (h .ie) _
-  every-carried s h p command.GetStatus = tells u (inl refl) (h .ie) _
-  every-carried s h p command.Illegal = tells u (inl refl) (h .ie) _
+  every-carried s h p command.Unload = tells _ (inl refl) h.ie _
+  every-carried s h p command.Clean = tells u (inl refl) h.ie _
+  every-carried s h p command.Initialize = tells u (inl refl) h.ie _
+  every-carried s h p command.GetStatus = tells u (inl refl) h.ie _
+  every-carried s h p command.Illegal = tells u (inl refl) h.ie _

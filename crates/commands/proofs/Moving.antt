@@ -1,17 +1,17 @@
 -- All commands but Write Characteristics, release and unload end as their motion does.
-use mathlib.Core.Path.{_≡_, refl}
-use mathlib.Core.List.{List, [], _∷_}
+use mathlib.Core.Path.{◌≡◌, refl}
+use mathlib.Core.List.{List, [], ◌∷◌}
 use Prim.Native.Nat.{ℕ}
-use denote.Enum.Declared.{tagOf}
+use denote.Enum.Declared.{tag_of}
 use types.Run.{OneOf, miss}
-use Rattle·signals.specs.declared.codes.Command.{Command}
-use Rattle·signals.specs.declared.codes.Command.the-variants as command
-use Rattle·signals.specs.declared.packet.Header.{Header}
-use Rattle·signals.specs.declared.packet.Packet.{Packet}
-use Rattle·signals.proofs.codes.Command as variants
-use Rattle·state.specs.declared.Unit.{Unit}
-use Rattle·commands·specs.specs.Ends.{motionPlan, motionPlanUnder}
-use Rattle·commands·specs.specs.Commands.{carriedOut, carriedOutUnder, formattedUnder, motionOf, motionOfUnder, plainEffectUnder, positionedByUnder, readByUnder, rereadByUnder, rewoundUnder, writtenByUnder}
+use Rattle.signals.specs.declared.codes.Command.{Command}
+use Rattle.signals.specs.declared.codes.Command.TheVariants as command
+use Rattle.signals.specs.declared.packet.Header.{Header}
+use Rattle.signals.specs.declared.packet.Packet.{Packet}
+use Rattle.signals.specs.contracts.codes.Command as variants
+use Rattle.state.specs.declared.Unit.{Unit}
+use Rattle.commands.specs.Ends.{motionPlan, motionPlanUnder}
+use Rattle.commands.specs.Commands.{carriedOut, carriedOutUnder, formattedUnder, motionOf, motionOfUnder, plainEffectUnder, positionedByUnder, readByUnder, rereadByUnder, rewoundUnder, writtenByUnder}
 
 -- by their tags: none of these three
 abbrev notCharacteristics : List ℕ
@@ -24,7 +24,7 @@ abbrev notUnload : List ℕ
 notUnload = 0 ∷ 1 ∷ 2 ∷ 3 ∷ 4 ∷ 5 ∷ 6 ∷ 7 ∷ 8 ∷ 9 ∷ 10 ∷ 11 ∷ 12 ∷ 13 ∷ 14 ∷ 15 ∷ 17 ∷ 18 ∷ 19 ∷ 20 ∷ []
 
 module _ (u : Unit) (m s : List ℕ) (h : Header) (p : Packet) where
-  pub ends-as-moved : (c : Command) → OneOf notCharacteristics (tagOf variants.the-type c) → OneOf notRelease (tagOf variants.the-type c) → OneOf notUnload (tagOf variants.the-type c) → motionPlan u (h .ie) (motionOf u s h p c) ≡ carriedOut u m s h p c
+  pub ends-as-moved : (c : Command) → OneOf notCharacteristics (tag_of variants.the_type c) → OneOf notRelease (tag_of variants.the_type c) → OneOf notUnload (tag_of variants.the_type c) → motionPlan u h.ie (motionOf u s h p c) ≡ carriedOut u m s h p c
   unfolding carriedOutUnder motionOfUnder readByUnder rereadByUnder positionedByUnder writtenByUnder formattedUnder rewoundUnder plainEffectUnder motionPlanUnder
   ends-as-moved command.ReadNext a b d = refl
   ends-as-moved command.ReadPrevious a b d = refl

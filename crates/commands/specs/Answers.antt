@@ -1,16 +1,15 @@
 -- The answers of the calls, and the paper's numbers.
-use mathlib.Core.Bool.{Bool, true, false}
-use Prim.Native.Nat.{ℕ}
-use Rattle·tape.specs.Letters.{letterOf}
-use Rattle·commands·specs.specs.declared.plans.Answer.{Answer}
-use Rattle·commands·specs.specs.declared.plans.Answer.the-variants as answer
+use Rattle.std.specs.Prelude.{Bool, true, false, ℕ}
+use Rattle.tape.specs.Letters.{letterOf}
+use Rattle.commands.specs.declared.plans.Answer.{Answer}
+use Rattle.commands.specs.declared.plans.Answer.TheVariants as answer
 
 -- the paper's number of an answer (Idle is no refusal)
-unfoldable pub numberOf : Answer → ℕ
-numberOf (answer.Done i) = 0
-numberOf answer.Idle = 0
-numberOf (answer.Refused n) = n
-numberOf (answer.BadBlock why k) = 7
+unfoldable pub number_of : Answer → ℕ
+number_of (answer.Done i) = 0
+number_of answer.Idle = 0
+number_of (answer.Refused n) = n
+number_of (answer.BadBlock why k) = 7
 
 -- "answered 0 it adds one entry", "Advance .. answers Idle .., and is no step taken"
 unfoldable pub isStep : Answer → Bool

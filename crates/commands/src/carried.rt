@@ -1,41 +1,21 @@
 // The commands, carried out.
+ghost use Rattle.std.specs.Prelude.{true, ◌≡◌, ◌+◌, ◌≤◌, length};
+ghost use Rattle.tape.specs.Numbers.{capacityLimit};
+ghost use Rattle.commands.specs.Ends.{plan_of};
+ghost use Rattle.commands.specs.Commands.{DataFit, asked, carriedOut, characteristicsAt, characterized, laidHere, laying, modeWord, motionOf, plainEnd, positioning, refusedCharacteristics, released, takenCharacteristics, unloaded};
+
 use crate::ends::told_course;
-use crate::plans::Course;
-use crate::plans::How;
+use crate::plans::{Course, How};
 use lists::word;
-use motions::Buffer;
-use motions::Laid;
-use motions::Motion;
-use motions::ObjectKind;
-use motions::position;
-use motions::read_one;
-use motions::reread_one;
-use motions::rest;
-use motions::retry;
-use motions::write_at;
-use moves::Count;
-use moves::Rule;
-use signals::ByteCount;
-use signals::Command;
-use signals::End;
-use signals::Header;
-use signals::MarkCount;
-use signals::Packet;
-use signals::RecordCount;
-use signals::Residual;
-use state::Characteristics;
-use state::Tape;
-use state::Unit;
-ghost use mathlib.Core.Bool.{true};
-ghost use mathlib.Core.Path.{_≡_};
-ghost use Prim.Native.Nat.{_+_, _≤_};
-ghost use lib.ListN.{length};
-ghost use Rattle·tape.specs.Numbers.{capacityLimit};
-ghost use Rattle·commands·specs.specs.Ends.{planOf};
-ghost use Rattle·commands·specs.specs.Commands.{DataFit, asked, carriedOut, characteristicsAt, characterized, laidHere, laying, modeWord, motionOf, plainEnd, positioning, refusedCharacteristics, released, takenCharacteristics, unloaded};
+use motions::{
+    Buffer, Laid, Motion, ObjectKind, position, read_one, reread_one, rest, retry, write_at,
+};
+use moves::{Count, Rule};
+use signals::{ByteCount, Command, End, Header, MarkCount, Packet, RecordCount, Residual};
+use state::{Characteristics, Tape, Unit};
 
 fn plain_end() -> End
-    ensures { λ r. ⌜ r ≡ plainEnd ⌝ }
+    ensures { result ≡ plainEnd }
 {
     let residual = Residual::Nothing;
     End {
@@ -48,7 +28,7 @@ fn plain_end() -> End
 
 // A release carried out is not told, and leaves its IE for an idle attention.
 fn release(u: Unit, ie: bool) -> Course
-    ensures { λ r. ⌜ planOf r ≡ released u ie ⌝ }
+    ensures { plan_of result ≡ released u ie }
 {
     let mut v = u;
     v.attention.release_ie = ie;
@@ -61,7 +41,7 @@ fn release(u: Unit, ie: bool) -> Course
 
 // Rewind and unload ends off line, with no attention.
 fn unload(u: Unit, ie: bool) -> Course
-    ensures { λ r. ⌜ planOf r ≡ unloaded u ie ⌝ }
+    ensures { plan_of result ≡ unloaded u ie }
 {
     let mut v = u;
     v.panel.online = false;
@@ -74,8 +54,8 @@ fn unload(u: Unit, ie: bool) -> Course
 
 // The mode word, 0 if the count is under 8.
 fn mode_word(mem: &[u8], p: Packet) -> usize
-    requires { ⌜ p .pointer + p .count ≤ length (now mem) ⌝ }
-    ensures { λ r. ⌜ r ≡ modeWord (now (mem .entry)) p ⌝ }
+    requires { p.pointer + p.count ≤ length mem.now }
+    ensures { result ≡ modeWord mem.now p }
 {
     if p.count < 8 {
         return 0;
@@ -85,8 +65,8 @@ fn mode_word(mem: &[u8], p: Packet) -> usize
 
 // Address low, high, length, mode word.
 fn characteristics_at(mem: &[u8], p: Packet) -> Characteristics
-    requires { ⌜ (p .pointer + p .count ≤ length (now mem)) × (6 ≤ p .count) ⌝ }
-    ensures { λ r. ⌜ r ≡ characteristicsAt (now (mem .entry)) p ⌝ }
+    requires { (p.pointer + p.count ≤ length mem.now) × (6 ≤ p.count) }
+    ensures { result ≡ characteristicsAt mem.now p }
 {
     let address = word(mem, p.pointer) + 65536 * word(mem, p.pointer + 2);
     let length = word(mem, p.pointer + 4);
@@ -102,7 +82,7 @@ fn characteristics_at(mem: &[u8], p: Packet) -> Characteristics
 
 // NBA set, class 3, all old values kept.
 fn refuse_characteristics(u: Unit, ie: bool) -> Course
-    ensures { λ r. ⌜ planOf r ≡ refusedCharacteristics u ie ⌝ }
+    ensures { plan_of result ≡ refusedCharacteristics u ie }
 {
     let mut v = u;
     v.registers.nba = true;
@@ -119,7 +99,7 @@ fn refuse_characteristics(u: Unit, ie: bool) -> Course
 
 // NBA clears and all are taken.
 fn take_characteristics(u: Unit, c: Characteristics, ie: bool) -> Course
-    ensures { λ r. ⌜ planOf r ≡ takenCharacteristics u c ie ⌝ }
+    ensures { plan_of result ≡ takenCharacteristics u c ie }
 {
     let mut v = u;
     v.registers.nba = false;
@@ -129,8 +109,8 @@ fn take_characteristics(u: Unit, c: Characteristics, ie: bool) -> Course
 }
 
 fn characterize(u: Unit, mem: &[u8], p: Packet, ie: bool) -> Course
-    requires { ⌜ p .pointer + p .count ≤ length (now mem) ⌝ }
-    ensures { λ r. ⌜ planOf r ≡ characterized u (now (mem .entry)) p ie ⌝ }
+    requires { p.pointer + p.count ≤ length mem.now }
+    ensures { plan_of result ≡ characterized u mem.now p ie }
 {
     if p.count < 6 {
         return refuse_characteristics(u, ie);
@@ -144,7 +124,7 @@ fn characterize(u: Unit, mem: &[u8], p: Packet, ie: bool) -> Course
 
 // What a Read asks for.
 fn asked_buffer(h: Header, p: Packet) -> Buffer
-    ensures { λ r. ⌜ r ≡ asked h p ⌝ }
+    ensures { result ≡ asked h p }
 {
     Buffer {
         pointer: p.pointer,
@@ -154,8 +134,8 @@ fn asked_buffer(h: Header, p: Packet) -> Buffer
 }
 
 fn space(reel: &[u8], t: Tape, c: Characteristics, count: Count, reverse: bool) -> Motion
-    requires { ⌜ t .end ≤ capacityLimit ⌝ }
-    ensures { λ r. ⌜ r ≡ positioning (now (reel .entry)) t c count reverse ⌝ }
+    requires { t.end ≤ capacityLimit }
+    ensures { result ≡ positioning reel.now t c count reverse }
 {
     let rule = Rule {
         reverse,
@@ -166,7 +146,7 @@ fn space(reel: &[u8], t: Tape, c: Characteristics, count: Count, reverse: bool) 
 
 // An object where the tape stands.
 fn lay_here(t: Tape, object: ObjectKind, pointer: usize, length: u16, swb: bool) -> Laid
-    ensures { λ r. ⌜ r ≡ laidHere t object pointer length swb ⌝ }
+    ensures { result ≡ laidHere t object pointer length swb }
 {
     Laid {
         at: t.position,
@@ -180,7 +160,7 @@ fn lay_here(t: Tape, object: ObjectKind, pointer: usize, length: u16, swb: bool)
 
 // A Write or a Format, or its retry.
 fn lay(reel: &[u8], t: Tape, blocks: usize, l: Laid, mark: bool, again: bool) -> Motion
-    ensures { λ r. ⌜ r ≡ laying (now (reel .entry)) t blocks l mark again ⌝ }
+    ensures { result ≡ laying reel.now t blocks l mark again }
 {
     if again {
         return retry(reel, t, blocks, l, mark);
@@ -190,8 +170,8 @@ fn lay(reel: &[u8], t: Tape, blocks: usize, l: Laid, mark: bool, again: bool) ->
 
 // The motion of a command; those that move nothing end where the tape stands.
 fn move_tape(u: Unit, reel: &[u8], h: Header, p: Packet, c: Command) -> Motion
-    requires { ⌜ u .tape .end ≤ capacityLimit ⌝ }
-    ensures { λ r. ⌜ r ≡ motionOf u (now (reel .entry)) h p c ⌝ }
+    requires { u.tape.end ≤ capacityLimit }
+    ensures { result ≡ motionOf u reel.now h p c }
 {
     let t = u.tape;
     let x = u.characteristics;
@@ -237,8 +217,8 @@ fn move_tape(u: Unit, reel: &[u8], h: Header, p: Packet, c: Command) -> Motion
 
 // All but three commands end as their motion does.
 pub fn carry_out(u: Unit, mem: &[u8], reel: &[u8], h: Header, p: Packet, c: Command) -> Course
-    requires { ⌜ (u .tape .end ≤ capacityLimit) × DataFit c p (now mem) ⌝ }
-    ensures { λ r. ⌜ planOf r ≡ carriedOut u (now (mem .entry)) (now (reel .entry)) h p c ⌝ }
+    requires { (u.tape.end ≤ capacityLimit) × DataFit c p mem.now }
+    ensures { plan_of result ≡ carriedOut u mem.now reel.now h p c }
 {
     if let Command::WriteCharacteristics = c {
         return characterize(u, mem, p, h.ie);

@@ -1,29 +1,22 @@
 // How a command, or an attention, ends: the state that it leaves, what it says, and whether it is told.
-use crate::plans::Answer;
-use crate::plans::Course;
-use crate::plans::How;
-use crate::plans::Plan;
-use motions::Ending;
-use motions::Motion;
-use motions::laid_blocks;
-use motions::no_lay;
-use motions::no_move;
-use signals::Status;
-use signals::message_of;
+ghost use Rattle.std.specs.Prelude.{◌≡◌};
+ghost use Rattle.commands.specs.Ends.{ended, motionPlan, plan_of, quiet, statusOf, still, told, untold};
+
+use crate::plans::{Answer, Course, How, Plan};
+use motions::{Ending, Motion, laid_blocks, no_lay, no_move};
+use signals::{Status, message_of};
 use state::Unit;
 use tape::Geometry;
-ghost use mathlib.Core.Path.{_≡_};
-ghost use Rattle·commands·specs.specs.Ends.{ended, motionPlan, planOf, quiet, statusOf, still, told, untold};
 
 fn quiet_message() -> [u16; 7]
-    ensures { λ r. ⌜ r ≡ quiet ⌝ }
+    ensures { result ≡ quiet }
 {
     [0u16; 7]
 }
 
 // A plan that stores nothing and leaves the state as it is given.
 pub fn still_plan(unit: Unit, answer: Answer) -> Plan
-    ensures { λ r. ⌜ r ≡ still unit answer ⌝ }
+    ensures { result ≡ still unit answer }
 {
     let moved = no_move();
     let laid = no_lay();
@@ -40,7 +33,7 @@ pub fn still_plan(unit: Unit, answer: Answer) -> Plan
 
 // Every end sets SSR and keeps RMR and NXM; class 5 sets NXM.
 fn ended_unit(u: Unit, class: usize) -> Unit
-    ensures { λ r. ⌜ r ≡ ended u class ⌝ }
+    ensures { result ≡ ended u class }
 {
     let mut v = u;
     let nxm = u.registers.nxm | (class == 5);
@@ -52,11 +45,12 @@ fn ended_unit(u: Unit, class: usize) -> Unit
 
 // The unit's condition, for XST0.
 fn status_of(u: Unit, ie: bool, mot: bool) -> Status
-    ensures { λ r. ⌜ r ≡ statusOf u ie mot ⌝ }
+    ensures { result ≡ statusOf u ie mot }
 {
     let marker = Geometry {
         capacity: u.lengths.blocks,
-    }.marker();
+    }
+    .marker();
     Status {
         mot,
         onl: u.panel.online,
@@ -70,7 +64,7 @@ fn status_of(u: Unit, ie: bool, mot: bool) -> Status
 
 // The CPU owns the message buffer, and the message goes out if NBA is clear. MOT: the position differs, or blocks are laid.
 fn tell(u: Unit, ie: bool, x: Ending) -> Plan
-    ensures { λ r. ⌜ r ≡ told u ie x ⌝ }
+    ensures { result ≡ told u ie x }
 {
     let end = x.end;
     let moved = x.moved;
@@ -95,14 +89,14 @@ fn tell(u: Unit, ie: bool, x: Ending) -> Plan
 
 // No message, and the message buffer's owner is kept.
 fn untell(u: Unit, class: usize, interrupts: bool) -> Plan
-    ensures { λ r. ⌜ r ≡ untold u class interrupts ⌝ }
+    ensures { result ≡ untold u class interrupts }
 {
     still_plan(ended_unit(u, class), Answer::Done(interrupts))
 }
 
 // A motion that ended is told; a block at fault refuses with 7.
 fn plan_motion(u: Unit, ie: bool, m: Motion) -> Plan
-    ensures { λ r. ⌜ r ≡ motionPlan u ie m ⌝ }
+    ensures { result ≡ motionPlan u ie m }
 {
     match m {
         Motion::Ended(x) => tell(u, ie, x),
@@ -112,7 +106,7 @@ fn plan_motion(u: Unit, ie: bool, m: Motion) -> Plan
 
 // A motion that is told.
 pub fn told_course(unit: Unit, ie: bool, m: Motion) -> Course
-    ensures { λ r. ⌜ planOf r ≡ motionPlan unit ie m ⌝ }
+    ensures { plan_of result ≡ motionPlan unit ie m }
 {
     Course {
         unit,
@@ -123,7 +117,7 @@ pub fn told_course(unit: Unit, ie: bool, m: Motion) -> Course
 
 // The one place where a plan is made of what an advance came to.
 pub fn plan_of(c: Course) -> Plan
-    ensures { λ r. ⌜ r ≡ planOf c ⌝ }
+    ensures { result ≡ plan_of c }
 {
     let unit = c.unit;
     let how = c.how;

@@ -1,11 +1,10 @@
 // What a step is about to do, as a value.
-use motions::Laid;
-use motions::Motion;
-use motions::Moved;
+use motions::{Laid, Motion, Moved};
 use state::Unit;
 use tape::BlockFault;
 
 // The answers of the calls; a definition in specs/ gives each its number.
+#[derive(Drop)]
 pub enum Answer {
     // Whether it interrupts.
     Done(bool),
@@ -17,6 +16,7 @@ pub enum Answer {
 }
 
 // Whether an advance tells how it ended.
+#[derive(Drop)]
 pub enum How {
     // With a message, if the unit has a buffer for it.
     Told(Motion),
@@ -26,6 +26,7 @@ pub enum How {
 
 // What an advance comes to, before its plan is made of it: the state that it ends from, whether it interrupts, and how it ends. Every way
 // through an advance meets here in one small value, so that the plan is made in one place.
+#[derive(Drop)]
 pub struct Course {
     pub unit: Unit,
     pub ie: bool,
@@ -33,6 +34,7 @@ pub struct Course {
 }
 
 // All that a step is about to store.
+#[derive(Drop)]
 pub struct Plan {
     pub answer: Answer,
     pub unit: Unit,

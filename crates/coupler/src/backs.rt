@@ -1,26 +1,18 @@
 // A step back over a row: which transport the newest entry names, and what refuses it. What is undone is then that transport's alone (`steps::undo`), or memory's
 // (`steps::undo_none`), so whoever holds four reels lends one.
-use entries::BARE;
-use entries::TRANSPORTS;
-use entries::newest_entry;
-use worlds::Coupler;
-use worlds::Look;
-use worlds::Seat;
-use worlds::look_of;
-use worlds::looks_check;
-use worlds::looks_standing;
-ghost use mathlib.Core.Path.{_≡_};
-ghost use Prim.Native.Nat.{_≤_};
-ghost use lib.ListN.{length};
-ghost use Rattle·entries.specs.Entries.{entryBare, usedIn};
-ghost use Rattle·worlds.specs.Coupled.{namedIn};
-ghost use Rattle·worlds.specs.Looks.{looksRefusal};
-ghost use Rattle·worlds.specs.Rows.{backRefusal, rowOf};
+ghost use Rattle.std.specs.Prelude.{◌≡◌, ◌≤◌, length};
+ghost use Rattle.entries.specs.Entries.{entryBare, usedIn};
+ghost use Rattle.worlds.specs.Coupled.{named_in};
+ghost use Rattle.worlds.specs.Looks.{looksRefusal};
+ghost use Rattle.worlds.specs.Rows.{backRefusal, row_of};
+
+use entries::{BARE, TRANSPORTS, newest_entry};
+use worlds::{Coupler, Look, Seat, look_of, looks_check, looks_standing};
 
 // The number that the newest entry has: a transport's, or the one that names none.
 pub fn named(c: Coupler, jrnl: &[u8]) -> usize
-    requires { ⌜ (entryBare ≤ c .used) × (c .used ≤ length (now jrnl)) ⌝ }
-    ensures { λ r. ⌜ r ≡ namedIn (usedIn (c .used) (now (jrnl .entry))) ⌝ }
+    requires { (entryBare ≤ c.used) × (c.used ≤ length jrnl.now) }
+    ensures { result ≡ named_in (usedIn c.used jrnl.now) }
 {
     let e = newest_entry(jrnl, c.used, 0);
     e.transport
@@ -36,7 +28,7 @@ pub fn looks_refusal(
     memory: usize,
     jrnl: &[u8],
 ) -> usize
-    ensures { λ r. ⌜ r ≡ looksRefusal c l0 l1 l2 l3 memory (length (now (jrnl .entry))) (namedIn (usedIn (c .used) (now (jrnl .entry)))) ⌝ }
+    ensures { result ≡ looksRefusal c l0 l1 l2 l3 memory (length jrnl.now) (named_in (usedIn c.used jrnl.now)) }
 {
     let r = looks_check(c, l0, l1, l2, l3, memory, jrnl.len());
     if r != 0 {
@@ -66,7 +58,7 @@ pub fn back_refusal(
     memory: usize,
     jrnl: &[u8],
 ) -> usize
-    ensures { λ r. ⌜ r ≡ backRefusal c (rowOf n s0 s1 s2 s3) memory (length (now (jrnl .entry))) (namedIn (usedIn (c .used) (now (jrnl .entry)))) ⌝ }
+    ensures { result ≡ backRefusal c (row_of n s0 s1 s2 s3) memory (length jrnl.now) (named_in (usedIn c.used jrnl.now)) }
 {
     let m = c.memory;
     looks_refusal(

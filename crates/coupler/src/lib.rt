@@ -2,7 +2,5 @@
 mod backs;
 mod stores;
 
-pub use backs::back_refusal;
-pub use backs::looks_refusal;
-pub use backs::named;
+pub use backs::{back_refusal, looks_refusal, named};
 pub use stores::host_store;

@@ -1,55 +1,55 @@
 -- Which block a refusal with 7 names: the first at fault that is met, and in which way it is at fault.
-use mathlib.Core.Bool.{Bool, true, false, _&&_, and-eq-true-iff, not}
+use mathlib.Core.Bool.{Bool, true, false, ◌&&◌, and-eq-true_iff, not}
 use mathlib.Core.List.{List}
-use mathlib.Core.Path.{_≡_, refl, sym, ap, subst, _∙_}
-use Prim.Native.Nat.{ℕ, zero, suc, _+_, _-_, _<_, _≤_}
+use mathlib.Core.Path.{◌≡◌, refl, sym, ap, subst, ◌∙◌}
+use Prim.Native.Nat.{ℕ, zero, suc, ◌+◌, ◌-◌, ◌<◌, ◌≤◌}
 use native.Mathlib.Omega.{arith}
 use borrow.Author.Tests.{eq-eqb, eqb-false, eqb-true, le-leb, leb-true}
 use lib.Dec.{eqb, leb}
-use Rattle·lists.specs.Pick.{Always}
-use Rattle·lists.proofs.Cases.{by-test, pick-told}
-use Rattle·tape.specs.Numbers.{piecesOf, recordLimit}
-use Rattle·tape.specs.Pass.{ahead, badAt, beyond, faultOf, firstMet, isPiece, lowest, metBy, metByUnder, orderMet, passed, passedUnder, piecesMet, piecesMetUnder, recordMet, recordMetUnder}
-use Rattle·tape.specs.Reading.{classAt}
-use Rattle·tape.specs.Sweep.{sweptBelow, sweptBelowUnder, sweptFrom, sweptFromUnder, sweptOn}
-use Rattle·tape.specs.Wrong.{WrongAt}
-use Rattle·tape.specs.declared.BlockFault.{BlockFault}
-use Rattle·tape.specs.declared.BlockFault.the-variants as fault
-use Rattle·tape.specs.declared.Block.{Block}
-use Rattle·tape.specs.declared.Block.the-variants as block
-use Rattle·tape.specs.declared.Met.{Met}
-use Rattle·tape.specs.declared.Met.the-variants as met
-use Rattle·tape.specs.declared.Swept.{Swept}
-use Rattle·tape.specs.declared.Swept.the-variants as swept
-use Rattle·tape.proofs.Accepted.{clash}
-use Rattle·tape.proofs.Blame.{bad-wrong}
-use Rattle·tape.proofs.Faulted.{wrong-told}
-use Rattle·tape.proofs.Below.{lowest-below}
-use Rattle·tape.proofs.Outcomes.{Outcome, at-end, at-fault, one-at-least, outcome, over-gap, over-mark, over-record}
-use Rattle·tape.proofs.Passes.{first-order, met-record, order-below, passed-by}
-use Rattle·tape.proofs.ReadBlocks.{piece-read}
-use Rattle·tape.proofs.Within.{RecordIn, gap-within, mark-within, pass-onward, pass-within}
-use Rattle·moves.specs.Seeking.{sought}
-use Rattle·moves.specs.declared.seeking.Sought.the-variants as sought-as
-use Rattle·demands·specs.specs.Faults.{FaultAt, FirstFault, ReadOver, damaged, metAt, not-due, nothing-yet, out-of-place, then-gap, then-mark, then-record}
-use Rattle·demands·proofs.proofs.ReadBack.{found-at-once}
+use Rattle.lists.specs.Pick.{Always}
+use Rattle.lists.proofs.Cases.{by-test, pick-told}
+use Rattle.tape.specs.Numbers.{pieces_of, recordLimit}
+use Rattle.tape.specs.Pass.{ahead, badAt, beyond, faultOf, firstMet, isPiece, lowest, metBy, metByUnder, orderMet, passed, passedUnder, piecesMet, piecesMetUnder, recordMet, recordMetUnder}
+use Rattle.tape.specs.Reading.{class_at}
+use Rattle.tape.specs.Sweep.{sweptBelow, sweptBelowUnder, sweptFrom, sweptFromUnder, sweptOn}
+use Rattle.tape.specs.Wrong.{WrongAt}
+use Rattle.tape.specs.declared.BlockFault.{BlockFault}
+use Rattle.tape.specs.declared.BlockFault.TheVariants as fault
+use Rattle.tape.specs.declared.Block.{Block}
+use Rattle.tape.specs.declared.Block.TheVariants as block
+use Rattle.tape.specs.declared.Met.{Met}
+use Rattle.tape.specs.declared.Met.TheVariants as met
+use Rattle.tape.specs.declared.Swept.{Swept}
+use Rattle.tape.specs.declared.Swept.TheVariants as swept
+use Rattle.tape.proofs.Accepted.{clash}
+use Rattle.tape.proofs.Blame.{bad-wrong}
+use Rattle.tape.proofs.Faulted.{wrong-told}
+use Rattle.tape.proofs.Below.{lowest-below}
+use Rattle.tape.proofs.Outcomes.{Outcome, at-end, at-fault, one-at-least, outcome, over-gap, over-mark, over-record}
+use Rattle.tape.proofs.Passes.{first-order, met-record, order_below, passed-by}
+use Rattle.tape.proofs.ReadBlocks.{piece-read}
+use Rattle.tape.proofs.Within.{RecordIn, gap_within, mark-within, pass-onward, pass-within}
+use Rattle.moves.specs.Seeking.{sought}
+use Rattle.moves.specs.declared.seeking.Sought.TheVariants as sought-as
+use Rattle.demands.specs.Faults.{FaultAt, FirstFault, ReadOver, damaged, metAt, not-due, nothing_yet, out-of-place, then-gap, then-mark, then-record}
+use Rattle.demands.proofs.ReadBack.{found-at-once}
 
 -- a block is piece i of a record of n bytes exactly where the test says so
 piece-true : (b : Block) (n i : ℕ) → isPiece b n i ≡ true → b ≡ block.Piece n i
 unfolding isPiece
-piece-true (block.Piece n′ i′) n i h =
-    let t = and-eq-true-iff (eqb n′ n) (eqb i′ i) .0 h in
-    cc (eqb-true n′ n (t .0), eqb-true i′ i (t .1))
+piece-true (block.Piece n' i') n i h =
+    let t = (and-eq-true_iff (eqb n' n) (eqb i' i)).0 h in
+    cc (eqb-true n' n t.0, eqb-true i' i t.1)
 piece-true block.Mark n i h = cc
 piece-true block.Gap n i h = cc
 piece-true (block.Damaged f) n i h = cc
 
-piece-is : (b : Block) (n i : ℕ) → b ≡ block.Piece n i → isPiece b n i ≡ true
+piece_is : (b : Block) (n i : ℕ) → b ≡ block.Piece n i → isPiece b n i ≡ true
 unfolding isPiece
-piece-is b n i h = rw (h, eq-eqb n n refl, eq-eqb i i refl)
+piece_is b n i h = rw (h, eq-eqb n n refl, eq-eqb i i refl)
 
 piece-false : (b : Block) (n i : ℕ) → isPiece b n i ≡ false → b ≡ block.Piece n i → ⊥
-piece-false b n i h y = clash (cc (piece-is b n i y))
+piece-false b n i h y = clash (cc (piece_is b n i y))
 
 piece-not : (b : Block) (n i : ℕ) → (b ≡ block.Piece n i → ⊥) → isPiece b n i ≡ false
 piece-not b n i f = by-test (isPiece b n i) (λ t. absurd (f (piece-true b n i t))) (λ t. t)
@@ -65,47 +65,47 @@ and-next P j f h i l = by-test (eqb i j) (λ t. subst P (sym (eqb-true i j t)) h
 module _ (s : List ℕ) (e : ℕ) (reverse : Bool) (q : ℕ) where
   -- the block met as number j is the piece due there, of a record of n bytes
   abbrev Due : ℕ → ℕ → Type 0
-  Due n j = classAt s (metAt s e reverse q (piecesOf n) j) ≡ block.Piece n (orderMet reverse (piecesOf n) j)
+  Due n j = class_at s (metAt s e reverse q (pieces_of n) j) ≡ block.Piece n (orderMet reverse (pieces_of n) j)
 
   -- a pass that names a block names the first at fault
   abbrev Faulty : Met → Type 0
   Faulty (met.Bad why k) = FaultAt s e reverse q k
-  Faulty (met.Record n q′) = Always
-  Faulty (met.Mark q′) = Always
-  Faulty (met.Gap q′) = Always
+  Faulty (met.Record n q') = Always
+  Faulty (met.Mark q') = Always
+  Faulty (met.Gap q') = Always
   Faulty met.Nothing = Always
 
   -- the pieces before number j were the ones due: the next that is not is the first at fault
-  pieces-faulty : (n j c : ℕ) → piecesOf n ≤ ahead reverse q e → 1 ≤ j → c ≤ piecesOf n - j → ((i : ℕ) → i < j → Due n i)
-      → Faulty (piecesMet s reverse n (lowest reverse q (piecesOf n)) (piecesOf n) j c (met.Record n (beyond reverse q (piecesOf n))))
+  pieces-faulty : (n j c : ℕ) → pieces_of n ≤ ahead reverse q e → 1 ≤ j → c ≤ pieces_of n - j → ((i : ℕ) → i < j → Due n i)
+      → Faulty (piecesMet s reverse n (lowest reverse q (pieces_of n)) (pieces_of n) j c (met.Record n (beyond reverse q (pieces_of n))))
   unfolding piecesMetUnder
   pieces-faulty n j zero fits one all f = tt
   pieces-faulty n j (suc c) fits one all f =
-      let m : ℕ = piecesOf n in
+      let m : ℕ = pieces_of n in
       let i : ℕ = orderMet reverse m j in
-      let b : Block = classAt s (metAt s e reverse q m j) in
+      let b : Block = class_at s (metAt s e reverse q m j) in
       pick-told Faulty (isPiece b n i) _ _
       (λ t. pieces-faulty n (suc j) c fits (omega arith) (omega arith) (and-next (Due n) j f (piece-true b n i t)))
       (λ t. not-due fits one (omega arith) f (piece-false b n i t))
 
   -- a record met at its piece i
-  record-faulty : (n i : ℕ) → 1 ≤ ahead reverse q e → classAt s (firstMet reverse q) ≡ block.Piece n i → Faulty (recordMet s reverse q e n i)
+  record-faulty : (n i : ℕ) → 1 ≤ ahead reverse q e → class_at s (firstMet reverse q) ≡ block.Piece n i → Faulty (recordMet s reverse q e n i)
   unfolding recordMetUnder
   record-faulty n i h c =
-      let m : ℕ = piecesOf n in
+      let m : ℕ = pieces_of n in
       let first : Bool = eqb i (orderMet reverse m 0) in
       let whole : Bool = leb m (ahead reverse q e) in
       pick-told Faulty (first && whole) _ _
       (λ t.
-      let both = and-eq-true-iff first whole .0 t in
-      let fits : m ≤ ahead reverse q e = leb-true m (ahead reverse q e) (both .1) in
-      let some : 1 ≤ m = omega (arith, piece-read s (firstMet reverse q) n i c .0) in
-      let due : Due n 0 = rw (← first-order reverse q e m some fits) (rw (eqb-true i (orderMet reverse m 0) (both .0)) at c) in
+      let both = (and-eq-true_iff first whole).0 t in
+      let fits : m ≤ ahead reverse q e = leb-true m (ahead reverse q e) both.1 in
+      let some : 1 ≤ m = omega (arith, (piece-read s (firstMet reverse q) n i c).0) in
+      let due : Due n 0 = rw (← first-order reverse q e m some fits) (rw (eqb-true i (orderMet reverse m 0) both.0) at c) in
       pieces-faulty n 1 (m - 1) fits (omega arith) (omega arith) (and-next (Due n) 0 (λ i l. absurd (omega arith)) due))
-      (λ t. out-of-place h c (λ a b. clash (cc (t, and-eq-true-iff first whole .1 (eq-eqb i (orderMet reverse m 0) a, le-leb m (ahead reverse q e) b)))))
+      (λ t. out-of-place h c (λ a b. clash (cc (t, (and-eq-true_iff first whole).1 (eq-eqb i (orderMet reverse m 0) a, le-leb m (ahead reverse q e) b)))))
 
   -- whatever the first block met is
-  block-faulty : (b : Block) → 1 ≤ ahead reverse q e → classAt s (firstMet reverse q) ≡ b → Faulty (metBy s reverse q e b)
+  block-faulty : (b : Block) → 1 ≤ ahead reverse q e → class_at s (firstMet reverse q) ≡ b → Faulty (metBy s reverse q e b)
   unfolding metByUnder
   block-faulty (block.Piece n i) h c = record-faulty n i h c
   block-faulty block.Mark h c = tt
@@ -117,30 +117,30 @@ module _ (s : List ℕ) (e : ℕ) (reverse : Bool) (q : ℕ) where
   unfolding passedUnder
   pass-faulty =
       let n : ℕ = ahead reverse q e in
-      pick-told Faulty (eqb n 0) _ _ (λ t. tt) (λ t. block-faulty (classAt s (firstMet reverse q)) (one-at-least n (eqb-false n 0 t)) refl)
+      pick-told Faulty (eqb n 0) _ _ (λ t. tt) (λ t. block-faulty (class_at s (firstMet reverse q)) (one-at-least n (eqb-false n 0 t)) refl)
 
 -- "the first at fault is named"
 pub bad-first : (s : List ℕ) (e : ℕ) (reverse : Bool) (q : ℕ) (why : BlockFault) (k : ℕ) → passed s reverse q e ≡ met.Bad why k → FaultAt s e reverse q k
 bad-first s e reverse q why k y = rw y at (pass-faulty s e reverse q)
 
 -- the blocks ahead lie below the end
-first-below : (reverse : Bool) (q e : ℕ) → q ≤ e → 1 ≤ ahead reverse q e → firstMet reverse q < e
-first-below true q e h k = omega arith
-first-below false q e h k = omega arith
+first_below : (reverse : Bool) (q e : ℕ) → q ≤ e → 1 ≤ ahead reverse q e → firstMet reverse q < e
+first_below true q e h k = omega arith
+first_below false q e h k = omega arith
 
 -- a block at fault lies below the recorded end
 pub bad-below : (s : List ℕ) (e : ℕ) (reverse : Bool) (q k : ℕ) → q ≤ e → FaultAt s e reverse q k → k < e
-bad-below s e reverse q k h (damaged a c) = first-below reverse q e h a
-bad-below s e reverse q k h (out-of-place a c f) = first-below reverse q e h a
+bad-below s e reverse q k h (damaged a c) = first_below reverse q e h a
+bad-below s e reverse q k h (out-of-place a c f) = first_below reverse q e h a
 bad-below s e reverse q k h (not-due {n = n} {j = j} fits one l f g) =
-    omega (arith, lowest-below reverse q e (piecesOf n) h fits, order-below reverse (piecesOf n) j l)
+    omega (arith, lowest-below reverse q e (pieces_of n) h fits, order_below reverse (pieces_of n) j l)
 
 -- what was read over leads to no position beyond the recorded end
-pub over-below : (s : List ℕ) (e : ℕ) (reverse : Bool) {p q : ℕ} → p ≤ e → ReadOver s e reverse p q → q ≤ e
-over-below s e reverse h nothing-yet = h
-over-below s e reverse h (then-record {q = q} o y) = pass-onward s reverse q e (over-below s e reverse h o) y .below
-over-below s e reverse h (then-mark {q = q} o y) = mark-within s reverse q e (over-below s e reverse h o) y .below
-over-below s e reverse h (then-gap {q = q} o y) = gap-within s reverse q e (over-below s e reverse h o) y .below
+pub over_below : (s : List ℕ) (e : ℕ) (reverse : Bool) {p q : ℕ} → p ≤ e → ReadOver s e reverse p q → q ≤ e
+over_below s e reverse h nothing_yet = h
+over_below s e reverse h (then-record {q = q} o y) = (pass-onward s reverse q e (over_below s e reverse h o) y).below
+over_below s e reverse h (then-mark {q = q} o y) = (mark-within s reverse q e (over_below s e reverse h o) y).below
+over_below s e reverse h (then-gap {q = q} o y) = (gap_within s reverse q e (over_below s e reverse h o) y).below
 
 -- the way back from beyond m blocks: they lie ahead, from the same block on, and beyond them is where the way began
 back-ahead : (reverse : Bool) (q e m : ℕ) → q ≤ e → m ≤ ahead reverse q e → m ≤ ahead (not reverse) (beyond reverse q m) e
@@ -164,54 +164,54 @@ module _ (s : List ℕ) (e : ℕ) (reverse : Bool) (q : ℕ) (h : q ≤ e) where
   Back met.Nothing = Always
   Back (met.Bad why k) = Always
 
-  back-by : (x : Met) → Outcome s reverse q e x → Back x
-  back-by x (at-end z y) = rw y tt
-  back-by x (over-record n some most fits all y) =
-      let m : ℕ = piecesOf n in
+  back_by : (x : Met) → Outcome s reverse q e x → Back x
+  back_by x (at-end z y) = rw y tt
+  back_by x (over-record n some most fits all y) =
+      let m : ℕ = pieces_of n in
       let t : ℕ = beyond reverse q m in
       let w : passed s (not reverse) t e ≡ met.Record n (beyond (not reverse) t m) =
       met-record recordLimit s (not reverse) t e n some (back-ahead reverse q e m h fits) (rw (back-lowest reverse q m) all) in
       rw y (rw (back-beyond reverse q e m fits) at w)
-  back-by x (over-mark f c y) = rw y tt
-  back-by x (over-gap f c y) = rw y tt
-  back-by x (at-fault k y) = rw y tt
+  back_by x (over-mark f c y) = rw y tt
+  back_by x (over-gap f c y) = rw y tt
+  back_by x (at-fault k y) = rw y tt
 
   -- the pass back over a record meets it again, and leads to where the pass over it began
   pub pass-back : {n t : ℕ} → passed s reverse q e ≡ met.Record n t → passed s (not reverse) t e ≡ met.Record n q
-  pass-back y = rw y at (back-by (passed s reverse q e) (outcome s reverse q e))
+  pass-back y = rw y at (back_by (passed s reverse q e) (outcome s reverse q e))
 
   -- so a search back finds it at once
   pub sought-back : {n t : ℕ} → passed s reverse q e ≡ met.Record n t → sought s (not reverse) t e ≡ sought-as.Record n q
   sought-back {n = n} {t = t} y =
       let i : RecordIn reverse e n t = pass-within s reverse q e h y in
-      found-at-once s (not reverse) t e n q (omega (arith, i .inside, i .some)) (pass-back y)
+      found-at-once s (not reverse) t e n q (omega (arith, i.inside, i.some)) (pass-back y)
 
 module _ (s : List ℕ) (e : ℕ) (reverse : Bool) (q : ℕ) where
   -- a piece that is not met first, or of a record that is cut off
-  record-cut : (n i : ℕ) → (i ≡ orderMet reverse (piecesOf n) 0 → piecesOf n ≤ ahead reverse q e → ⊥) → recordMet s reverse q e n i ≡ met.Bad fault.Index (firstMet reverse q)
+  record-cut : (n i : ℕ) → (i ≡ orderMet reverse (pieces_of n) 0 → pieces_of n ≤ ahead reverse q e → ⊥) → recordMet s reverse q e n i ≡ met.Bad fault.Index (firstMet reverse q)
   unfolding recordMetUnder
   record-cut n i f =
-      let m : ℕ = piecesOf n in
+      let m : ℕ = pieces_of n in
       let first : Bool = eqb i (orderMet reverse m 0) in
       let whole : Bool = leb m (ahead reverse q e) in
       pick-told (λ x. x ≡ met.Bad fault.Index (firstMet reverse q)) (first && whole) _ _
       (λ t.
-      let both = and-eq-true-iff first whole .0 t in
-      absurd (f (eqb-true i (orderMet reverse m 0) (both .0)) (leb-true m (ahead reverse q e) (both .1))))
+      let both = (and-eq-true_iff first whole).0 t in
+      absurd (f (eqb-true i (orderMet reverse m 0) both.0) (leb-true m (ahead reverse q e) both.1)))
       (λ t. refl)
 
   -- the pieces before number j are the ones due and number j is not: from number i on it is the one named
   pieces-bad : (n j i c : ℕ) (x : Met) → i ≤ j → j < i + c → ((i : ℕ) → i < j → Due s e reverse q n i) → (Due s e reverse q n j → ⊥)
-      → piecesMet s reverse n (lowest reverse q (piecesOf n)) (piecesOf n) i c x ≡ badAt s (metAt s e reverse q (piecesOf n) j)
+      → piecesMet s reverse n (lowest reverse q (pieces_of n)) (pieces_of n) i c x ≡ badAt s (metAt s e reverse q (pieces_of n) j)
   unfolding piecesMetUnder
   pieces-bad n j i zero x h l f g = absurd (omega arith)
   pieces-bad n j i (suc c) x h l f g =
-      let m : ℕ = piecesOf n in
+      let m : ℕ = pieces_of n in
       by-test (eqb i j)
       (λ t. rw (eqb-true i j t, piece-not _ n (orderMet reverse m j) g))
       (λ t.
       let less : i < j = below i j h (eqb-false i j t) in
-      rw (piece-is _ n (orderMet reverse m i) (f i less)) (pieces-bad n j (suc i) c x less (omega arith) f g))
+      rw (piece_is _ n (orderMet reverse m i) (f i less)) (pieces-bad n j (suc i) c x less (omega arith) f g))
 
 -- and the other way: a block at fault in one of the three ways is the one that the pass names
 pub first-bad : (s : List ℕ) (e : ℕ) (reverse : Bool) (q k : ℕ) → FaultAt s e reverse q k → passed s reverse q e ≡ badAt s k
@@ -219,9 +219,9 @@ unfolding metByUnder recordMetUnder faultOf
 first-bad s e reverse q k (damaged {f = f} h c) = passed-by recordLimit s reverse q e (block.Damaged f) h c ∙ rw c
 first-bad s e reverse q k (out-of-place {n = n} {i = i} h c f) = passed-by recordLimit s reverse q e (block.Piece n i) h c ∙ record-cut s e reverse q n i f ∙ rw c
 first-bad s e reverse q k (not-due {n = n} {j = j} fits one l f g) =
-    let m : ℕ = piecesOf n in
+    let m : ℕ = pieces_of n in
     let i : ℕ = orderMet reverse m 0 in
-    let c : classAt s (firstMet reverse q) ≡ block.Piece n i = rw (first-order reverse q e m (omega arith) fits) (f 0 one) in
+    let c : class_at s (firstMet reverse q) ≡ block.Piece n i = rw (first-order reverse q e m (omega arith) fits) (f 0 one) in
     passed-by recordLimit s reverse q e (block.Piece n i) (omega arith) c
     ∙ rw (eq-eqb i i refl, le-leb m (ahead reverse q e) fits) (pieces-bad s e reverse q n j 1 (m - 1) _ one (omega arith) f g)
 
@@ -231,7 +231,7 @@ module _ (s : List ℕ) (e : ℕ) (reverse : Bool) where
   pub first-here : {p q : ℕ} {why : BlockFault} {k : ℕ} → p ≤ e → ReadOver s e reverse p q → passed s reverse q e ≡ met.Bad why k → FirstFault s e reverse p why k
   first-here {q = q} {why = why} {k = k} h o y =
       let f : FaultAt s e reverse q k = bad-first s e reverse q why k y in
-      record { from = q; before = o; fault = f; below = bad-below s e reverse q k (over-below s e reverse h o) f; wrong = bad-wrong s reverse q e y }
+      record { from = q; before = o; fault = f; below = bad-below s e reverse q k (over_below s e reverse h o) f; wrong = bad-wrong s reverse q e y }
 
   -- where a pass over a whole object led
   abbrev Leads : Met → ℕ → Type 0
@@ -241,35 +241,35 @@ module _ (s : List ℕ) (e : ℕ) (reverse : Bool) where
   Leads met.Nothing t = ⊥
   Leads (met.Bad why k) t = ⊥
 
-  one-way : (x : Met) {t t₂ : ℕ} → Leads x t → Leads x t₂ → t ≡ t₂
-  one-way (met.Record n q) a b = sym a ∙ b
-  one-way (met.Mark q) a b = sym a ∙ b
-  one-way (met.Gap q) a b = sym a ∙ b
-  one-way met.Nothing a b = absurd a
-  one-way (met.Bad why k) a b = absurd a
+  one_way : (x : Met) {t t₂ : ℕ} → Leads x t → Leads x t₂ → t ≡ t₂
+  one_way (met.Record n q) a b = sym a ∙ b
+  one_way (met.Mark q) a b = sym a ∙ b
+  one_way (met.Gap q) a b = sym a ∙ b
+  one_way met.Nothing a b = absurd a
+  one_way (met.Bad why k) a b = absurd a
 
   -- block k is the one named ahead of a position: by the pass from there, or further on, from where that pass leads
   data NamedAhead (why : BlockFault) (k : ℕ) : ℕ → Type 0 where
-    at-once : {q : ℕ} → passed s reverse q e ≡ met.Bad why k → NamedAhead why k q
+    at_once : {q : ℕ} → passed s reverse q e ≡ met.Bad why k → NamedAhead why k q
     further : {q t : ℕ} → Leads (passed s reverse q e) t → NamedAhead why k t → NamedAhead why k q
 
   -- behind what was read over too, an object at a time
   named-behind : {p q : ℕ} {why : BlockFault} {k : ℕ} → ReadOver s e reverse p q → NamedAhead why k q → NamedAhead why k p
-  named-behind nothing-yet a = a
+  named-behind nothing_yet a = a
   named-behind (then-record o y) a = named-behind o (further (rw y refl) a)
   named-behind (then-mark o y) a = named-behind o (further (rw y refl) a)
   named-behind (then-gap o y) a = named-behind o (further (rw y refl) a)
 
   first-named : {p : ℕ} {why : BlockFault} {k : ℕ} → FirstFault s e reverse p why k → NamedAhead why k p
   first-named {why = why} {k = k} f =
-      named-behind (f .before) (at-once (first-bad s e reverse (f .from) k (f .fault) ∙ ap (λ (g : BlockFault). met.Bad g k) (wrong-told s k why (f .wrong))))
+      named-behind f.before (at_once (first-bad s e reverse f.from k f.fault ∙ ap (λ (g : BlockFault). met.Bad g k) (wrong-told s k why f.wrong)))
 
   -- a pass from one position has one outcome
   one-named : {q : ℕ} {why why₂ : BlockFault} {k k₂ : ℕ} → NamedAhead why k q → NamedAhead why₂ k₂ q → (why ≡ why₂) × (k ≡ k₂)
-  one-named (at-once y) (at-once z) = (cc (y, z), cc (y, z))
-  one-named (at-once y) (further l b) = absurd (rw y at l)
-  one-named (further l a) (at-once z) = absurd (rw z at l)
-  one-named {q = q} {why₂ = why₂} {k₂ = k₂} (further l a) (further l₂ b) = one-named a (subst (NamedAhead why₂ k₂) (one-way (passed s reverse q e) l₂ l) b)
+  one-named (at_once y) (at_once z) = (cc (y, z), cc (y, z))
+  one-named (at_once y) (further l b) = absurd (rw y at l)
+  one-named (further l a) (at_once z) = absurd (rw z at l)
+  one-named {q = q} {why₂ = why₂} {k₂ = k₂} (further l a) (further l₂ b) = one-named a (subst (NamedAhead why₂ k₂) (one_way (passed s reverse q e) l₂ l) b)
 
   -- one block only is the first at fault that lies ahead of p, and one fault is what is wrong with it
   pub first-unique : {p : ℕ} {why why₂ : BlockFault} {k k₂ : ℕ} → FirstFault s e reverse p why k → FirstFault s e reverse p why₂ k₂ → (why ≡ why₂) × (k ≡ k₂)
@@ -299,4 +299,4 @@ module _ (s : List ℕ) (e : ℕ) where
   -- "Mount reads every block below the end it is given": the sweep names the first block at fault
   pub swept-first : (why : BlockFault) (k : ℕ) → sweptBelow s e ≡ swept.Bad why k → FirstFault s e false 0 why k
   unfolding sweptBelowUnder
-  swept-first why k y = rw y at (swept-from e 0 nothing-yet)
+  swept-first why k y = rw y at (swept-from e 0 nothing_yet)

@@ -1,97 +1,92 @@
 -- "Done plus residual equals the count asked": what was really stored in memory, or passed on the reel, and the residual word that stands in
 -- the message buffer. (01, "The message": "The residual counts bytes for Read, records or marks for Position modes 0 to 3 .. Ended at steps 8
 -- to 10 they give the whole count")
-use mathlib.Core.Bool.{Bool, true, false, _&&_, not}
-use mathlib.Core.List.{List, []}
-use mathlib.Core.Path.{_≡_}
-use Prim.Native.Nat.{ℕ, _+_, _*_, _/_, _<_, _≤_}
-use lib.Dec.{eqb, leb, ltb}
-use lib.ListN.{length}
-use Rattle·lists.specs.Pick.{pick}
-use Rattle·lists.specs.Places.{placed}
-use Rattle·lists.specs.Words.{wordAt}
-use Rattle·tape.specs.Bytes.{movedBytes, movedTo, recordBytes}
-use Rattle·tape.specs.Numbers.{piecesOf}
-use Rattle·tape.specs.Pass.{ahead, lowest, passed}
-use Rattle·tape.specs.declared.Met.the-variants as met
-use Rattle·signals.specs.Bits.{OPI, REV, RIB, RLL, RLS, TMK}
-use Rattle·signals.specs.Message.{flagOf, messageBytes, messaged}
-use Rattle·state.specs.declared.Unit.{Unit}
-use Rattle·advance.specs.Rules.{hasExtent, reverseFirst}
-use Rattle·advance.specs.Steps.{advanced}
-use Rattle·demands·specs.specs.Faults.{ReadOver, nothing-yet, then-gap, then-mark, then-record}
-use Rattle·demands·specs.specs.Ways.{Runs, header, packet}
+use Rattle.std.specs.Prelude.{Bool, true, false, ◌&&◌, not, List, [], ◌≡◌, ℕ, ◌+◌, ◌*◌, ◌/◌, ◌<◌, ◌≤◌, eqb, leb, ltb, length}
+use Rattle.lists.specs.Pick.{pick}
+use Rattle.lists.specs.Places.{placed}
+use Rattle.lists.specs.Words.{word_at}
+use Rattle.tape.specs.Bytes.{movedBytes, moved_to, recordBytes}
+use Rattle.tape.specs.Numbers.{pieces_of}
+use Rattle.tape.specs.Pass.{ahead, lowest, passed}
+use Rattle.tape.specs.declared.Met.TheVariants as met
+use Rattle.signals.specs.Bits.{OPI, REV, RIB, RLL, RLS, TMK}
+use Rattle.signals.specs.Message.{flagOf, messageBytes, messaged}
+use Rattle.state.specs.declared.Unit.{Unit}
+use Rattle.advance.specs.Rules.{hasExtent, reverseFirst}
+use Rattle.advance.specs.Steps.{advanced}
+use Rattle.demands.specs.Faults.{ReadOver, nothing_yet, then-gap, then-mark, then-record}
+use Rattle.demands.specs.Ways.{Runs, header, packet}
 
 -- how many records, or how many marks, were read over
 unfoldable pub passedIn : {s : List ℕ} {e : ℕ} {reverse : Bool} {p q : ℕ} → Bool → ReadOver s e reverse p q → ℕ
-passedIn marks nothing-yet = 0
+passedIn marks nothing_yet = 0
 passedIn marks (then-record r x) = passedIn marks r + pick marks 0 1
 passedIn marks (then-mark r x) = passedIn marks r + pick marks 1 0
 passedIn marks (then-gap r x) = passedIn marks r
 
 -- word k of the message that stands in memory m, in the message buffer of the state u
 abbrev pub sentWord : Unit → List ℕ → ℕ → ℕ
-sentWord u m k = wordAt m (u .characteristics .address + 2 * k)
+sentWord u m k = word_at m (u.characteristics.address + 2 * k)
 
 -- an advance of the state u over memory m and reel s
 module _ (u : Unit) (m s : List ℕ) where
   -- its message goes out, into a buffer inside memory
   pub record Sent : Type 0 where
-    pub sends : advanced u m s .sends ≡ true
-    pub inside : advanced u m s .unit .characteristics .address + messageBytes ≤ length m
+    pub sends : (advanced u m s).sends ≡ true
+    pub inside : (advanced u m s).unit.characteristics.address + messageBytes ≤ length m
 
   -- the way of the first stage, and what lies ahead of the tape this way: nothing but gaps between its position and q
   abbrev pub way : Bool
   way = reverseFirst (header u m s)
 
   pub data Gapped : ℕ → Type 0 where
-    at-once : Gapped (u .tape .position)
-    behind-gap : {q q′ : ℕ} → Gapped q → passed s way q (u .tape .end) ≡ met.Gap q′ → Gapped q′
+    at_once : Gapped u.tape.position
+    behind-gap : {q q' : ℕ} → Gapped q → passed s way q u.tape.end ≡ met.Gap q' → Gapped q'
 
   -- a reread's read goes the other way unless OPP puts it first, and leaves the tape at the edge of the record that is met first
   abbrev pub again : Bool
-  again = leb 2 (header u m s .mode)
+  again = leb 2 (header u m s).mode
 
   abbrev pub reads : Bool
-  reads = pick (again && not (header u m s .opp)) (not way) way
+  reads = pick (again && not (header u m s).opp) (not way) way
 
   -- steps 8 to 10 let the command pass
   abbrev pub RunsOn : Type 0
-  RunsOn = Runs u m s × ((hasExtent (header u m s) && ltb (length m) (packet u m s .pointer + packet u m s .count)) ≡ false)
+  RunsOn = Runs u m s × ((hasExtent (header u m s) && ltb (length m) ((packet u m s).pointer + (packet u m s).count)) ≡ false)
 
   -- how a Read whose packet was fetched ends: the bytes that it stores, its class, what XST0 shows above its low byte, XST3, the position after it
   pub data ReadStops : List ℕ → ℕ → ℕ → ℕ → ℕ → Type 0 where
     -- ended at steps 8 to 10
-    not-run : {class found : ℕ} → (RunsOn → ⊥) → ReadStops [] class found 0 (u .tape .position)
+    not-run : {class found : ℕ} → (RunsOn → ⊥) → ReadStops [] class found 0 u.tape.position
     -- "A mark: TMK, RLS, class 2, position past it, nothing moved."
-    at-mark : {q q′ : ℕ} → RunsOn → Gapped q → passed s way q (u .tape .end) ≡ met.Mark q′ → ReadStops [] 2 (TMK + RLS) (flagOf way REV) q′
+    at_mark : {q q' : ℕ} → RunsOn → Gapped q → passed s way q u.tape.end ≡ met.Mark q' → ReadStops [] 2 (TMK + RLS) (flagOf way REV) q'
     -- "Forward at the recorded end: OPI, class 6. Reverse to block 0 with no further record or mark: RIB, class 2, position 0."
-    at-end : {q : ℕ} → RunsOn → Gapped q → ahead way q (u .tape .end) ≡ 0 → ReadStops [] (pick way 2 6) 0 (pick way (REV + RIB) OPI) q
+    at-end : {q : ℕ} → RunsOn → Gapped q → ahead way q u.tape.end ≡ 0 → ReadStops [] (pick way 2 6) 0 (pick way (REV + RIB) OPI) q
     -- "Record longer than the count: RLL; shorter: RLS; class 2": the first record that lies ahead
-    at-record : {q q′ n : ℕ} → RunsOn → Gapped q → passed s way q (u .tape .end) ≡ met.Record n q′
-        → ReadStops (movedBytes reads (packet u m s .count) (recordBytes s (lowest way q (piecesOf n)) n)) (pick (eqb n (packet u m s .count)) 0 2)
-        (flagOf (ltb n (packet u m s .count)) RLS + flagOf (ltb (packet u m s .count) n) RLL)
+    at-record : {q q' n : ℕ} → RunsOn → Gapped q → passed s way q u.tape.end ≡ met.Record n q'
+        → ReadStops (movedBytes reads (packet u m s).count (recordBytes s (lowest way q (pieces_of n)) n)) (pick (eqb n (packet u m s).count) 0 2)
+        (flagOf (ltb n (packet u m s).count) RLS + flagOf (ltb (packet u m s).count n) RLL)
         (flagOf (pick again (not way) way) REV)
-        (pick again q q′)
+        (pick again q q')
 
-  -- the advance left the state u′ and the memory m′
-  module _ (u′ : Unit) (m′ : List ℕ) where
+  -- the advance left the state u' and the memory m'
+  module _ (u' : Unit) (m' : List ℕ) where
     -- of a Read: the bytes stored at their place in the buffer asked (by addresses, before SWB flips them), with the message's seven words over
     -- them; as many as the count but for the residual that is sent
     pub record ReadDone : Type 0 where
       pub stored : List ℕ
       pub found : ℕ
-      pub ends : ReadStops stored (u′ .registers .class) found (sentWord u′ m′ 6) (u′ .tape .position)
-      pub shown : sentWord u′ m′ 3 / 256 * 256 ≡ found
+      pub ends : ReadStops stored u'.registers.class found (sentWord u' m' 6) u'.tape.position
+      pub shown : sentWord u' m' 3 / 256 * 256 ≡ found
       pub place : ℕ
-      pub filled : place ≡ movedTo reads (packet u m s .pointer) (packet u m s .count) (length stored)
-      pub within : (i : ℕ) → i < length stored → (packet u m s .pointer ≤ place + i) × (place + i < packet u m s .pointer + packet u m s .count) × (place + i < length m)
+      pub filled : place ≡ moved_to reads (packet u m s).pointer (packet u m s).count (length stored)
+      pub within : (i : ℕ) → i < length stored → ((packet u m s).pointer ≤ place + i) × (place + i < (packet u m s).pointer + (packet u m s).count) × (place + i < length m)
       pub message : List ℕ
       pub seven : length message ≡ 7
-      pub memory : m′ ≡ messaged (placed (header u m s .swb) m place stored) (u′ .characteristics .address) message
-      pub counted : length stored + sentWord u′ m′ 2 ≡ packet u m s .count
+      pub memory : m' ≡ messaged (placed (header u m s).swb m place stored) u'.characteristics.address message
+      pub counted : length stored + sentWord u' m' 2 ≡ (packet u m s).count
 
     -- of a Position mode 0 to 3: the objects read over, from the position before to the one after; those that count and the residual that is sent
     pub record SpaceDone : Type 0 where
-      pub over : ReadOver s (u .tape .end) (reverseFirst (header u m s)) (u .tape .position) (u′ .tape .position)
-      pub counted : passedIn (leb 2 (header u m s .mode)) over + sentWord u′ m′ 2 ≡ packet u m s .count
+      pub over : ReadOver s u.tape.end (reverseFirst (header u m s)) u.tape.position u'.tape.position
+      pub counted : passedIn (leb 2 (header u m s).mode) over + sentWord u' m' 2 ≡ (packet u m s).count

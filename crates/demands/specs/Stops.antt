@@ -2,36 +2,32 @@
 -- Marks: TMK if one was passed. In Marks with ESS two marks with no record between them in one command, or with ENB too a mark met first from
 -- block 0, end it, that mark counted: LET, class 2. In Records and Marks alike, RLS if BOT or LET left any count." "Forward at the recorded end:
 -- OPI, class 6. Reverse to block 0 with no further record or mark: RIB, class 2, position 0." (01, Commands)
-use mathlib.Core.Bool.{Bool, true, false, _&&_, not}
-use mathlib.Core.List.{List}
-use mathlib.Core.Path.{_≡_}
-use Prim.Native.Nat.{ℕ, _+_, _<_}
-use lib.Dec.{eqb}
-use Rattle·tape.specs.Pass.{ahead, passed}
-use Rattle·tape.specs.declared.Met.the-variants as met
-use Rattle·tape.specs.declared.BlockFault.{BlockFault}
-use Rattle·signals.specs.Bits.{LET, OPI, REV, RIB, RLS, TMK}
-use Rattle·signals.specs.Message.{flagOf}
-use Rattle·signals.specs.Residuals.{residualWord}
-use Rattle·state.specs.declared.Tape.{Tape}
-use Rattle·motions.specs.declared.parts.Ending.{Ending}
-use Rattle·moves.specs.Counting.{howMany, ofMarks}
-use Rattle·moves.specs.declared.spacing.Count.{Count}
-use Rattle·moves.specs.declared.spacing.Rule.{Rule}
-use Rattle·demands·specs.specs.Done.{passedIn}
-use Rattle·demands·specs.specs.Faults.{ReadOver, nothing-yet, then-gap, then-mark, then-record}
+use Rattle.std.specs.Prelude.{Bool, true, false, ◌&&◌, not, List, ◌≡◌, ℕ, ◌+◌, ◌<◌, eqb}
+use Rattle.tape.specs.Pass.{ahead, passed}
+use Rattle.tape.specs.declared.Met.TheVariants as met
+use Rattle.tape.specs.declared.BlockFault.{BlockFault}
+use Rattle.signals.specs.Bits.{LET, OPI, REV, RIB, RLS, TMK}
+use Rattle.signals.specs.Message.{flagOf}
+use Rattle.signals.specs.Residuals.{residualWord}
+use Rattle.state.specs.declared.Tape.{Tape}
+use Rattle.motions.specs.declared.parts.Ending.{Ending}
+use Rattle.moves.specs.Counting.{howMany, ofMarks}
+use Rattle.moves.specs.declared.spacing.Count.{Count}
+use Rattle.moves.specs.declared.spacing.Rule.{Rule}
+use Rattle.demands.specs.Done.{passedIn}
+use Rattle.demands.specs.Faults.{ReadOver, nothing_yet, then-gap, then-mark, then-record}
 
 module _ {s : List ℕ} {e : ℕ} {reverse : Bool} {p : ℕ} where
   -- was a mark read over?
   unfoldable pub markPassed : {q : ℕ} → ReadOver s e reverse p q → Bool
-  markPassed nothing-yet = false
+  markPassed nothing_yet = false
   markPassed (then-record r x) = markPassed r
   markPassed (then-mark r x) = true
   markPassed (then-gap r x) = markPassed r
 
   -- no record was read over since the last mark; `first` says whether the start counts as a mark
   unfoldable pub sinceMark : {q : ℕ} → Bool → ReadOver s e reverse p q → Bool
-  sinceMark first nothing-yet = first
+  sinceMark first nothing_yet = first
   sinceMark first (then-record r x) = false
   sinceMark first (then-mark r x) = true
   sinceMark first (then-gap r x) = sinceMark first r
@@ -39,41 +35,41 @@ module _ {s : List ℕ} {e : ℕ} {reverse : Bool} {p : ℕ} where
   -- each object was read over with some of the count left, and no mark that ends the command: none at all where records are counted, with ESS no
   -- second in a row
   pub data Goes (rule : Rule) (count : Count) (first : Bool) : (q : ℕ) → ReadOver s e reverse p q → Type 0 where
-    from-start : Goes rule count first p nothing-yet
-    past-record : {q q′ n : ℕ} {r : ReadOver s e reverse p q} {x : passed s reverse q e ≡ met.Record n q′} → passedIn (ofMarks count) r < howMany count
-        → Goes rule count first q r → Goes rule count first q′ (then-record r x)
-    past-gap : {q q′ : ℕ} {r : ReadOver s e reverse p q} {x : passed s reverse q e ≡ met.Gap q′} → passedIn (ofMarks count) r < howMany count
-        → Goes rule count first q r → Goes rule count first q′ (then-gap r x)
-    past-mark : {q q′ : ℕ} {r : ReadOver s e reverse p q} {x : passed s reverse q e ≡ met.Mark q′} → passedIn (ofMarks count) r < howMany count
-        → ofMarks count ≡ true → (rule .ess && sinceMark first r) ≡ false → Goes rule count first q r → Goes rule count first q′ (then-mark r x)
+    from_start : Goes rule count first p nothing_yet
+    past-record : {q q' n : ℕ} {r : ReadOver s e reverse p q} {x : passed s reverse q e ≡ met.Record n q'} → passedIn (ofMarks count) r < howMany count
+        → Goes rule count first q r → Goes rule count first q' (then-record r x)
+    past-gap : {q q' : ℕ} {r : ReadOver s e reverse p q} {x : passed s reverse q e ≡ met.Gap q'} → passedIn (ofMarks count) r < howMany count
+        → Goes rule count first q r → Goes rule count first q' (then-gap r x)
+    past-mark : {q q' : ℕ} {r : ReadOver s e reverse p q} {x : passed s reverse q e ≡ met.Mark q'} → passedIn (ofMarks count) r < howMany count
+        → ofMarks count ≡ true → (rule.ess && sinceMark first r) ≡ false → Goes rule count first q r → Goes rule count first q' (then-mark r x)
 
 -- of a Position by the rule r with this count from the tape t on the reel s: the objects read over, and its class, XST0's upper bits and XST3. `left`
 -- is the residual
 module _ (s : List ℕ) (t : Tape) (rule : Rule) (count : Count) (first : Bool) where
   abbrev pub Over : ℕ → Type 0
-  Over q = ReadOver s (t .end) (rule .reverse) (t .position) q
+  Over q = ReadOver s t.end rule.reverse t.position q
 
   pub data Stopped (left : ℕ) : (q : ℕ) → Over q → ℕ → ℕ → ℕ → Type 0 where
     -- the count is satisfied, by the object read over last
-    satisfied : {q : ℕ} {r : Over q} → Goes rule count first q r → left ≡ 0 → Stopped left q r 0 (flagOf (markPassed r) TMK) (flagOf (rule .reverse) REV)
+    satisfied : {q : ℕ} {r : Over q} → Goes rule count first q r → left ≡ 0 → Stopped left q r 0 (flagOf (markPassed r) TMK) (flagOf rule.reverse REV)
     -- records, and a mark
-    by-mark : {q q′ : ℕ} {r : Over q} {x : passed s (rule .reverse) q (t .end) ≡ met.Mark q′} → Goes rule count first q r → passedIn (ofMarks count) r < howMany count → ofMarks count ≡ false
-        → Stopped left q′ (then-mark r x) 2 (TMK + RLS) (flagOf (rule .reverse) REV)
+    by-mark : {q q' : ℕ} {r : Over q} {x : passed s rule.reverse q t.end ≡ met.Mark q'} → Goes rule count first q r → passedIn (ofMarks count) r < howMany count → ofMarks count ≡ false
+        → Stopped left q' (then-mark r x) 2 (TMK + RLS) (flagOf rule.reverse REV)
     -- marks, and the second in a row
-    at-logical-end : {q q′ : ℕ} {r : Over q} {x : passed s (rule .reverse) q (t .end) ≡ met.Mark q′} → Goes rule count first q r → passedIn (ofMarks count) r < howMany count
-        → ofMarks count ≡ true → (rule .ess && sinceMark first r) ≡ true
-        → Stopped left q′ (then-mark r x) 2 (TMK + LET + flagOf (not (eqb left 0)) RLS) (flagOf (rule .reverse) REV)
+    at-logical-end : {q q' : ℕ} {r : Over q} {x : passed s rule.reverse q t.end ≡ met.Mark q'} → Goes rule count first q r → passedIn (ofMarks count) r < howMany count
+        → ofMarks count ≡ true → (rule.ess && sinceMark first r) ≡ true
+        → Stopped left q' (then-mark r x) 2 (TMK + LET + flagOf (not (eqb left 0)) RLS) (flagOf rule.reverse REV)
     -- some of the count is left and nothing lies ahead, in reverse and forward
-    at-bot : {q : ℕ} {r : Over q} → Goes rule count first q r → passedIn (ofMarks count) r < howMany count → rule .reverse ≡ true → ahead true q (t .end) ≡ 0
+    at-bot : {q : ℕ} {r : Over q} → Goes rule count first q r → passedIn (ofMarks count) r < howMany count → rule.reverse ≡ true → ahead true q t.end ≡ 0
         → Stopped left q r 2 (flagOf (markPassed r) TMK + flagOf (not (eqb left 0)) RLS) (REV + RIB)
-    at-recorded-end : {q : ℕ} {r : Over q} → Goes rule count first q r → passedIn (ofMarks count) r < howMany count → rule .reverse ≡ false → ahead false q (t .end) ≡ 0
+    at-recorded-end : {q : ℕ} {r : Over q} → Goes rule count first q r → passedIn (ofMarks count) r < howMany count → rule.reverse ≡ false → ahead false q t.end ≡ 0
         → Stopped left q r 6 (flagOf (markPassed r) TMK) OPI
 
   -- how such a motion ended
   pub record SpaceEnded (x : Ending) : Type 0 where
-    pub over : Over (x .tape .position)
-    pub counted : passedIn (ofMarks count) over + residualWord (x .end .residual) ≡ howMany count
-    pub why : Stopped (residualWord (x .end .residual)) (x .tape .position) over (x .end .class) (x .end .found) (x .end .xst3)
+    pub over : Over x.tape.position
+    pub counted : passedIn (ofMarks count) over + residualWord x.end.residual ≡ howMany count
+    pub why : Stopped (residualWord x.end.residual) x.tape.position over x.end.class x.end.found x.end.xst3
 
   -- block k refuses it: with some of the count left it has to be read, behind what was read over
   pub record SpaceRefused (why : BlockFault) (k : ℕ) : Type 0 where
@@ -81,4 +77,4 @@ module _ (s : List ℕ) (t : Tape) (rule : Rule) (count : Count) (first : Bool) 
     pub over : Over from
     pub goes : Goes rule count first from over
     pub more : passedIn (ofMarks count) over < howMany count
-    pub bad : passed s (rule .reverse) from (t .end) ≡ met.Bad why k
+    pub bad : passed s rule.reverse from t.end ≡ met.Bad why k

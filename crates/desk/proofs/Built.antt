@@ -1,26 +1,26 @@
 -- Laws of the bytes that lines put into memory and reel: for each way that a function returns, its answer and what is stored.
-use mathlib.Core.Path.{_≡_, refl, sym, ap, _∙_}
+use mathlib.Core.Path.{◌≡◌, refl, sym, ap, ◌∙◌}
 use mathlib.Core.Bool.{Bool, true, false}
 use mathlib.Core.List.{List}
-use Prim.Native.Nat.{ℕ, _+_, _-_, _*_, _/_, _%_, _≤_, _<_}
+use Prim.Native.Nat.{ℕ, ◌+◌, ◌-◌, ◌*◌, ◌/◌, ◌%◌, ◌≤◌, ◌<◌}
 use native.Mathlib.Omega.{arith}
-use borrow.Author.Tests.{eq-eqb, ne-eqb, le-leb, lt-leb, le-ltb, lt-ltb}
-use borrow.Rule.Slice.PartMut.{putMid}
+use borrow.Author.Tests.{eq-eqb, ne_eqb, le-leb, lt-leb, le-ltb, lt-ltb}
+use borrow.Rule.Slice.PartMut.{put_mid}
 use lib.ListN.{length, take, drop}
-use lib.Seq.{sets, take-all, take-take}
-use Rattle·lists.specs.Places.{gathered}
-use Rattle·lists.specs.Words.{wordBytes, wordSum}
-use Rattle·lists.proofs.Placed.{gathered-plain}
-use Rattle·tape.specs.Layout.{checkOf}
-use Rattle·tape.specs.Numbers.{blockBytes, checkModulus, piecesOf, summedBytes}
-use Rattle·tape.specs.Objects.{Object}
-use Rattle·script.specs.Fills.{copied}
-use Rattle·script.specs.declared.Fault.{Fault}
-use Rattle·script.specs.declared.Fault.the-variants as fault
-use Rattle·script.specs.declared.Value.{Value}
-use Rattle·script.specs.declared.Value.the-variants as value
-use Rattle·script.proofs.Filled.{copied-part}
-use Rattle·desk·specs.specs.Builds.{blockAnswer, checkBytes, checkPlace, ifTaken, laidAt, pokeAnswer, recordAnswer, wordAnswer}
+use lib.Seq.{sets, take_all, take-take}
+use Rattle.lists.specs.Places.{gathered}
+use Rattle.lists.specs.Words.{word_bytes, wordSum}
+use Rattle.lists.proofs.Placed.{gathered-plain}
+use Rattle.tape.specs.Layout.{checkOf}
+use Rattle.tape.specs.Numbers.{blockBytes, checkModulus, pieces_of, summedBytes}
+use Rattle.tape.specs.Objects.{Object}
+use Rattle.script.specs.Fills.{copied}
+use Rattle.script.specs.declared.Fault.{Fault}
+use Rattle.script.specs.declared.Fault.TheVariants as fault
+use Rattle.script.specs.declared.Value.{Value}
+use Rattle.script.specs.declared.Value.TheVariants as value
+use Rattle.script.proofs.Filled.{copied-part}
+use Rattle.desk.specs.Builds.{blockAnswer, checkBytes, checkPlace, ifTaken, laidAt, pokeAnswer, recordAnswer, wordAnswer}
 
 -- an answer r and what is left, g, where the answer has to be v and a line that is taken leaves `new`
 abbrev pub Leaving : Value → List ℕ → Value → List ℕ → List ℕ → Type 0
@@ -31,10 +31,10 @@ module _ (b d : List ℕ) (at p : ℕ) (f : Fault) where
   unfolding pokeAnswer
   poke-not h = (rw (lt-leb (at + length d) (length b) h), rw (lt-leb (at + length d) (length b) h))
 
-  pub poke-done : (g : List ℕ) → at + length d ≤ length b → g ≡ copied (take (length b - at) (drop at b)) d → Leaving (value.Is p) (putMid at (length b - at) b g) (pokeAnswer (length b) at (length d) p f) (sets b at d) b
+  pub poke-done : (g : List ℕ) → at + length d ≤ length b → g ≡ copied (take (length b - at) (drop at b)) d → Leaving (value.Is p) (put_mid at (length b - at) b g) (pokeAnswer (length b) at (length d) p f) (sets b at d) b
   unfolding pokeAnswer
   poke-done g h e =
-      let t : take (length b - at) d ≡ d = take-all (length b - at) d (omega arith) in
+      let t : take (length b - at) d ≡ d = take_all (length b - at) d (omega arith) in
       (rw (le-leb (at + length d) (length b) h), rw (le-leb (at + length d) (length b) h) (copied-part b d g at (omega arith) e ∙ ap (sets b at) t))
 
 module _ (m g : List ℕ) (at w p : ℕ) where
@@ -65,8 +65,8 @@ unfolding checkOf
 check-is m n l sum h e = ap (λ (x : ℕ). x % checkModulus) (e ∙ ap wordSum (take-take m n l h))
 
 -- the check word of a block, out of the block lent as a part
-pub check-put : (s o : List ℕ) (k sum : ℕ) → sum ≡ wordSum (take summedBytes (take (blockBytes * k + blockBytes - blockBytes * k) (drop (blockBytes * k) s))) → o ≡ sets s (blockBytes * k + summedBytes) (wordBytes (sum % checkModulus)) → o ≡ sets s (checkPlace k) (checkBytes s k)
-check-put s o k sum e f = f ∙ ap (λ (x : ℕ). sets s (checkPlace k) (wordBytes x)) (check-is summedBytes (blockBytes * k + blockBytes - blockBytes * k) (drop (blockBytes * k) s) sum (omega arith) e)
+pub check-put : (s o : List ℕ) (k sum : ℕ) → sum ≡ wordSum (take summedBytes (take (blockBytes * k + blockBytes - blockBytes * k) (drop (blockBytes * k) s))) → o ≡ sets s (blockBytes * k + summedBytes) (word_bytes (sum % checkModulus)) → o ≡ sets s (checkPlace k) (checkBytes s k)
+check-put s o k sum e f = f ∙ ap (λ (x : ℕ). sets s (checkPlace k) (word_bytes x)) (check-is summedBytes (blockBytes * k + blockBytes - blockBytes * k) (drop (blockBytes * k) s) sum (omega arith) e)
 
 -- a record
 module _ (s d g : List ℕ) (p n : ℕ) where
@@ -83,16 +83,16 @@ module _ (s d g : List ℕ) (p n : ℕ) where
 
   pub record-odd : n ≤ 65535 → n ≤ length d → (length d % 2 ≡ 0 → ⊥) → Recorded (value.Wrong fault.BeyondBuffers) s
   unfolding recordAnswer
-  record-odd h k l = (rw (le-ltb 65535 n h, le-ltb (length d) n k, ne-eqb (length d % 2) 0 l), rw (le-ltb 65535 n h, le-ltb (length d) n k, ne-eqb (length d % 2) 0 l))
+  record-odd h k l = (rw (le-ltb 65535 n h, le-ltb (length d) n k, ne_eqb (length d % 2) 0 l), rw (le-ltb 65535 n h, le-ltb (length d) n k, ne_eqb (length d % 2) 0 l))
 
-  pub record-out : n ≤ 65535 → n ≤ length d → length d % 2 ≡ 0 → length s / blockBytes < p + piecesOf n → Recorded (value.Wrong fault.OutsideReel) s
+  pub record-out : n ≤ 65535 → n ≤ length d → length d % 2 ≡ 0 → length s / blockBytes < p + pieces_of n → Recorded (value.Wrong fault.OutsideReel) s
   unfolding recordAnswer
-  record-out h k l m = (rw (le-ltb 65535 n h, le-ltb (length d) n k, eq-eqb (length d % 2) 0 l, lt-leb (p + piecesOf n) (length s / blockBytes) m), rw (le-ltb 65535 n h, le-ltb (length d) n k, eq-eqb (length d % 2) 0 l, lt-leb (p + piecesOf n) (length s / blockBytes) m))
+  record-out h k l m = (rw (le-ltb 65535 n h, le-ltb (length d) n k, eq-eqb (length d % 2) 0 l, lt-leb (p + pieces_of n) (length s / blockBytes) m), rw (le-ltb 65535 n h, le-ltb (length d) n k, eq-eqb (length d % 2) 0 l, lt-leb (p + pieces_of n) (length s / blockBytes) m))
 
-  pub record-done : (o : List ℕ) → n ≤ 65535 → n ≤ length d → length d % 2 ≡ 0 → p + piecesOf n ≤ length s / blockBytes → o ≡ g → Recorded (value.Is (p + piecesOf n)) o
+  pub record-done : (o : List ℕ) → n ≤ 65535 → n ≤ length d → length d % 2 ≡ 0 → p + pieces_of n ≤ length s / blockBytes → o ≡ g → Recorded (value.Is (p + pieces_of n)) o
   unfolding recordAnswer
-  record-done o h k l m e = (rw (le-ltb 65535 n h, le-ltb (length d) n k, eq-eqb (length d % 2) 0 l, le-leb (p + piecesOf n) (length s / blockBytes) m), rw (le-ltb 65535 n h, le-ltb (length d) n k, eq-eqb (length d % 2) 0 l, le-leb (p + piecesOf n) (length s / blockBytes) m) e)
+  record-done o h k l m e = (rw (le-ltb 65535 n h, le-ltb (length d) n k, eq-eqb (length d % 2) 0 l, le-leb (p + pieces_of n) (length s / blockBytes) m), rw (le-ltb 65535 n h, le-ltb (length d) n k, eq-eqb (length d % 2) 0 l, le-leb (p + pieces_of n) (length s / blockBytes) m) e)
 
 -- the bytes that are laid are data's first
-pub laid-front : (s d o : List ℕ) (p n : ℕ) → n ≤ length d → o ≡ laidAt s p (Object.record-of (gathered false d 0 n)) → o ≡ laidAt s p (Object.record-of (take n d))
-laid-front s d o p n h e = e ∙ ap (λ (t : List ℕ). laidAt s p (Object.record-of t)) (gathered-plain d 0 n (omega arith))
+pub laid-front : (s d o : List ℕ) (p n : ℕ) → n ≤ length d → o ≡ laidAt s p (Object.record_of (gathered false d 0 n)) → o ≡ laidAt s p (Object.record_of (take n d))
+laid-front s d o p n h e = e ∙ ap (λ (t : List ℕ). laidAt s p (Object.record_of t)) (gathered-plain d 0 n (omega arith))

@@ -1,12 +1,8 @@
 -- Sizes of buffers, and one unit's desk with other ones.
-use mathlib.Core.Bool.{Bool, _||_}
-use mathlib.Core.List.{List}
-use Prim.Native.Nat.{ℕ, min}
-use lib.Dec.{ltb}
-use lib.ListN.{length, take}
-use Rattle·worlds.specs.declared.Session.{Session}
-use Rattle·lines.specs.declared.Sizes.{Sizes}
-use Rattle·desk·specs.specs.declared.desk.Desk.{Desk}
+use Rattle.std.specs.Prelude.{Bool, ◌||◌, List, ℕ, min, ltb, length, take}
+use Rattle.worlds.specs.declared.Session.{Session}
+use Rattle.lines.specs.declared.Sizes.{Sizes}
+use Rattle.desk.specs.declared.desk.Desk.{Desk}
 
 abbrev pub noSizes : Sizes
 noSizes = record { memory = 0; reel = 0; table = 0; journal = 0 }
@@ -21,19 +17,19 @@ front n l = take (min n (length l)) l
 
 -- sizes with a table of n bytes
 abbrev pub withTable : Sizes → ℕ → Sizes
-withTable s n = record { memory = s .memory; reel = s .reel; table = n; journal = s .journal }
+withTable s n = record { memory = s.memory; reel = s.reel; table = n; journal = s.journal }
 
 -- whether one of the sizes is more than there is room for
 unfoldable pub sizesBeyond : Sizes → Sizes → Bool
 sizesBeyond s room =
-    ltb (room .memory) (s .memory) || ltb (room .reel) (s .reel) || ltb (room .table) (s .table) || ltb (room .journal) (s .journal)
+    ltb room.memory s.memory || ltb room.reel s.reel || ltb room.table s.table || ltb room.journal s.journal
 
 -- the desk with its cursor at p, with other sizes, with this session
 abbrev pub withCursor : Desk → ℕ → Desk
-withCursor d p = record { session = d .session; sizes = d .sizes; handed = d .handed; cursor = p }
+withCursor d p = record { session = d.session; sizes = d.sizes; handed = d.handed; cursor = p }
 
 abbrev pub withSizes : Desk → Sizes → Desk
-withSizes d s = record { session = d .session; sizes = s; handed = d .handed; cursor = d .cursor }
+withSizes d s = record { session = d.session; sizes = s; handed = d.handed; cursor = d.cursor }
 
 abbrev pub deskWith : Desk → Session → Desk
-deskWith d s = record { session = s; sizes = d .sizes; handed = d .handed; cursor = d .cursor }
+deskWith d s = record { session = s; sizes = d.sizes; handed = d.handed; cursor = d.cursor }

@@ -1,13 +1,13 @@
 -- What a line of one unit comes to that makes no call.
-use Prim.Native.Nat.{ℕ}
-use Rattle·script.specs.declared.Fault.{Fault}
-use Rattle·script.specs.declared.Fault.the-variants as fault
-use Rattle·script.specs.declared.Value.{Value}
-use Rattle·script.specs.declared.Value.the-variants as value
-use Rattle·desk·specs.specs.Desks.{withCursor}
-use Rattle·desk·specs.specs.declared.desk.Desk.{Desk}
-use Rattle·desk·specs.specs.declared.Said.the-variants as said
-use Rattle·desk·specs.specs.declared.Turn.{Turn}
+use Rattle.std.specs.Prelude.{ℕ}
+use Rattle.script.specs.declared.Fault.{Fault}
+use Rattle.script.specs.declared.Fault.TheVariants as fault
+use Rattle.script.specs.declared.Value.{Value}
+use Rattle.script.specs.declared.Value.TheVariants as value
+use Rattle.desk.specs.Desks.{withCursor}
+use Rattle.desk.specs.declared.desk.Desk.{Desk}
+use Rattle.desk.specs.declared.Said.TheVariants as said
+use Rattle.desk.specs.declared.Turn.{Turn}
 
 -- a line that prints nothing; one that can't be taken
 abbrev pub still : Desk → Turn

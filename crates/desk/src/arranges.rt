@@ -1,38 +1,27 @@
 // Lines that set the bench up.
-use crate::Bench;
-use crate::Round;
-use crate::Said;
-use crate::Station;
-use crate::bench::REEL_ROOM;
-use crate::bench::STATIONS;
-use crate::bench::TABLE_ROOM;
-use crate::bench::fresh_at;
-use crate::bench::refused;
-use crate::bench::view;
-use crate::bench::with_session;
-use crate::desk::beyond;
-use crate::desk::no_sizes;
-use crate::desk::trim;
-use lines::Arrange;
-use lines::Sizes;
+ghost use Rattle.std.specs.Prelude.{◌≡◌, ◌<◌};
+ghost use Rattle.script.specs.Fills.{wiped};
+ghost use Rattle.desk.specs.Desks.{roomOf};
+ghost use Rattle.desk.specs.Benches.{still};
+ghost use Rattle.desk.specs.Arranges.{arranged, arrangedFor, clearedBy, cut_to, noSpan, reelSpan, reeled, resized, resizedSpan, set_to, startedCase, stationSized, uncutOf, unitRoom, unmounted, wholeSpan, withUnits};
+
+use crate::bench::{REEL_ROOM, STATIONS, TABLE_ROOM, fresh_at, refused, view, with_session};
+use crate::desk::{beyond, no_sizes, trim};
+use crate::{Bench, Round, Said, Station};
+use lines::{Arrange, Sizes};
 use lists::least;
 use results::with_field;
 use worlds::no_transport;
-ghost use mathlib.Core.Path.{_≡_};
-ghost use Prim.Native.Nat.{_<_};
-ghost use Rattle·script.specs.Fills.{wiped};
-ghost use Rattle·desk·specs.specs.Desks.{roomOf};
-ghost use Rattle·desk·specs.specs.Benches.{still};
-ghost use Rattle·desk·specs.specs.Arranges.{arranged, arrangedFor, clearedBy, cutTo, noSpan, reelSpan, reeled, resized, resizedSpan, setTo, startedCase, stationSized, uncutOf, unitRoom, unmounted, wholeSpan, withUnits};
 
 // Places from which and to which the buffers go back to zero.
+#[derive(Drop)]
 pub struct Span {
     pub from: Sizes,
     pub to: Sizes,
 }
 
 fn unsaid(bench: Bench) -> Round
-    ensures { λ r. ⌜ r ≡ still bench ⌝ }
+    ensures { result ≡ still bench }
 {
     let said = Said::Nothing;
     Round { bench, said }
@@ -40,7 +29,7 @@ fn unsaid(bench: Bench) -> Round
 
 // The room that a unit has: memory and journal, and its part of the reels and of the tables.
 fn unit_room(room: Sizes) -> Sizes
-    ensures { λ r. ⌜ r ≡ unitRoom room ⌝ }
+    ensures { result ≡ unitRoom room }
 {
     let mut s = room;
     s.reel = REEL_ROOM;
@@ -49,7 +38,7 @@ fn unit_room(room: Sizes) -> Sizes
 }
 
 fn start_case(b: Bench) -> Round
-    ensures { λ r. ⌜ r ≡ startedCase b ⌝ }
+    ensures { result ≡ startedCase b }
 {
     let bench = fresh_at(b.line);
     let said = Said::Itself;
@@ -58,7 +47,7 @@ fn start_case(b: Bench) -> Round
 
 // A station with its record, a reel and a table of other sizes.
 fn resized_station(s: Station, reel: usize, table: usize) -> Station
-    ensures { λ r. ⌜ r ≡ stationSized s reel table ⌝ }
+    ensures { result ≡ stationSized s reel table }
 {
     let mut e = s;
     e.reel = reel;
@@ -68,7 +57,7 @@ fn resized_station(s: Station, reel: usize, table: usize) -> Station
 
 // Memory, journal, and unit 0's reel and table: the others have none.
 fn resize(b: Bench, s: Sizes, room: Sizes) -> Round
-    ensures { λ r. ⌜ r ≡ resized b s room ⌝ }
+    ensures { result ≡ resized b s room }
 {
     if beyond(s, unit_room(room)) {
         return refused(b);
@@ -87,7 +76,7 @@ fn resize(b: Bench, s: Sizes, room: Sizes) -> Round
 }
 
 fn unmounted_station(s: Station) -> Station
-    ensures { λ r. ⌜ r ≡ unmounted s ⌝ }
+    ensures { result ≡ unmounted s }
 {
     let transport = no_transport();
     let mut e = s;
@@ -97,7 +86,7 @@ fn unmounted_station(s: Station) -> Station
 
 // A row of n records, all zero.
 fn row_of(b: Bench, n: usize) -> Round
-    ensures { λ r. ⌜ r ≡ withUnits b n ⌝ }
+    ensures { result ≡ withUnits b n }
 {
     let mut e = b;
     e.stations = [
@@ -112,7 +101,7 @@ fn row_of(b: Bench, n: usize) -> Round
 }
 
 fn cut_to(b: Bench, u: usize, s: Sizes, table: bool, room: Sizes) -> Round
-    ensures { λ r. ⌜ r ≡ cutTo b u s table room ⌝ }
+    ensures { result ≡ cut_to b u s table room }
 {
     if beyond(s, unit_room(room)) {
         return refused(b);
@@ -126,7 +115,7 @@ fn cut_to(b: Bench, u: usize, s: Sizes, table: bool, room: Sizes) -> Round
 }
 
 fn uncut(b: Bench) -> Round
-    ensures { λ r. ⌜ r ≡ uncutOf b ⌝ }
+    ensures { result ≡ uncutOf b }
 {
     let mut e = b;
     e.cut = false;
@@ -134,8 +123,8 @@ fn uncut(b: Bench) -> Round
 }
 
 fn set(b: Bench, u: usize, k: usize, v: usize) -> Round
-    requires { ⌜ u < 5 ⌝ }
-    ensures { λ r. ⌜ r ≡ setTo b u k v ⌝ }
+    requires { u < 5 }
+    ensures { result ≡ set_to b u k v }
 {
     if 23 < k {
         return refused(b);
@@ -147,8 +136,8 @@ fn set(b: Bench, u: usize, k: usize, v: usize) -> Round
 
 // A reel of n bytes, and eight bytes of table for each of its blocks.
 fn give_reel(b: Bench, u: usize, n: usize) -> Round
-    requires { ⌜ u < 5 ⌝ }
-    ensures { λ r. ⌜ r ≡ reeled b u n ⌝ }
+    requires { u < 5 }
+    ensures { result ≡ reeled b u n }
 {
     if REEL_ROOM < n {
         return refused(b);
@@ -161,8 +150,8 @@ fn give_reel(b: Bench, u: usize, n: usize) -> Round
 }
 
 fn arrange_for(b: Bench, u: usize, a: Arrange, room: Sizes) -> Round
-    requires { ⌜ u < 5 ⌝ }
-    ensures { λ r. ⌜ r ≡ arrangedFor b u a room ⌝ }
+    requires { u < 5 }
+    ensures { result ≡ arrangedFor b u a room }
 {
     match a {
         Arrange::Case => start_case(b),
@@ -176,7 +165,7 @@ fn arrange_for(b: Bench, u: usize, a: Arrange, room: Sizes) -> Round
 }
 
 fn arrange_bench(b: Bench, u: usize, a: Arrange, room: Sizes) -> Round
-    ensures { λ r. ⌜ r ≡ arranged b u a room ⌝ }
+    ensures { result ≡ arranged b u a room }
 {
     if STATIONS <= u {
         return refused(b);
@@ -185,21 +174,21 @@ fn arrange_bench(b: Bench, u: usize, a: Arrange, room: Sizes) -> Round
 }
 
 fn no_span() -> Span
-    ensures { λ r. ⌜ r ≡ noSpan ⌝ }
+    ensures { result ≡ noSpan }
 {
     let from = no_sizes();
     Span { from, to: from }
 }
 
 fn whole_span(room: Sizes) -> Span
-    ensures { λ r. ⌜ r ≡ wholeSpan room ⌝ }
+    ensures { result ≡ wholeSpan room }
 {
     let from = no_sizes();
     Span { from, to: room }
 }
 
 fn resized_span(s: Sizes, room: Sizes) -> Span
-    ensures { λ r. ⌜ r ≡ resizedSpan s room ⌝ }
+    ensures { result ≡ resizedSpan s room }
 {
     if beyond(s, unit_room(room)) {
         return no_span();
@@ -209,7 +198,7 @@ fn resized_span(s: Sizes, room: Sizes) -> Span
 
 // The old reel and table of unit u.
 fn reel_span(b: Bench, u: usize, n: usize) -> Span
-    ensures { λ r. ⌜ r ≡ reelSpan b u n ⌝ }
+    ensures { result ≡ reelSpan b u n }
 {
     if STATIONS <= u {
         return no_span();
@@ -237,7 +226,7 @@ fn reel_span(b: Bench, u: usize, n: usize) -> Span
 
 // What goes back to zero: the bytes beyond the sizes are zero between calls.
 fn cleared_by(b: Bench, u: usize, a: Arrange, room: Sizes) -> Span
-    ensures { λ r. ⌜ r ≡ clearedBy b u a room ⌝ }
+    ensures { result ≡ clearedBy b u a room }
 {
     match a {
         Arrange::Case => whole_span(room),
@@ -259,11 +248,11 @@ pub fn arrange(
     tables: &mut [u8],
     jrnl: &mut [u8],
 ) -> Round
-    ensures round { λ r. ⌜ r ≡ arranged b u a (roomOf (now (mem .entry)) (now (reels .entry)) (now (tables .entry)) (now (jrnl .entry))) ⌝ }
-    ensures memory { λ _. ⌜ now (mem .exit) ≡ wiped (now (mem .entry)) (clearedBy b u a (roomOf (now (mem .entry)) (now (reels .entry)) (now (tables .entry)) (now (jrnl .entry))) .from .memory) (clearedBy b u a (roomOf (now (mem .entry)) (now (reels .entry)) (now (tables .entry)) (now (jrnl .entry))) .to .memory) ⌝ }
-    ensures reels { λ _. ⌜ now (reels .exit) ≡ wiped (now (reels .entry)) (clearedBy b u a (roomOf (now (mem .entry)) (now (reels .entry)) (now (tables .entry)) (now (jrnl .entry))) .from .reel) (clearedBy b u a (roomOf (now (mem .entry)) (now (reels .entry)) (now (tables .entry)) (now (jrnl .entry))) .to .reel) ⌝ }
-    ensures tables { λ _. ⌜ now (tables .exit) ≡ wiped (now (tables .entry)) (clearedBy b u a (roomOf (now (mem .entry)) (now (reels .entry)) (now (tables .entry)) (now (jrnl .entry))) .from .table) (clearedBy b u a (roomOf (now (mem .entry)) (now (reels .entry)) (now (tables .entry)) (now (jrnl .entry))) .to .table) ⌝ }
-    ensures journal { λ _. ⌜ now (jrnl .exit) ≡ wiped (now (jrnl .entry)) (clearedBy b u a (roomOf (now (mem .entry)) (now (reels .entry)) (now (tables .entry)) (now (jrnl .entry))) .from .journal) (clearedBy b u a (roomOf (now (mem .entry)) (now (reels .entry)) (now (tables .entry)) (now (jrnl .entry))) .to .journal) ⌝ }
+    ensures round { result ≡ arranged b u a (roomOf mem.old reels.old tables.old jrnl.old) }
+    ensures memory { mem.new ≡ wiped mem.old (clearedBy b u a (roomOf mem.old reels.old tables.old jrnl.old)).from.memory (clearedBy b u a (roomOf mem.old reels.old tables.old jrnl.old)).to.memory }
+    ensures reels { reels.new ≡ wiped reels.old (clearedBy b u a (roomOf mem.old reels.old tables.old jrnl.old)).from.reel (clearedBy b u a (roomOf mem.old reels.old tables.old jrnl.old)).to.reel }
+    ensures tables { tables.new ≡ wiped tables.old (clearedBy b u a (roomOf mem.old reels.old tables.old jrnl.old)).from.table (clearedBy b u a (roomOf mem.old reels.old tables.old jrnl.old)).to.table }
+    ensures journal { jrnl.new ≡ wiped jrnl.old (clearedBy b u a (roomOf mem.old reels.old tables.old jrnl.old)).from.journal (clearedBy b u a (roomOf mem.old reels.old tables.old jrnl.old)).to.journal }
 {
     let room = Sizes {
         memory: mem.len(),

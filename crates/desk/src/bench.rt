@@ -1,26 +1,17 @@
 // All that the lines of a script change, besides the bytes of the buffers: five stations with a unit each, and what the units share.
-use crate::Desk;
-use crate::Round;
-use crate::Said;
-use crate::Turn;
+ghost use Rattle.std.specs.Prelude.{◌≡◌, ◌<◌};
+ghost use Rattle.lists.specs.Pick.{pick};
+ghost use Rattle.desk.specs.Benches.{beyondBuffers, cursorAt, freshAt, handedAt, nextLine, noCoupler, noStation, put_back, putTurn, sizesAt, stationOf, toldAt, view_of, withCoupler, withSession};
+
 use crate::desk::no_sizes;
+use crate::{Desk, Round, Said, Turn};
 use commands::Answer;
 use lines::Sizes;
-use results::Also;
-use results::Told;
+use results::{Also, Told};
 use script::Fault;
-use worlds::Coupler;
-use worlds::Session;
-use worlds::Transport;
-use worlds::absent;
-use worlds::coupler_of;
-use worlds::no_transport;
-use worlds::session_over;
-use worlds::transport_of;
-ghost use mathlib.Core.Path.{_≡_};
-ghost use Prim.Native.Nat.{_<_};
-ghost use Rattle·lists.specs.Pick.{pick};
-ghost use Rattle·desk·specs.specs.Benches.{beyondBuffers, cursorAt, freshAt, handedAt, nextLine, noCoupler, noStation, putBack, putTurn, sizesAt, stationOf, toldAt, viewOf, withCoupler, withSession};
+use worlds::{
+    Coupler, Session, Transport, absent, coupler_of, no_transport, session_over, transport_of,
+};
 
 // There are buffers for so many units, and so much of them is each unit's: the part of unit u starts at u times that.
 pub const STATIONS: usize = 5;
@@ -30,6 +21,7 @@ pub const REEL_ROOM: usize = 131072;
 pub const TABLE_ROOM: usize = 4096;
 
 // A unit's record, the sizes of its reel and its table, and its cursor.
+#[derive(Drop)]
 pub struct Station {
     pub transport: Transport,
     pub reel: usize,
@@ -37,6 +29,7 @@ pub struct Station {
     pub cursor: usize,
 }
 
+#[derive(Drop)]
 pub struct Bench {
     pub stations: [Station; 5],
     // How many records the row has.
@@ -56,7 +49,7 @@ pub struct Bench {
 }
 
 fn no_station() -> Station
-    ensures { λ r. ⌜ r ≡ noStation ⌝ }
+    ensures { result ≡ noStation }
 {
     let transport = no_transport();
     Station {
@@ -68,7 +61,7 @@ fn no_station() -> Station
 }
 
 fn no_coupler() -> Coupler
-    ensures { λ r. ⌜ r ≡ noCoupler ⌝ }
+    ensures { result ≡ noCoupler }
 {
     Coupler {
         used: 0,
@@ -79,7 +72,7 @@ fn no_coupler() -> Coupler
 
 // As a run starts, and at line n a case: a row of one.
 pub fn fresh_at(n: usize) -> Bench
-    ensures { λ r. ⌜ r ≡ freshAt n ⌝ }
+    ensures { result ≡ freshAt n }
 {
     let s = no_station();
     let coupler = no_coupler();
@@ -101,7 +94,7 @@ pub fn fresh_at(n: usize) -> Bench
 
 // The next line starts.
 pub fn next_line(b: Bench) -> Bench
-    ensures { λ r. ⌜ r ≡ nextLine b ⌝ }
+    ensures { result ≡ nextLine b }
 {
     let mut e = b;
     if e.line < 1000000000000 {
@@ -111,8 +104,8 @@ pub fn next_line(b: Bench) -> Bench
 }
 
 fn sizes_at(b: Bench, u: usize) -> Sizes
-    requires { ⌜ u < 5 ⌝ }
-    ensures { λ r. ⌜ r ≡ sizesAt b u ⌝ }
+    requires { u < 5 }
+    ensures { result ≡ sizesAt b u }
 {
     let s = b.stations[u];
     Sizes {
@@ -124,15 +117,15 @@ fn sizes_at(b: Bench, u: usize) -> Sizes
 }
 
 fn either(c: bool, m: usize, n: usize) -> usize
-    ensures { λ r. ⌜ r ≡ pick c m n ⌝ }
+    ensures { result ≡ pick c m n }
 {
     if c { m } else { n }
 }
 
 // The lengths that calls of unit u are handed: memory and journal are cut for every unit.
 pub fn handed_at(b: Bench, u: usize) -> Sizes
-    requires { ⌜ u < 5 ⌝ }
-    ensures { λ r. ⌜ r ≡ handedAt b u ⌝ }
+    requires { u < 5 }
+    ensures { result ≡ handedAt b u }
 {
     let s = sizes_at(b, u);
     let cuts = b.cuts;
@@ -147,8 +140,8 @@ pub fn handed_at(b: Bench, u: usize) -> Sizes
 
 // Unit u taken out with what it shares.
 pub fn view(b: Bench, u: usize) -> Desk
-    requires { ⌜ u < 5 ⌝ }
-    ensures { λ r. ⌜ r ≡ viewOf b u ⌝ }
+    requires { u < 5 }
+    ensures { result ≡ view_of b u }
 {
     let s = b.stations[u];
     let t = s.transport;
@@ -165,7 +158,7 @@ pub fn view(b: Bench, u: usize) -> Desk
 }
 
 fn station_of(d: Desk) -> Station
-    ensures { λ r. ⌜ r ≡ stationOf d ⌝ }
+    ensures { result ≡ stationOf d }
 {
     let s = d.session;
     let transport = transport_of(s);
@@ -179,8 +172,8 @@ fn station_of(d: Desk) -> Station
 
 // And put back.
 pub fn put_back(b: Bench, u: usize, d: Desk) -> Bench
-    requires { ⌜ u < 5 ⌝ }
-    ensures { λ r. ⌜ r ≡ putBack b u d ⌝ }
+    requires { u < 5 }
+    ensures { result ≡ put_back b u d }
 {
     let mut stations = b.stations;
     stations[u] = station_of(d);
@@ -194,8 +187,8 @@ pub fn put_back(b: Bench, u: usize, d: Desk) -> Bench
 
 // The session that unit u's call left is kept.
 pub fn with_session(b: Bench, u: usize, s: Session) -> Bench
-    requires { ⌜ u < 5 ⌝ }
-    ensures { λ r. ⌜ r ≡ withSession b u s ⌝ }
+    requires { u < 5 }
+    ensures { result ≡ withSession b u s }
 {
     let mut d = view(b, u);
     d.session = s;
@@ -204,7 +197,7 @@ pub fn with_session(b: Bench, u: usize, s: Session) -> Bench
 
 // The block that unit u's next object is laid at.
 pub fn cursor_at(b: Bench, u: usize) -> usize
-    ensures { λ r. ⌜ r ≡ cursorAt b u ⌝ }
+    ensures { result ≡ cursorAt b u }
 {
     if STATIONS <= u {
         return 0;
@@ -215,8 +208,8 @@ pub fn cursor_at(b: Bench, u: usize) -> usize
 
 // What a line of unit u came to, for all.
 pub fn put_turn(b: Bench, u: usize, t: Turn) -> Round
-    requires { ⌜ u < 5 ⌝ }
-    ensures { λ r. ⌜ r ≡ putTurn b u t ⌝ }
+    requires { u < 5 }
+    ensures { result ≡ putTurn b u t }
 {
     let d = t.desk;
     let said = t.said;
@@ -225,7 +218,7 @@ pub fn put_turn(b: Bench, u: usize, t: Turn) -> Round
 }
 
 pub fn with_coupler(b: Bench, coupler: Coupler) -> Bench
-    ensures { λ r. ⌜ r ≡ withCoupler b coupler ⌝ }
+    ensures { result ≡ withCoupler b coupler }
 {
     let mut e = b;
     e.coupler = coupler;
@@ -234,7 +227,7 @@ pub fn with_coupler(b: Bench, coupler: Coupler) -> Bench
 
 // What a call's line prints for unit u, after this answer: its fields, if it is present.
 pub fn told_at(b: Bench, u: usize, answer: Answer, also: Also) -> Round
-    ensures { λ r. ⌜ r ≡ toldAt b u answer also ⌝ }
+    ensures { result ≡ toldAt b u answer also }
 {
     let c = b.coupler;
     if absent(b.units, u) {
@@ -260,7 +253,7 @@ pub fn told_at(b: Bench, u: usize, answer: Answer, also: Also) -> Round
 
 // More than the program has room for.
 pub fn refused(bench: Bench) -> Round
-    ensures { λ r. ⌜ r ≡ beyondBuffers bench ⌝ }
+    ensures { result ≡ beyondBuffers bench }
 {
     let said = Said::Wrong(Fault::BeyondBuffers);
     Round { bench, said }

@@ -1,30 +1,23 @@
 // Lines that put bytes into memory and reel with no call: each answers where the cursor is then, or what is wrong.
-use crate::Desk;
-use crate::Said;
-use crate::Turn;
+ghost use Rattle.std.specs.Prelude.{◌≡◌, ◌+◌, ◌≤◌, min, length, take};
+ghost use Rattle.std.proofs.lemmas.List.Edits.{sets};
+ghost use Rattle.lists.specs.Pick.{pick};
+ghost use Rattle.lists.specs.Words.{word_bytes};
+ghost use Rattle.tape.specs.Objects.{Object};
+ghost use Rattle.desk.specs.Turns as turns;
+ghost use Rattle.desk.specs.Turns.{settled, still};
+ghost use Rattle.desk.specs.Builds.{blockAnswer, builtAnswer, builtMemory, builtReel, checkBytes, checkPlace, ifTaken, laidAt, pokeAnswer, recordAnswer, wordAnswer};
+
+use crate::{Desk, Said, Turn};
 use lines::Build;
-use lists::least;
-use lists::put_word;
-use lists::word_sum;
-use script::Fault;
-use script::Value;
-use script::copy;
+use lists::{least, put_word, word_sum};
+use script::{Fault, Value, copy};
 use tape::Geometry;
-ghost use mathlib.Core.Path.{_≡_};
-ghost use Prim.Native.Nat.{_+_, _≤_, min};
-ghost use lib.ListN.{length, take};
-ghost use lib.Seq.{sets};
-ghost use Rattle·lists.specs.Pick.{pick};
-ghost use Rattle·lists.specs.Words.{wordBytes};
-ghost use Rattle·tape.specs.Objects.{Object};
-ghost use Rattle·desk·specs.specs.Turns as turns;
-ghost use Rattle·desk·specs.specs.Turns.{settled, still};
-ghost use Rattle·desk·specs.specs.Builds.{blockAnswer, builtAnswer, builtMemory, builtReel, checkBytes, checkPlace, ifTaken, laidAt, pokeAnswer, recordAnswer, wordAnswer};
 
 // The bytes d at a place of memory or reel.
 pub fn poke(b: &mut [u8], at: usize, d: &[u8], p: usize, outside: Fault) -> Value
-    ensures answer { λ r. ⌜ r ≡ pokeAnswer (length (now (b .entry))) at (length (now (d .entry))) p outside ⌝ }
-    ensures stored { λ _. ⌜ now (b .exit) ≡ ifTaken (pokeAnswer (length (now (b .entry))) at (length (now (d .entry))) p outside) (sets (now (b .entry)) at (now (d .entry))) (now (b .entry)) ⌝ }
+    ensures answer { result ≡ pokeAnswer (length b.old) at (length d.now) p outside }
+    ensures stored { b.new ≡ ifTaken (pokeAnswer (length b.old) at (length d.now) p outside) (sets b.old at d.now) b.old }
 {
     if b.len() < d.len() {
         return Value::Wrong(outside);
@@ -37,8 +30,8 @@ pub fn poke(b: &mut [u8], at: usize, d: &[u8], p: usize, outside: Fault) -> Valu
 }
 
 pub fn poke_word(mem: &mut [u8], at: usize, w: usize, p: usize) -> Value
-    ensures answer { λ r. ⌜ r ≡ wordAnswer (length (now (mem .entry))) at w p ⌝ }
-    ensures stored { λ _. ⌜ now (mem .exit) ≡ ifTaken (wordAnswer (length (now (mem .entry))) at w p) (sets (now (mem .entry)) at (wordBytes w)) (now (mem .entry)) ⌝ }
+    ensures answer { result ≡ wordAnswer (length mem.old) at w p }
+    ensures stored { mem.new ≡ ifTaken (wordAnswer (length mem.old) at w p) (sets mem.old at (word_bytes w)) mem.old }
 {
     if 65535 < w {
         return Value::Wrong(Fault::NumberTooLarge);
@@ -55,8 +48,8 @@ pub fn poke_word(mem: &mut [u8], at: usize, w: usize, p: usize) -> Value
 
 // Block k gets the check word that its bytes ask.
 pub fn fix_sum(reel: &mut [u8], k: usize, p: usize) -> Value
-    ensures answer { λ r. ⌜ r ≡ blockAnswer (length (now (reel .entry))) k p ⌝ }
-    ensures stored { λ _. ⌜ now (reel .exit) ≡ ifTaken (blockAnswer (length (now (reel .entry))) k p) (sets (now (reel .entry)) (checkPlace k) (checkBytes (now (reel .entry)) k)) (now (reel .entry)) ⌝ }
+    ensures answer { result ≡ blockAnswer (length reel.old) k p }
+    ensures stored { reel.new ≡ ifTaken (blockAnswer (length reel.old) k p) (sets reel.old (checkPlace k) (checkBytes reel.old k)) reel.old }
 {
     if reel.len() / Geometry::BLOCK <= k {
         return Value::Wrong(Fault::OutsideReel);
@@ -74,8 +67,8 @@ pub fn fix_sum(reel: &mut [u8], k: usize, p: usize) -> Value
 
 // The record of data's first n bytes at block p.
 pub fn lay_bytes(reel: &mut [u8], p: usize, data: &[u8], n: usize) -> Value
-    ensures answer { λ r. ⌜ r ≡ recordAnswer (length (now (reel .entry))) p (length (now («data» .entry))) n ⌝ }
-    ensures stored { λ _. ⌜ now (reel .exit) ≡ ifTaken (recordAnswer (length (now (reel .entry))) p (length (now («data» .entry))) n) (laidAt (now (reel .entry)) p (Object.record-of (take n (now («data» .entry))))) (now (reel .entry)) ⌝ }
+    ensures answer { result ≡ recordAnswer (length reel.old) p (length «data».now) n }
+    ensures stored { reel.new ≡ ifTaken (recordAnswer (length reel.old) p (length «data».now) n) (laidAt reel.old p (Object.record_of (take n «data».now))) reel.old }
 {
     // What a block's length word can say, whatever a unit's limit: a script may lay a record that no unit takes.
     if 65535 < n {
@@ -101,8 +94,8 @@ pub fn lay_bytes(reel: &mut [u8], p: usize, data: &[u8], n: usize) -> Value
 
 // A mark or a gap at block p.
 pub fn lay_single(reel: &mut [u8], p: usize, gap: bool) -> Value
-    ensures answer { λ r. ⌜ r ≡ blockAnswer (length (now (reel .entry))) p (p + 1) ⌝ }
-    ensures stored { λ _. ⌜ now (reel .exit) ≡ ifTaken (blockAnswer (length (now (reel .entry))) p (p + 1)) (laidAt (now (reel .entry)) p (pick gap Object.gap Object.mark)) (now (reel .entry)) ⌝ }
+    ensures answer { result ≡ blockAnswer (length reel.old) p (p + 1) }
+    ensures stored { reel.new ≡ ifTaken (blockAnswer (length reel.old) p (p + 1)) (laidAt reel.old p (pick gap Object.gap Object.mark)) reel.old }
 {
     if reel.len() / Geometry::BLOCK <= p {
         return Value::Wrong(Fault::OutsideReel);
@@ -117,10 +110,10 @@ pub fn lay_single(reel: &mut [u8], p: usize, gap: bool) -> Value
 
 // What the line does while the cursor is at p, with data's first n bytes.
 fn build_at(b: Build, p: usize, data: &[u8], n: usize, mem: &mut [u8], reel: &mut [u8]) -> Value
-    requires { ⌜ n ≤ length (now «data») ⌝ }
-    ensures answer { λ r. ⌜ r ≡ builtAnswer b p (take n (now («data» .entry))) (length (now («data» .entry))) n (length (now (mem .entry))) (length (now (reel .entry))) ⌝ }
-    ensures memory { λ _. ⌜ now (mem .exit) ≡ builtMemory b p (take n (now («data» .entry))) (now (mem .entry)) ⌝ }
-    ensures reel { λ _. ⌜ now (reel .exit) ≡ builtReel b p (take n (now («data» .entry))) (length (now («data» .entry))) n (now (reel .entry)) ⌝ }
+    requires { n ≤ length «data».now }
+    ensures answer { result ≡ builtAnswer b p (take n «data».now) (length «data».now) n (length mem.old) (length reel.old) }
+    ensures memory { mem.new ≡ builtMemory b p (take n «data».now) mem.old }
+    ensures reel { reel.new ≡ builtReel b p (take n «data».now) (length «data».now) n reel.old }
 {
     match b {
         Build::Poke(at) => poke(mem, at, &data[0..n], p, Fault::OutsideMemory),
@@ -134,21 +127,21 @@ fn build_at(b: Build, p: usize, data: &[u8], n: usize, mem: &mut [u8], reel: &mu
 }
 
 pub fn unsaid(desk: Desk) -> Turn
-    ensures { λ r. ⌜ r ≡ still desk ⌝ }
+    ensures { result ≡ still desk }
 {
     let said = Said::Nothing;
     Turn { desk, said }
 }
 
 pub fn wrong(desk: Desk, f: Fault) -> Turn
-    ensures { λ r. ⌜ r ≡ turns.wrong desk f ⌝ }
+    ensures { result ≡ turns.wrong desk f }
 {
     let said = Said::Wrong(f);
     Turn { desk, said }
 }
 
 pub fn settle(d: Desk, v: Value) -> Turn
-    ensures { λ r. ⌜ r ≡ settled d v ⌝ }
+    ensures { result ≡ settled d v }
 {
     match v {
         Value::Wrong(f) => wrong(d, f),
@@ -162,10 +155,10 @@ pub fn settle(d: Desk, v: Value) -> Turn
 
 // The line changes only what is within the sizes.
 pub fn build(d: Desk, b: Build, data: &[u8], n: usize, mem: &mut [u8], reel: &mut [u8]) -> Turn
-    requires { ⌜ n ≤ length (now «data») ⌝ }
-    ensures turn { λ r. ⌜ r ≡ settled d (builtAnswer b (d .cursor) (take n (now («data» .entry))) (length (now («data» .entry))) n (length (take (min (d .sizes .memory) (length (now (mem .entry)))) (now (mem .entry)))) (length (take (min (d .sizes .reel) (length (now (reel .entry)))) (now (reel .entry))))) ⌝ }
-    ensures memory { λ _. ⌜ now (mem .exit) ≡ sets (now (mem .entry)) 0 (builtMemory b (d .cursor) (take n (now («data» .entry))) (take (min (d .sizes .memory) (length (now (mem .entry)))) (now (mem .entry)))) ⌝ }
-    ensures reel { λ _. ⌜ now (reel .exit) ≡ sets (now (reel .entry)) 0 (builtReel b (d .cursor) (take n (now («data» .entry))) (length (now («data» .entry))) n (take (min (d .sizes .reel) (length (now (reel .entry)))) (now (reel .entry)))) ⌝ }
+    requires { n ≤ length «data».now }
+    ensures turn { result ≡ settled d (builtAnswer b d.cursor (take n «data».now) (length «data».now) n (length (take (min d.sizes.memory (length mem.old)) mem.old)) (length (take (min d.sizes.reel (length reel.old)) reel.old))) }
+    ensures memory { mem.new ≡ sets mem.old 0 (builtMemory b d.cursor (take n «data».now) (take (min d.sizes.memory (length mem.old)) mem.old)) }
+    ensures reel { reel.new ≡ sets reel.old 0 (builtReel b d.cursor (take n «data».now) (length «data».now) n (take (min d.sizes.reel (length reel.old)) reel.old)) }
 {
     let m = least(d.sizes.memory, mem.len());
     let r = least(d.sizes.reel, reel.len());

@@ -1,11 +1,13 @@
 // One unit as the lines of a script see it, besides the bytes of its buffers.
+ghost use Rattle.std.specs.Prelude.{◌≡◌};
+ghost use Rattle.script.specs.Fills.{wiped};
+ghost use Rattle.desk.specs.Desks.{noSizes, sizesBeyond};
+
 use lines::Sizes;
 use script::wipe;
 use worlds::Session;
-ghost use mathlib.Core.Path.{_≡_};
-ghost use Rattle·script.specs.Fills.{wiped};
-ghost use Rattle·desk·specs.specs.Desks.{noSizes, sizesBeyond};
 
+#[derive(Drop)]
 pub struct Desk {
     pub session: Session,
     pub sizes: Sizes,
@@ -16,7 +18,7 @@ pub struct Desk {
 }
 
 pub fn no_sizes() -> Sizes
-    ensures { λ r. ⌜ r ≡ noSizes ⌝ }
+    ensures { result ≡ noSizes }
 {
     Sizes {
         memory: 0,
@@ -28,7 +30,7 @@ pub fn no_sizes() -> Sizes
 
 // Whether sizes are more than there is room for.
 pub fn beyond(s: Sizes, room: Sizes) -> bool
-    ensures { λ r. ⌜ r ≡ sizesBeyond s room ⌝ }
+    ensures { result ≡ sizesBeyond s room }
 {
     (room.memory < s.memory)
         | (room.reel < s.reel)
@@ -38,10 +40,10 @@ pub fn beyond(s: Sizes, room: Sizes) -> bool
 
 // Zeros from the sizes s to the sizes h, where h is more.
 pub fn trim(s: Sizes, h: Sizes, mem: &mut [u8], reel: &mut [u8], table: &mut [u8], jrnl: &mut [u8])
-    ensures memory { λ _. ⌜ now (mem .exit) ≡ wiped (now (mem .entry)) (s .memory) (h .memory) ⌝ }
-    ensures reel { λ _. ⌜ now (reel .exit) ≡ wiped (now (reel .entry)) (s .reel) (h .reel) ⌝ }
-    ensures table { λ _. ⌜ now (table .exit) ≡ wiped (now (table .entry)) (s .table) (h .table) ⌝ }
-    ensures journal { λ _. ⌜ now (jrnl .exit) ≡ wiped (now (jrnl .entry)) (s .journal) (h .journal) ⌝ }
+    ensures memory { mem.new ≡ wiped mem.old s.memory h.memory }
+    ensures reel { reel.new ≡ wiped reel.old s.reel h.reel }
+    ensures table { table.new ≡ wiped table.old s.table h.table }
+    ensures journal { jrnl.new ≡ wiped jrnl.old s.journal h.journal }
 {
     wipe(mem, s.memory, h.memory);
     wipe(reel, s.reel, h.reel);

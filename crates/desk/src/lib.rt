@@ -6,29 +6,18 @@ mod desk;
 mod tables;
 
 pub use arranges::arrange;
-pub use bench::Bench;
-pub use bench::REEL_ROOM;
-pub use bench::STATIONS;
-pub use bench::Station;
-pub use bench::TABLE_ROOM;
-pub use bench::cursor_at;
-pub use bench::fresh_at;
-pub use bench::handed_at;
-pub use bench::next_line;
-pub use bench::put_turn;
-pub use bench::refused;
-pub use bench::told_at;
-pub use bench::view;
-pub use bench::with_coupler;
-pub use bench::with_session;
+pub use bench::{
+    Bench, REEL_ROOM, STATIONS, Station, TABLE_ROOM, cursor_at, fresh_at, handed_at, next_line,
+    put_turn, refused, told_at, view, with_coupler, with_session,
+};
 pub use builds::build;
-pub use desk::Desk;
-pub use desk::trim;
+pub use desk::{Desk, trim};
 use results::Told;
 use script::Fault;
 pub use tables::tabled;
 
 // What a line has printed.
+#[derive(Drop)]
 pub enum Said {
     Nothing,
     // The line itself.
@@ -42,12 +31,14 @@ pub enum Said {
 }
 
 // What a line of one unit came to.
+#[derive(Drop)]
 pub struct Turn {
     pub desk: Desk,
     pub said: Said,
 }
 
 // What a line came to.
+#[derive(Drop)]
 pub struct Round {
     pub bench: Bench,
     pub said: Said,

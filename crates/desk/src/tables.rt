@@ -1,24 +1,18 @@
 // Lines about the table beside the reel, with no call.
-use crate::Desk;
-use crate::Turn;
-use crate::builds::poke;
-use crate::builds::settle;
-use crate::builds::unsaid;
-use crate::builds::wrong;
+ghost use Rattle.std.specs.Prelude.{◌≡◌, ◌≤◌, length, take};
+ghost use Rattle.lists.specs.Pick.{pick};
+ghost use Rattle.desk.specs.Tables.{givenBytes, givenTurn, pokedBytes, pokedTurn, tabledBytes, tabledTurn};
+
+use crate::builds::{poke, settle, unsaid, wrong};
+use crate::{Desk, Turn};
 use lines::Table;
 use lists::least;
-use script::Fault;
-use script::wipe;
-ghost use mathlib.Core.Path.{_≡_};
-ghost use Prim.Native.Nat.{_≤_};
-ghost use lib.ListN.{length, take};
-ghost use Rattle·lists.specs.Pick.{pick};
-ghost use Rattle·desk·specs.specs.Tables.{givenBytes, givenTurn, pokedBytes, pokedTurn, tabledBytes, tabledTurn};
+use script::{Fault, wipe};
 
 // A table of n bytes, all zero.
 fn give_table(d: Desk, n: usize, table: &mut [u8]) -> Turn
-    ensures turn { λ r. ⌜ r ≡ givenTurn d n (now (table .entry)) ⌝ }
-    ensures table { λ _. ⌜ now (table .exit) ≡ givenBytes d n (now (table .entry)) ⌝ }
+    ensures turn { result ≡ givenTurn d n table.old }
+    ensures table { table.new ≡ givenBytes d n table.old }
 {
     if table.len() < n {
         return wrong(d, Fault::BeyondBuffers);
@@ -33,8 +27,8 @@ fn give_table(d: Desk, n: usize, table: &mut [u8]) -> Turn
 
 // Bytes at a place of the table.
 fn poke_table(d: Desk, at: usize, bytes: &[u8], table: &mut [u8]) -> Turn
-    ensures turn { λ r. ⌜ r ≡ pokedTurn d at (now (bytes .entry)) (now (table .entry)) ⌝ }
-    ensures table { λ _. ⌜ now (table .exit) ≡ pokedBytes d at (now (bytes .entry)) (now (table .entry)) ⌝ }
+    ensures turn { result ≡ pokedTurn d at bytes.now table.old }
+    ensures table { table.new ≡ pokedBytes d at bytes.now table.old }
 {
     let n = least(d.sizes.table, table.len());
     settle(
@@ -45,9 +39,9 @@ fn poke_table(d: Desk, at: usize, bytes: &[u8], table: &mut [u8]) -> Turn
 
 // With data's first n bytes.
 pub fn tabled(d: Desk, t: Table, data: &[u8], n: usize, table: &mut [u8]) -> Turn
-    requires { ⌜ n ≤ length (now «data») ⌝ }
-    ensures turn { λ r. ⌜ r ≡ tabledTurn d t (take n (now («data» .entry))) (now (table .entry)) ⌝ }
-    ensures table { λ _. ⌜ now (table .exit) ≡ tabledBytes d t (take n (now («data» .entry))) (now (table .entry)) ⌝ }
+    requires { n ≤ length «data».now }
+    ensures turn { result ≡ tabledTurn d t (take n «data».now) table.old }
+    ensures table { table.new ≡ tabledBytes d t (take n «data».now) table.old }
 {
     match t {
         Table::Index(k) => give_table(d, k, table),

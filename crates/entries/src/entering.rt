@@ -1,25 +1,19 @@
 // Making an entry: the state before the step, and the bytes that it is about to store over.
-use crate::BARE;
-use crate::Entry;
-use crate::FRONT;
+ghost use Rattle.std.specs.Prelude.{[], ◌≡◌, ◌+◌, ◌≤◌, ◌%◌, length};
+ghost use Rattle.std.proofs.lemmas.List.Edits.{sets};
+ghost use Rattle.touched.specs.Touches.{PlacesIn, TouchedIn, none, run_of};
+ghost use Rattle.entries.specs.Entries.{entryBare, entryBytes, entryLength};
+
 use crate::bytes::put_head;
 use crate::numbers::numbers_of;
-use lists::gather;
-use lists::put_number;
-use touched::save;
-use touched::saved_length;
-ghost use mathlib.Core.List.{[]};
-ghost use mathlib.Core.Path.{_≡_};
-ghost use Prim.Native.Nat.{_+_, _≤_, _%_};
-ghost use lib.ListN.{length};
-ghost use lib.Seq.{sets};
-ghost use Rattle·touched.specs.Touches.{PlacesIn, TouchedIn, none, runOf};
-ghost use Rattle·entries·specs.specs.Entries.{entryBare, entryBytes, entryLength};
+use crate::{BARE, Entry, FRONT};
+use lists::{gather, put_number};
+use touched::{save, saved_length};
 
 // "Entry length is 128 + stored memory bytes + stored reel bytes", and eight for each place filled. The lengths of memory and reel are in bytes.
 pub fn entry_length(e: Entry, memory: usize, reel: usize) -> usize
-    requires { ⌜ TouchedIn (e .touched) memory reel ⌝ }
-    ensures { λ r. ⌜ r ≡ entryLength e ⌝ }
+    requires { TouchedIn e.touched memory reel }
+    ensures { result ≡ entryLength e }
 {
     let t = e.touched;
     BARE + saved_length(t, memory, reel)
@@ -27,8 +21,8 @@ pub fn entry_length(e: Entry, memory: usize, reel: usize) -> usize
 
 // The entry goes into the journal from `used` on: its length, the old bytes of its places, its head.
 pub fn enter(jrnl: &mut [u8], used: usize, e: Entry, mem: &[u8], reel: &[u8], table: &[u8])
-    requires { ⌜ (used + entryLength e ≤ length (now jrnl)) × (length (now jrnl) ≤ 4294967295) × TouchedIn (e .touched) (length (now mem)) (length (now reel)) × PlacesIn (e .touched) (length (now table)) ⌝ }
-    ensures { λ _. ⌜ now (jrnl .exit) ≡ sets (now (jrnl .entry)) used (entryBytes e (now (mem .entry)) (now (reel .entry)) (now (table .entry))) ⌝ }
+    requires { (used + entryLength e ≤ length jrnl.old) × (length jrnl.old ≤ 4294967295) × TouchedIn e.touched (length mem.now) (length reel.now) × PlacesIn e.touched (length table.now) }
+    ensures { jrnl.new ≡ sets jrnl.old used (entryBytes e mem.now reel.now table.now) }
 {
     let t = e.touched;
     let saved = saved_length(t, mem.len(), reel.len());
@@ -41,8 +35,8 @@ pub fn enter(jrnl: &mut [u8], used: usize, e: Entry, mem: &[u8], reel: &[u8], ta
 
 // An entry that saves no byte, of a step that changes the state alone.
 pub fn enter_bare(jrnl: &mut [u8], used: usize, e: Entry)
-    requires { ⌜ (used + entryBare ≤ length (now jrnl)) × (e .touched ≡ none) ⌝ }
-    ensures { λ _. ⌜ now (jrnl .exit) ≡ sets (now (jrnl .entry)) used (entryBytes e [] [] []) ⌝ }
+    requires { (used + entryBare ≤ length jrnl.old) × (e.touched ≡ none) }
+    ensures { jrnl.new ≡ sets jrnl.old used (entryBytes e [] [] []) }
 {
     put_number(jrnl, used, BARE as u32);
     put_head(jrnl, used + FRONT, numbers_of(e));
@@ -50,8 +44,8 @@ pub fn enter_bare(jrnl: &mut [u8], used: usize, e: Entry)
 
 // An entry that saves n bytes of memory and no more: a host store's.
 pub fn enter_run(jrnl: &mut [u8], used: usize, e: Entry, mem: &[u8], at: usize, n: usize)
-    requires { ⌜ (used + entryBare + n ≤ length (now jrnl)) × (at + n ≤ length (now mem)) × (length (now mem) % 2 ≡ 0) × (length (now mem) ≤ 1073741824) × (e .touched ≡ runOf at n) ⌝ }
-    ensures { λ _. ⌜ now (jrnl .exit) ≡ sets (now (jrnl .entry)) used (entryBytes e (now (mem .entry)) [] []) ⌝ }
+    requires { (used + entryBare + n ≤ length jrnl.old) × (at + n ≤ length mem.now) × (length mem.now % 2 ≡ 0) × (length mem.now ≤ 1073741824) × (e.touched ≡ run_of at n) }
+    ensures { jrnl.new ≡ sets jrnl.old used (entryBytes e mem.now [] []) }
 {
     let from = used + FRONT;
     let head = from + n;

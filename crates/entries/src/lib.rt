@@ -5,21 +5,15 @@ mod entering;
 mod numbers;
 mod restoring;
 
-pub use bytes::head_at;
-pub use bytes::put_head;
-pub use entering::enter;
-pub use entering::enter_bare;
-pub use entering::enter_run;
-pub use entering::entry_length;
-pub use numbers::entry_of;
-pub use numbers::numbers_of;
-pub use restoring::bring_entry_back;
-pub use restoring::entry_fits;
-pub use restoring::newest_entry;
+pub use bytes::{head_at, put_head};
+pub use entering::{enter, enter_bare, enter_run, entry_length};
+pub use numbers::{entry_of, numbers_of};
+pub use restoring::{bring_entry_back, entry_fits, newest_entry};
 use state::Unit;
 use touched::Touched;
 
 // Which transport took a step, its state before it with the used places of the table, and what the step touches. A host store's names none.
+#[derive(Drop)]
 pub struct Entry {
     pub unit: Unit,
     pub objects: usize,

@@ -1,32 +1,26 @@
 // The one encoding of an entry's head: 31 numbers, and back.
+ghost use Rattle.std.specs.Prelude.{◌≡◌, ◌%◌};
+ghost use Rattle.touched.specs.Touches.{placeBelow};
+ghost use Rattle.entries.specs.Numbers.{bit_of, entry_of, numbersOf, touchedOf, unit_of};
+
 use crate::Entry;
-use state::Attention;
-use state::Characteristics;
-use state::Lengths;
-use state::Panel;
-use state::Registers;
-use state::Tape;
-use state::Unit;
+use state::{Attention, Characteristics, Lengths, Panel, Registers, Tape, Unit};
 use touched::Touched;
-ghost use mathlib.Core.Path.{_≡_};
-ghost use Prim.Native.Nat.{_%_};
-ghost use Rattle·touched.specs.Touches.{placeBelow};
-ghost use Rattle·entries·specs.specs.Numbers.{bitOf, entryOf, numbersOf, touchedOf, unitOf};
 
 fn low(x: usize) -> u32
-    ensures { λ r. ⌜ r ≡ x % 4294967296 ⌝ }
+    ensures { result ≡ x % 4294967296 }
 {
     (x % 4294967296) as u32
 }
 
 fn bit_of(b: bool) -> u32
-    ensures { λ r. ⌜ r ≡ bitOf b ⌝ }
+    ensures { result ≡ bit_of b }
 {
     if b { 1 } else { 0 }
 }
 
 pub fn numbers_of(e: Entry) -> [u32; 31]
-    ensures { λ r. ⌜ r ≡ numbersOf e ⌝ }
+    ensures { result ≡ numbersOf e }
 {
     let u = e.unit;
     let t = e.touched;
@@ -66,7 +60,7 @@ pub fn numbers_of(e: Entry) -> [u32; 31]
 }
 
 fn unit_of(n: [u32; 31]) -> Unit
-    ensures { λ r. ⌜ r ≡ unitOf n ⌝ }
+    ensures { result ≡ unit_of n }
 {
     let tape = Tape {
         position: n[0] as usize,
@@ -113,7 +107,7 @@ fn unit_of(n: [u32; 31]) -> Unit
 
 // The first of f places that end below the place `top`; with more than that, place 0.
 fn place_below(top: usize, f: u32) -> usize
-    ensures { λ r. ⌜ r ≡ placeBelow top f ⌝ }
+    ensures { result ≡ placeBelow top f }
 {
     let k = f as usize;
     if (k == 0) | (top < k) {
@@ -123,7 +117,7 @@ fn place_below(top: usize, f: u32) -> usize
 }
 
 fn touched_of(n: [u32; 31], top: usize) -> Touched
-    ensures { λ r. ⌜ r ≡ touchedOf n top ⌝ }
+    ensures { result ≡ touchedOf n top }
 {
     Touched {
         data_at: n[21] as usize,
@@ -140,7 +134,7 @@ fn touched_of(n: [u32; 31], top: usize) -> Touched
 
 // The entry with this head, of a step that left so many used places of the table.
 pub fn entry_of(n: [u32; 31], top: usize) -> Entry
-    ensures { λ r. ⌜ r ≡ entryOf n top ⌝ }
+    ensures { result ≡ entry_of n top }
 {
     let unit = unit_of(n);
     let touched = touched_of(n, top);

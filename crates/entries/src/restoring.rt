@@ -1,26 +1,19 @@
 // Reading the newest entry, whatever bytes stand there, and bringing its old bytes back.
-use crate::BARE;
-use crate::Entry;
-use crate::FRONT;
-use crate::HEAD;
+ghost use Rattle.std.specs.Prelude.{◌≡◌, ◌+◌, ◌≤◌, length};
+ghost use Rattle.touched.specs.Touches.{PlacesIn, Restored, Sizes, TouchedIn, savedLength};
+ghost use Rattle.entries.specs.Bytes.{headLength};
+ghost use Rattle.entries.specs.Entries.{entryBare, entryFits, newestEntry, savedFor, usedIn};
+
 use crate::bytes::head_at;
 use crate::numbers::entry_of;
+use crate::{BARE, Entry, FRONT, HEAD};
 use state::Lengths;
-use touched::Touched;
-use touched::bring_back;
-use touched::saved_length;
-use touched::touched_fits;
-ghost use mathlib.Core.Path.{_≡_};
-ghost use Prim.Native.Nat.{_+_, _≤_};
-ghost use lib.ListN.{length};
-ghost use Rattle·touched.specs.Touches.{PlacesIn, Restored, Sizes, TouchedIn, savedLength};
-ghost use Rattle·entries·specs.specs.Bytes.{headLength};
-ghost use Rattle·entries·specs.specs.Entries.{entryBare, entryFits, newestEntry, savedFor, usedIn};
+use touched::{Touched, bring_back, saved_length, touched_fits};
 
 // The entry whose head ends at `used`, where `top` places of the table are used.
 pub fn newest_entry(jrnl: &[u8], used: usize, top: usize) -> Entry
-    requires { ⌜ (headLength ≤ used) × (used ≤ length (now jrnl)) ⌝ }
-    ensures { λ r. ⌜ r ≡ newestEntry top (usedIn used (now (jrnl .entry))) ⌝ }
+    requires { (headLength ≤ used) × (used ≤ length jrnl.now) }
+    ensures { result ≡ newestEntry top (usedIn used jrnl.now) }
 {
     entry_of(head_at(jrnl, used - HEAD), top)
 }
@@ -34,8 +27,8 @@ pub fn entry_fits(
     reel: usize,
     top: usize,
 ) -> bool
-    requires { ⌜ Sizes memory reel ⌝ }
-    ensures { λ r. ⌜ r ≡ entryFits e used mounted memory reel top ⌝ }
+    requires { Sizes memory reel }
+    ensures { result ≡ entryFits e used mounted memory reel top }
 {
     let t = e.touched;
     let same = (e.unit.lengths.memory == mounted.memory)
@@ -55,8 +48,8 @@ pub fn bring_entry_back(
     reel: &mut [u8],
     table: &mut [u8],
 )
-    requires { ⌜ (used ≤ length (now jrnl)) × (entryBare + savedLength t ≤ used) × TouchedIn t (length (now mem)) (length (now reel)) × PlacesIn t (length (now table)) ⌝ }
-    ensures { λ _. ⌜ Restored t (savedFor t (usedIn used (now (jrnl .entry)))) (now (mem .entry)) (now (reel .entry)) (now (table .entry)) (now (mem .exit)) (now (reel .exit)) (now (table .exit)) ⌝ }
+    requires { (used ≤ length jrnl.now) × (entryBare + savedLength t ≤ used) × TouchedIn t (length mem.old) (length reel.old) × PlacesIn t (length table.old) }
+    ensures { Restored t (savedFor t (usedIn used jrnl.now)) mem.old reel.old table.old mem.new reel.new table.new }
 {
     let head = used - HEAD;
     let from = head - saved_length(t, mem.len(), reel.len());

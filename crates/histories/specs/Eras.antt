@@ -1,20 +1,16 @@
 -- How a shared history begins: "demand 3 speaks of the shared history since the last mount, every unit in the row by then mounted over the one memory and journal and demand
 -- 3's other conditions kept from each unit's own mount on, later mounts of other units aside; mounting any unit empties the journal for all." (02, [9])
-use mathlib.Core.Bool.{Bool, false}
-use mathlib.Core.List.{List, [], _∷_}
-use mathlib.Core.Path.{_≡_}
-use Prim.Native.Nat.{ℕ}
-use lib.ListN.{set}
-use Rattle·lists.specs.Words.{Bytes}
-use Rattle·commands.specs.declared.plans.Answer.the-variants as answer
-use Rattle·worlds.specs.Coupled.{Coupled, Rig, deckAt, mountAt}
-use Rattle·sessions.specs.Session.{Done, Ran}
-use Rattle·histories·specs.specs.Calling.{Here, calls, coupledFrom}
+use Rattle.std.specs.Prelude.{Bool, false, List, [], ◌∷◌, ◌≡◌, ℕ, set}
+use Rattle.lists.specs.Words.{Bytes}
+use Rattle.commands.specs.declared.plans.Answer.TheVariants as answer
+use Rattle.worlds.specs.Coupled.{Coupled, Rig, deckAt, mountAt}
+use Rattle.sessions.specs.Session.{Done, Ran}
+use Rattle.histories.specs.Calling.{Here, calls, coupledFrom}
 
 -- a reel and a table put on transport k, before its mount
 unfoldable pub loaded : ℕ → List ℕ → List ℕ → Rig → Rig
 loaded k r tb g =
-    record { decks = set (g .decks) k (record { transport = deckAt g k .transport; reel = r; table = tb }); memory = g .memory; mounted = g .mounted }
+    record { decks = set g.decks k (record { transport = (deckAt g k).transport; reel = r; table = tb }); memory = g.memory; mounted = g.mounted }
 
 -- a mount of transport k over the rig g, with a journal of n bytes
 pub record Mount : Type 0 where
@@ -28,15 +24,15 @@ pub record Mount : Type 0 where
 -- what it leaves of a coupled world, if it is answered 0: the journal is empty
 unfoldable pub mountedFrom : ℕ → Mount → Coupled → Coupled
 mountedFrom n m w =
-    mountAt (record { rig = loaded (m .unit) (m .reel) (m .table) (w .rig); ledger = w .ledger }) n (m .unit) (m .end) (m .online) (m .locked) .coupled
+    (mountAt (record { rig = loaded m.unit m.reel m.table w.rig; ledger = w.ledger }) n m.unit m.end m.online m.locked).coupled
 
 pub record Accepted (n : ℕ) (m : Mount) (w : Coupled) : Type 0 where
-  pub bytes : Bytes (m .reel)
-  pub done : mountAt (record { rig = loaded (m .unit) (m .reel) (m .table) (w .rig); ledger = w .ledger }) n (m .unit) (m .end) (m .online) (m .locked) .answer ≡ answer.Done false
+  pub bytes : Bytes m.reel
+  pub done : (mountAt (record { rig = loaded m.unit m.reel m.table w.rig; ledger = w.ledger }) n m.unit m.end m.online m.locked).answer ≡ answer.Done false
 
 -- a history whose transports ks have been mounted, the newest first, and whose last mount left s: from any world at all a first mount; or, behind any calls since the
 -- mount before, the mount of one transport more, or of one again
 pub data Era (n : ℕ) : List ℕ → Here → Type 0 where
-  first : {w : Coupled} {s : Here} (m : Mount) → Accepted n m w → s ≡ (record { core = mountedFrom n m w .rig; entries = [] }) → Era n (m .unit ∷ []) s
+  first : {w : Coupled} {s : Here} (m : Mount) → Accepted n m w → s ≡ (record { core = (mountedFrom n m w).rig; entries = [] }) → Era n (m.unit ∷ []) s
   again : {ks : List ℕ} {s₀ s₁ s : Here} {l : List (Done (calls n))} (m : Mount)
-      → Era n ks s₀ → Ran (calls n) s₀ l s₁ → Accepted n m (coupledFrom n s₁) → s ≡ (record { core = mountedFrom n m (coupledFrom n s₁) .rig; entries = [] }) → Era n (m .unit ∷ ks) s
+      → Era n ks s₀ → Ran (calls n) s₀ l s₁ → Accepted n m (coupledFrom n s₁) → s ≡ (record { core = (mountedFrom n m (coupledFrom n s₁)).rig; entries = [] }) → Era n (m.unit ∷ ks) s

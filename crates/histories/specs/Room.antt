@@ -1,22 +1,18 @@
 -- When a step over the row is refused for places or for room. (01, the table of refusals; 02, [8] and [9])
-use mathlib.Core.Bool.{Bool, false}
-use mathlib.Core.List.{List}
-use mathlib.Core.Path.{_≡_}
-use Prim.Native.Nat.{ℕ}
-use lib.ListN.{length}
-use Rattle·commands.specs.declared.plans.Answer.the-variants as answer
-use Rattle·unit.specs.Asks.{host-store}
-use Rattle·unit.specs.Steps.{stepOf}
-use Rattle·worlds.specs.Coupled.{Coupled, CoupledAnswer, Rig, coreOf, coreOfNone, refusedWith}
-use Rattle·worlds.specs.Rows.{absentIn}
-use Rattle·sessions.specs.Good.{NoPlace, NoRoom}
-use Rattle·histories·specs.specs.Calling.{Call, Numbered, coreFor, doing, entryAt, read-register, step, store}
-use Rattle·histories·specs.specs.Good.{Among}
+use Rattle.std.specs.Prelude.{Bool, false, List, ◌≡◌, ℕ, length}
+use Rattle.commands.specs.declared.plans.Answer.TheVariants as answer
+use Rattle.unit.specs.Asks.{host-store}
+use Rattle.unit.specs.Steps.{step_of}
+use Rattle.worlds.specs.Coupled.{Coupled, CoupledAnswer, Rig, core_of, coreOfNone, refusedWith}
+use Rattle.worlds.specs.Rows.{absentIn}
+use Rattle.sessions.specs.Good.{NoPlace, NoRoom}
+use Rattle.histories.specs.Calling.{Call, Numbered, coreFor, doing, entry_at, read-register, step, store}
+use Rattle.histories.specs.Good.{Among}
 
 -- a call of a transport that is present and whose step 7 doesn't refuse and is no idle advance; or a host store that 5 doesn't refuse
 abbrev pub Steppable : Call → Rig → Type 0
-Steppable (step k a h) g = (absentIn (length (g .decks)) k ≡ false) × ((i : Bool) × (stepOf a (coreOf k g) .answer ≡ answer.Done i))
-Steppable (store place bytes) g = (i : Bool) × (stepOf (host-store place bytes) (coreOfNone g) .answer ≡ answer.Done i)
+Steppable (step k a h) g = (absentIn (length g.decks) k ≡ false) × ((i : Bool) × ((step_of a (core_of k g)).answer ≡ answer.Done i))
+Steppable (store place bytes) g = (i : Bool) × ((step_of (host-store place bytes) (coreOfNone g)).answer ≡ answer.Done i)
 Steppable (read-register k r) g = ⊥
 
 -- the transport that is called is one of ks; a host store calls none
@@ -25,7 +21,7 @@ CalledAmong ks c = (k : ℕ) → Numbered c k → Among k ks
 
 -- "a step is refused for room exactly when its entry doesn't fit", and then all is as it was; 11 comes before 9, and is given exactly when the transport's table is too small
 pub record Exactly (w : Coupled) (c : Call) (x : CoupledAnswer) : Type 0 where
-  pub nine : x .answer ≡ answer.Refused 9 → NoRoom (w .ledger) (entryAt c (w .rig))
-  pub no-room : (NoPlace (coreFor c (w .rig)) (doing c (w .rig)) → ⊥) → NoRoom (w .ledger) (entryAt c (w .rig)) → x ≡ refusedWith 9 w
-  pub eleven : x .answer ≡ answer.Refused 11 → NoPlace (coreFor c (w .rig)) (doing c (w .rig))
-  pub no-place : NoPlace (coreFor c (w .rig)) (doing c (w .rig)) → x ≡ refusedWith 11 w
+  pub nine : x.answer ≡ answer.Refused 9 → NoRoom w.ledger (entry_at c w.rig)
+  pub no_room : (NoPlace (coreFor c w.rig) (doing c w.rig) → ⊥) → NoRoom w.ledger (entry_at c w.rig) → x ≡ refusedWith 9 w
+  pub eleven : x.answer ≡ answer.Refused 11 → NoPlace (coreFor c w.rig) (doing c w.rig)
+  pub no_place : NoPlace (coreFor c w.rig) (doing c w.rig) → x ≡ refusedWith 11 w

@@ -1,87 +1,87 @@
 -- Halving, of whatever bytes: how many turns are enough, what the last place tells, that it stays inside, and what stands on either side of where it ends.
-use mathlib.Core.Path.{_≡_, refl, sym, ap₂}
+use mathlib.Core.Path.{◌≡◌, refl, sym, ap₂}
 use mathlib.Core.Bool.{false}
 use mathlib.Core.List.{List}
-use Prim.Native.Nat.{ℕ, zero, suc, _+_, _-_, _/_, _≤_, _<_}
+use Prim.Native.Nat.{ℕ, zero, suc, ◌+◌, ◌-◌, ◌/◌, ◌≤◌, ◌<◌}
 use native.Mathlib.Omega.{arith}
-use borrow.Author.Tests.{eq-eqb, eqb-false, eqb-true, le-ltb, lt-ltb, ltb-false, ltb-true, ne-eqb}
-use lib.Dec.{eqb, eqb·suc-zero, ltb}
-use Rattle·lists.specs.Pick.{pick}
-use Rattle·lists.proofs.Cases.{by-test, pick-told}
-use Rattle·index·specs.specs.Halving.{halved, numberIn, searched}
+use borrow.Author.Tests.{eq-eqb, eqb-false, eqb-true, le-ltb, lt-ltb, ltb-false, ltb-true, ne_eqb}
+use lib.Dec.{eqb, eqb-suc-zero, ltb}
+use Rattle.lists.specs.Pick.{pick}
+use Rattle.lists.proofs.Cases.{by-test, pick-told}
+use Rattle.index.specs.Halving.{halved, number_in, searched}
 
 module _ (tb : List ℕ) (field v : ℕ) where
   -- no place left, none looked at
-  pub none-left : (turns lo n : ℕ) → n ≡ 0 → searched turns tb field v lo n ≡ lo
+  pub none_left : (turns lo n : ℕ) → n ≡ 0 → searched turns tb field v lo n ≡ lo
   unfolding searched
-  none-left zero lo n e = refl
-  none-left (suc turns) lo n e = rw (eq-eqb n 0 e)
+  none_left zero lo n e = refl
+  none_left (suc turns) lo n e = rw (eq-eqb n 0 e)
 
   -- any two numbers of turns that are enough
   pub turns-enough : (t u lo n : ℕ) → n ≤ t → n ≤ u → searched t tb field v lo n ≡ searched u tb field v lo n
   unfolding searched
-  turns-enough zero u lo n h k = sym (none-left u lo n (omega arith))
-  turns-enough (suc t) zero lo n h k = none-left (suc t) lo n (omega arith)
+  turns-enough zero u lo n h k = sym (none_left u lo n (omega arith))
+  turns-enough (suc t) zero lo n h k = none_left (suc t) lo n (omega arith)
   turns-enough (suc t) (suc u) lo n h k =
       let at = lo + n / 2 in
-      ap₂ (λ (a b : ℕ). pick (eqb n 0) lo (pick (ltb (numberIn tb field at) v) a b)) (turns-enough t u (at + 1) (n - n / 2 - 1) (omega arith) (omega arith)) (turns-enough t u lo (n / 2) (omega arith) (omega arith))
+      ap₂ (λ (a b : ℕ). pick (eqb n 0) lo (pick (ltb (number_in tb field at) v) a b)) (turns-enough t u (at + 1) (n - n / 2 - 1) (omega arith) (omega arith)) (turns-enough t u lo (n / 2) (omega arith) (omega arith))
 
   -- one turn, where a place is left: the other half needs no more turns than it has places
-  turn : (lo n : ℕ) → 0 < n → searched n tb field v lo n ≡ pick (ltb (numberIn tb field (lo + n / 2)) v) (searched (n - n / 2 - 1) tb field v (lo + n / 2 + 1) (n - n / 2 - 1)) (searched (n / 2) tb field v lo (n / 2))
+  turn : (lo n : ℕ) → 0 < n → searched n tb field v lo n ≡ pick (ltb (number_in tb field (lo + n / 2)) v) (searched (n - n / 2 - 1) tb field v (lo + n / 2 + 1) (n - n / 2 - 1)) (searched (n / 2) tb field v lo (n / 2))
   unfolding searched
   turn lo zero h = absurd (omega arith)
   turn lo (suc m) h =
       let n = suc m in
       let at = lo + n / 2 in
-      rw (eqb·suc-zero m)
-      (ap₂ (λ (a b : ℕ). pick (ltb (numberIn tb field at) v) a b) (turns-enough m (n - n / 2 - 1) (at + 1) (n - n / 2 - 1) (omega arith) (omega arith)) (turns-enough m (n / 2) lo (n / 2) (omega arith) (omega arith)))
+      rw (eqb-suc-zero m)
+      (ap₂ (λ (a b : ℕ). pick (ltb (number_in tb field at) v) a b) (turns-enough m (n - n / 2 - 1) (at + 1) (n - n / 2 - 1) (omega arith) (omega arith)) (turns-enough m (n / 2) lo (n / 2) (omega arith) (omega arith)))
 
-  pub turn-behind : (lo n : ℕ) → 0 < n → numberIn tb field (lo + n / 2) < v → searched (n - n / 2 - 1) tb field v (lo + n / 2 + 1) (n - n / 2 - 1) ≡ searched n tb field v lo n
-  turn-behind lo n h b = rw (turn lo n h, lt-ltb (numberIn tb field (lo + n / 2)) v b)
+  pub turn-behind : (lo n : ℕ) → 0 < n → number_in tb field (lo + n / 2) < v → searched (n - n / 2 - 1) tb field v (lo + n / 2 + 1) (n - n / 2 - 1) ≡ searched n tb field v lo n
+  turn-behind lo n h b = rw (turn lo n h, lt-ltb (number_in tb field (lo + n / 2)) v b)
 
-  pub turn-before : (lo n : ℕ) → 0 < n → v ≤ numberIn tb field (lo + n / 2) → searched (n / 2) tb field v lo (n / 2) ≡ searched n tb field v lo n
-  turn-before lo n h b = rw (turn lo n h, le-ltb (numberIn tb field (lo + n / 2)) v b)
+  pub turn-before : (lo n : ℕ) → 0 < n → v ≤ number_in tb field (lo + n / 2) → searched (n / 2) tb field v lo (n / 2) ≡ searched n tb field v lo n
+  turn-before lo n h b = rw (turn lo n h, le-ltb (number_in tb field (lo + n / 2)) v b)
 
   -- no place at all; the last below v; the halving
-  pub halved-none : (n : ℕ) → n ≡ 0 → 0 ≡ halved tb field v n
+  pub halved_none : (n : ℕ) → n ≡ 0 → 0 ≡ halved tb field v n
   unfolding halved
-  halved-none n e = rw (eq-eqb n 0 e)
+  halved_none n e = rw (eq-eqb n 0 e)
 
-  pub halved-all : (n last : ℕ) → (n ≡ 0 → ⊥) → last ≡ numberIn tb field (n - 1) → last < v → n ≡ halved tb field v n
+  pub halved-all : (n last : ℕ) → (n ≡ 0 → ⊥) → last ≡ number_in tb field (n - 1) → last < v → n ≡ halved tb field v n
   unfolding halved
-  halved-all n last h e l = rw (ne-eqb n 0 h, ← e, lt-ltb last v l)
+  halved-all n last h e l = rw (ne_eqb n 0 h, ← e, lt-ltb last v l)
 
-  pub halved-else : (n last : ℕ) → (n ≡ 0 → ⊥) → last ≡ numberIn tb field (n - 1) → v ≤ last → searched n tb field v 0 n ≡ halved tb field v n
+  pub halved-else : (n last : ℕ) → (n ≡ 0 → ⊥) → last ≡ number_in tb field (n - 1) → v ≤ last → searched n tb field v 0 n ≡ halved tb field v n
   unfolding halved
-  halved-else n last h e l = rw (ne-eqb n 0 h, ← e, le-ltb last v l)
+  halved-else n last h e l = rw (ne_eqb n 0 h, ← e, le-ltb last v l)
 
   -- where the halving among the n places from lo on ends: inside, behind a place below v, before one that is not
   record Sides (lo n at : ℕ) : Type 0 where
     low : lo ≤ at
     high : at ≤ lo + n
-    below : (i : ℕ) → lo ≤ i → suc i ≡ at → numberIn tb field i < v
-    above : at < lo + n → v ≤ numberIn tb field at
+    below : (i : ℕ) → lo ≤ i → suc i ≡ at → number_in tb field i < v
+    above : at < lo + n → v ≤ number_in tb field at
 
   none-there : (lo n : ℕ) → n ≡ 0 → Sides lo n lo
   none-there lo n e = record { low = omega arith; high = omega arith; below = λ i l k. absurd (omega arith); above = λ l. absurd (omega arith) }
 
   -- either half keeps that
-  behind : (lo n half at : ℕ) → half < n → numberIn tb field (lo + half) < v → Sides (lo + half + 1) (n - half - 1) at → Sides lo n at
+  behind : (lo n half at : ℕ) → half < n → number_in tb field (lo + half) < v → Sides (lo + half + 1) (n - half - 1) at → Sides lo n at
   behind lo n half at h b s =
       record {
-        low = omega (arith, s .low);
-        high = omega (arith, s .high);
-        below = λ i l e. by-test (eqb i (lo + half)) (λ t. rw (eqb-true i (lo + half) t) b) (λ t. s .below i (omega (arith, eqb-false i (lo + half) t, s .low)) e);
-        above = λ l. s .above (omega arith);
+        low = omega (arith, s.low);
+        high = omega (arith, s.high);
+        below = λ i l e. by-test (eqb i (lo + half)) (λ t. rw (eqb-true i (lo + half) t) b) (λ t. s.below i (omega (arith, eqb-false i (lo + half) t, s.low)) e);
+        above = λ l. s.above (omega arith);
       }
 
-  before : (lo n half at : ℕ) → half < n → v ≤ numberIn tb field (lo + half) → Sides lo half at → Sides lo n at
+  before : (lo n half at : ℕ) → half < n → v ≤ number_in tb field (lo + half) → Sides lo half at → Sides lo n at
   before lo n half at h b s =
       record {
-        low = s .low;
-        high = omega (arith, s .high);
-        below = s .below;
-        above = λ l. by-test (eqb at (lo + half)) (λ t. rw (eqb-true at (lo + half) t) b) (λ t. s .above (omega (arith, eqb-false at (lo + half) t, s .high)));
+        low = s.low;
+        high = omega (arith, s.high);
+        below = s.below;
+        above = λ l. by-test (eqb at (lo + half)) (λ t. rw (eqb-true at (lo + half) t) b) (λ t. s.above (omega (arith, eqb-false at (lo + half) t, s.high)));
       }
 
   sides : (turns lo n : ℕ) → n ≤ turns → Sides lo n (searched turns tb field v lo n)
@@ -91,7 +91,7 @@ module _ (tb : List ℕ) (field v : ℕ) where
       let at = lo + n / 2 in
       pick-told (Sides lo n) (eqb n 0) lo _ (λ t. none-there lo n (eqb-true n 0 t))
       (λ t.
-      pick-told (Sides lo n) (ltb (numberIn tb field at) v) _ _
+      pick-told (Sides lo n) (ltb (number_in tb field at) v) _ _
       (λ b. behind lo n (n / 2) (searched turns tb field v (at + 1) (n - n / 2 - 1)) (some n t) (ltb-true _ _ b) (sides turns (at + 1) (n - n / 2 - 1) (omega arith)))
       (λ b. before lo n (n / 2) (searched turns tb field v lo (n / 2)) (some n t) (ltb-false _ _ b) (sides turns lo (n / 2) (omega arith))))
     where
@@ -104,28 +104,28 @@ module _ (tb : List ℕ) (field v : ℕ) where
   halved-sides n =
       pick-told (Sides 0 n) (eqb n 0) 0 _ (λ t. none-there 0 n (eqb-true n 0 t))
       (λ t.
-      pick-told (Sides 0 n) (ltb (numberIn tb field (n - 1)) v) n _
-      (λ b. record { low = omega arith; high = omega arith; below = λ i l e. at-last i (ltb-true _ _ b) e; above = λ l. absurd (omega arith) })
+      pick-told (Sides 0 n) (ltb (number_in tb field (n - 1)) v) n _
+      (λ b. record { low = omega arith; high = omega arith; below = λ i l e. at_last i (ltb-true _ _ b) e; above = λ l. absurd (omega arith) })
       (λ b. sides n 0 n (omega arith)))
     where
-      at-last : (i : ℕ) → numberIn tb field (n - 1) < v → suc i ≡ n → numberIn tb field i < v
-      at-last i b e =
+      at_last : (i : ℕ) → number_in tb field (n - 1) < v → suc i ≡ n → number_in tb field i < v
+      at_last i b e =
           let p : n - 1 ≡ i = omega arith in
           rw (← p) b
 
   pub halved-low : (n : ℕ) → halved tb field v n ≤ n
-  halved-low n = omega (arith, halved-sides n .high)
+  halved-low n = omega (arith, (halved-sides n).high)
 
   -- the place before it is below v, and its own is not, of whatever bytes
-  pub halved-behind : (n i : ℕ) → suc i ≡ halved tb field v n → numberIn tb field i < v
-  halved-behind n i e = halved-sides n .below i (omega arith) e
+  pub halved-behind : (n i : ℕ) → suc i ≡ halved tb field v n → number_in tb field i < v
+  halved-behind n i e = (halved-sides n).below i (omega arith) e
 
-  pub halved-before : (n : ℕ) → halved tb field v n < n → v ≤ numberIn tb field (halved tb field v n)
-  halved-before n l = halved-sides n .above (omega arith)
+  pub halved-before : (n : ℕ) → halved tb field v n < n → v ≤ number_in tb field (halved tb field v n)
+  halved-before n l = (halved-sides n).above (omega arith)
 
 -- on numbers that never fall it is the number of places below v
-pub halved-is : (tb : List ℕ) (field v n k : ℕ) → k ≤ n → ((i : ℕ) → i < k → numberIn tb field i < v) → ((i : ℕ) → k ≤ i → i < n → v ≤ numberIn tb field i) → halved tb field v n ≡ k
-halved-is tb field v n k h below above =
+pub halved_is : (tb : List ℕ) (field v n k : ℕ) → k ≤ n → ((i : ℕ) → i < k → number_in tb field i < v) → ((i : ℕ) → k ≤ i → i < n → v ≤ number_in tb field i) → halved tb field v n ≡ k
+halved_is tb field v n k h below above =
     let at = halved tb field v n in
     by-test (ltb at k)
     (λ t.

@@ -1,15 +1,11 @@
 -- What is found in a table of n places, of whatever bytes. A table too small for its count has no answer.
-use mathlib.Core.List.{List, [], _∷_, _++_}
-use mathlib.Core.Path.{_≡_}
-use Prim.Native.Nat.{ℕ, _+_, _-_, _≤_, _<_}
-use lib.Dec.{eqb, leb, ltb}
-use lib.ListN.{length}
-use Rattle·lists.specs.Pick.{pick}
-use Rattle·tape.specs.Objects.{Object, blocksIn, blocksOf, mark}
-use Rattle·index·specs.specs.Halving.{halved, ofBlocks, ofMarks}
-use Rattle·index·specs.specs.Table.{marksOf, placesIn}
-use Rattle·index·specs.specs.declared.Found.{Found}
-use Rattle·index·specs.specs.declared.Found.the-variants as found
+use Rattle.std.specs.Prelude.{List, [], ◌∷◌, ◌++◌, ◌≡◌, ℕ, ◌+◌, ◌-◌, ◌≤◌, ◌<◌, eqb, leb, ltb, length}
+use Rattle.lists.specs.Pick.{pick}
+use Rattle.tape.specs.Objects.{Object, blocksIn, blocksOf, mark}
+use Rattle.index.specs.Halving.{halved, ofBlocks, ofMarks}
+use Rattle.index.specs.Table.{marksOf, placesIn}
+use Rattle.index.specs.declared.Found.{Found}
+use Rattle.index.specs.declared.Found.TheVariants as found
 
 -- where file f begins: the first place with f marks before it
 unfoldable pub fileFound : List ℕ → ℕ → ℕ → Found

@@ -1,11 +1,8 @@
 -- "Keep a table in a lent slice: for every object its first block and the number of marks before it." (02, [8])
-use mathlib.Core.List.{List, [], _∷_, _++_}
-use mathlib.Core.Path.{_≡_}
-use Prim.Native.Nat.{ℕ, zero, suc, _+_, _*_, _/_, min}
-use lib.ListN.{length, take}
-use Rattle·lists.specs.Fours.{numberAt, numberBytes}
-use Rattle·tape.specs.Afresh.{objectsIn}
-use Rattle·tape.specs.Objects.{Object, blocksIn, gap, mark, record-of}
+use Rattle.std.specs.Prelude.{List, [], ◌∷◌, ◌++◌, ◌≡◌, ℕ, zero, suc, ◌+◌, ◌*◌, ◌/◌, min, length, take}
+use Rattle.lists.specs.Fours.{number_at, numberBytes}
+use Rattle.tape.specs.Afresh.{objectsIn}
+use Rattle.tape.specs.Objects.{Object, blocksIn, gap, mark, record_of}
 
 -- "eight bytes for each table place"
 abbrev pub placeLength : ℕ
@@ -17,7 +14,7 @@ placeBytes b k = numberBytes b ++ numberBytes k
 
 -- the marks among objects
 unfoldable pub marksIn : Object → ℕ
-marksIn (record-of d) = 0
+marksIn (record_of d) = 0
 marksIn mark = 1
 marksIn gap = 0
 
@@ -36,15 +33,15 @@ placesRow b k zero = []
 placesRow b k (suc n) = placeBytes b k ++ placesRow (b + 1) k n
 
 -- the table of a reel's objects
-abbrev pub tableOf : List Object → List ℕ
-tableOf os = tableFrom 0 0 os
+abbrev pub table_of : List Object → List ℕ
+table_of os = tableFrom 0 0 os
 
 -- place i of a table, whatever bytes stand there
 abbrev pub firstBlock : List ℕ → ℕ → ℕ
-firstBlock tb i = numberAt tb (placeLength * i)
+firstBlock tb i = number_at tb (placeLength * i)
 
 abbrev pub marksBefore : List ℕ → ℕ → ℕ
-marksBefore tb i = numberAt tb (placeLength * i + 4)
+marksBefore tb i = number_at tb (placeLength * i + 4)
 
 -- how many places a slice of n bytes has: whole ones, and no more than a count of four bytes can say (docs/DECISIONS.md, "A count of places has four bytes")
 abbrev pub placesLimit : ℕ
@@ -60,4 +57,4 @@ usedPlaces n tb = take (placeLength * n) tb
 -- "it is .. the table worked out afresh from the reel": n places of tb are used, and they are the table of the objects of s below e
 pub record Indexed (s : List ℕ) (e : ℕ) (tb : List ℕ) (n : ℕ) : Type 0 where
   pub count : n ≡ length (objectsIn s e)
-  pub used : usedPlaces n tb ≡ tableOf (objectsIn s e)
+  pub used : usedPlaces n tb ≡ table_of (objectsIn s e)

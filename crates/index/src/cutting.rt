@@ -1,22 +1,17 @@
 // Where a write cuts the table, and the places of the objects that it lays.
-use crate::Cut;
-use crate::PLACE;
+ghost use Rattle.std.specs.Prelude.{◌≡◌, ◌+◌, ◌*◌, ◌≤◌, length};
+ghost use Rattle.std.proofs.lemmas.List.Edits.{sets};
+ghost use Rattle.index.specs.Cutting.{cut_at, kind_at, marksAt};
+ghost use Rattle.index.specs.Table.{placeBytes, placeLength, placesRow};
+
 use crate::halving::halve;
-use lists::number_at;
-use lists::put_number;
-use lists::word;
-use tape::Geometry;
-use tape::MARK_KIND;
-ghost use mathlib.Core.Path.{_≡_};
-ghost use Prim.Native.Nat.{_+_, _*_, _≤_};
-ghost use lib.ListN.{length};
-ghost use lib.Seq.{sets};
-ghost use Rattle·index·specs.specs.Cutting.{cutAt, kindAt, marksAt};
-ghost use Rattle·index·specs.specs.Table.{placeBytes, placeLength, placesRow};
+use crate::{Cut, PLACE};
+use lists::{number_at, put_number, word};
+use tape::{Geometry, MARK_KIND};
 
 // Block k's kind; the table may name a block that is not there.
 fn kind_at(reel: &[u8], k: usize) -> usize
-    ensures { λ r. ⌜ r ≡ kindAt (now (reel .entry)) k ⌝ }
+    ensures { result ≡ kind_at reel.now k }
 {
     if k < reel.len() / Geometry::BLOCK {
         return word(reel, Geometry::BLOCK * k);
@@ -26,8 +21,8 @@ fn kind_at(reel: &[u8], k: usize) -> usize
 
 // The marks before the object that place m is for.
 fn marks_at(table: &[u8], reel: &[u8], m: usize) -> u32
-    requires { ⌜ placeLength * m ≤ length (now table) ⌝ }
-    ensures { λ r. ⌜ r ≡ marksAt (now (table .entry)) (now (reel .entry)) m ⌝ }
+    requires { placeLength * m ≤ length table.now }
+    ensures { result ≡ marksAt table.now reel.now m }
 {
     if m == 0 {
         return 0;
@@ -43,8 +38,8 @@ fn marks_at(table: &[u8], reel: &[u8], m: usize) -> u32
 
 // A write at block b, over a table of n places.
 pub fn cut_at(table: &[u8], n: usize, reel: &[u8], b: usize) -> Cut
-    requires { ⌜ placeLength * n ≤ length (now table) ⌝ }
-    ensures { λ r. ⌜ r ≡ cutAt (now (table .entry)) n (now (reel .entry)) b ⌝ }
+    requires { placeLength * n ≤ length table.now }
+    ensures { result ≡ cut_at table.now n reel.now b }
 {
     let place = halve(table, 0, b, n);
     let marks = marks_at(table, reel, place);
@@ -53,8 +48,8 @@ pub fn cut_at(table: &[u8], n: usize, reel: &[u8], b: usize) -> Cut
 
 // Place m is for the object whose first block is b, with k marks before it.
 pub fn put_place(table: &mut [u8], m: usize, b: u32, k: u32)
-    requires { ⌜ placeLength * (m + 1) ≤ length (now table) ⌝ }
-    ensures { λ _. ⌜ now (table .exit) ≡ sets (now (table .entry)) (placeLength * m) (placeBytes b k) ⌝ }
+    requires { placeLength * (m + 1) ≤ length table.old }
+    ensures { table.new ≡ sets table.old (placeLength * m) (placeBytes b k) }
 {
     let at = PLACE * m;
     put_number(table, at, b);
@@ -63,8 +58,8 @@ pub fn put_place(table: &mut [u8], m: usize, b: u32, k: u32)
 
 // The places of n objects in a row that a write lays from block b on, a block apart: one, or a gap's and the object's behind it.
 pub fn put_places(table: &mut [u8], c: Cut, b: usize, n: usize)
-    requires { ⌜ (placeLength * (c .place + n) ≤ length (now table)) × (b + n ≤ 4294967295) ⌝ }
-    ensures { λ _. ⌜ now (table .exit) ≡ sets (now (table .entry)) (placeLength * c .place) (placesRow b (c .marks) n) ⌝ }
+    requires { (placeLength * (c.place + n) ≤ length table.old) × (b + n ≤ 4294967295) }
+    ensures { table.new ≡ sets table.old (placeLength * c.place) (placesRow b c.marks n) }
 {
     let mut i: usize = 0;
     while i < n {

@@ -1,26 +1,23 @@
 // The first place whose number is no less than another, found by a look at the last one and then by halving.
-use crate::PLACE;
-use crate::PLACES_LIMIT;
-use lists::least;
-use lists::number_at;
-ghost use mathlib.Core.Path.{_≡_};
-ghost use Prim.Native.Nat.{_+_, _*_, _≤_};
-ghost use lib.ListN.{length};
-ghost use Rattle·index·specs.specs.Halving.{halved};
-ghost use Rattle·index·specs.specs.Table.{placeLength, placesIn};
+ghost use Rattle.std.specs.Prelude.{◌≡◌, ◌+◌, ◌*◌, ◌≤◌, length};
+ghost use Rattle.index.specs.Halving.{halved};
+ghost use Rattle.index.specs.Table.{placeLength, placesIn};
+
+use crate::{PLACE, PLACES_LIMIT};
+use lists::{least, number_at};
 
 // How many places a slice of n bytes has.
 pub fn places(n: usize) -> usize
-    ensures { λ r. ⌜ r ≡ placesIn n ⌝ }
+    ensures { result ≡ placesIn n }
 {
     least(n / PLACE, PLACES_LIMIT)
 }
 
 // Of the first n places, by the number that stands at `field` in each.
 pub fn halve(table: &[u8], field: usize, v: usize, n: usize) -> usize
-    requires { ⌜ (placeLength * n ≤ length (now table)) × (field ≤ 4) ⌝ }
-    ensures is { λ r. ⌜ r ≡ halved (now (table .entry)) field v n ⌝ }
-    ensures low { λ r. ⌜ r ≤ n ⌝ }
+    requires { (placeLength * n ≤ length table.now) × (field ≤ 4) }
+    ensures is { result ≡ halved table.now field v n }
+    ensures low { result ≤ n }
 {
     if n == 0 {
         return 0;

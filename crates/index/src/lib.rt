@@ -5,15 +5,10 @@ mod filling;
 mod finding;
 mod halving;
 
-pub use cutting::cut_at;
-pub use cutting::put_place;
-pub use cutting::put_places;
-pub use filling::count_objects;
-pub use filling::fill_table;
-pub use finding::find_block;
-pub use finding::find_file;
-pub use halving::halve;
-pub use halving::places;
+pub use cutting::{cut_at, put_place, put_places};
+pub use filling::{count_objects, fill_table};
+pub use finding::{find_block, find_file};
+pub use halving::{halve, places};
 
 // A place: two numbers of four bytes.
 pub const PLACE: usize = 8;
@@ -22,12 +17,14 @@ pub const PLACE: usize = 8;
 pub const PLACES_LIMIT: usize = 4294967295;
 
 // Where a write cuts the table: the first place that goes, and the marks before the object that it is then for.
+#[derive(Drop)]
 pub struct Cut {
     pub place: usize,
     pub marks: u32,
 }
 
 // What a look-up finds: a place of the table, or that there is none.
+#[derive(Drop)]
 pub enum Found {
     At(usize),
     Nowhere,

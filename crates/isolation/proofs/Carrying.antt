@@ -1,53 +1,53 @@
 -- A plan carried out from two cores that differ in memory alone, where both memories hold the data that it lays.
 use mathlib.Core.List.{List}
-use mathlib.Core.Path.{_≡_, refl, sym, subst, _∙_}
+use mathlib.Core.Path.{◌≡◌, refl, sym, subst, ◌∙◌}
 use Prim.Native.Nat.{ℕ}
-use lib.ListN.{getD, length}
-use Rattle·commands.specs.declared.plans.Plan.{Plan}
-use Rattle·storing.specs.Stored.{laidObjects, laidOn, reelAfter}
-use Rattle·storing.proofs.Lengths.{length-memory}
-use Rattle·unit.specs.Asks.{Ask}
-use Rattle·unit.specs.Cores.{Core}
-use Rattle·unit.specs.Steps.{Step, carried, stepOf, tableAfter}
-use Rattle·unit.specs.Stores.{StepBytes, bytesOf, planBytes}
-use Rattle·isolation·specs.specs.Alike.{SameButMemory, StepsAlike}
-use Rattle·isolation·proofs.proofs.Storing.{memory-alike}
+use lib.ListN.{get_or, length}
+use Rattle.commands.specs.declared.plans.Plan.{Plan}
+use Rattle.storing.specs.Stored.{laidObjects, laidOn, reelAfter}
+use Rattle.storing.proofs.Lengths.{length-memory}
+use Rattle.unit.specs.Asks.{Ask}
+use Rattle.unit.specs.Cores.{Core}
+use Rattle.unit.specs.Steps.{Step, carried, step_of, tableAfter}
+use Rattle.unit.specs.Stores.{StepBytes, bytes_of, planBytes}
+use Rattle.isolation.specs.Alike.{SameButMemory, StepsAlike}
+use Rattle.isolation.proofs.Storing.{memory-alike}
 
 -- a core over another memory
 abbrev pub over : Core → List ℕ → Core
-over c m = record { unit = c .unit; objects = c .objects; memory = m; reel = c .reel; table = c .table }
+over c m = record { unit = c.unit; objects = c.objects; memory = m; reel = c.reel; table = c.table }
 
-pub core-is : (c c′ : Core) → SameButMemory c c′ → over c (c′ .memory) ≡ c′
-core-is c c′ e = rw (e .unit, e .objects, e .reel, e .table)
+pub core_is : (c c' : Core) → SameButMemory c c' → over c c'.memory ≡ c'
+core_is c c' e = rw (e.unit, e.objects, e.reel, e.table)
 
 -- what is the same of two steps, with what they store
-pub record Alike (c c′ : Core) (x x′ : Step) (b b′ : StepBytes) : Type 0 where
-  pub answer : x .answer ≡ x′ .answer
-  pub touched : x .touched ≡ x′ .touched
-  pub bytes : b ≡ b′
-  pub after : SameButMemory (x .after) (x′ .after)
-  pub memory : (j : ℕ) → getD (c .memory) j 0 ≡ getD (c′ .memory) j 0 → getD (x .after .memory) j 0 ≡ getD (x′ .after .memory) j 0
+pub record Alike (c c' : Core) (x x' : Step) (b b' : StepBytes) : Type 0 where
+  pub answer : x.answer ≡ x'.answer
+  pub touched : x.touched ≡ x'.touched
+  pub bytes : b ≡ b'
+  pub after : SameButMemory x.after x'.after
+  pub memory : (j : ℕ) → get_or c.memory j 0 ≡ get_or c'.memory j 0 → get_or x.after.memory j 0 ≡ get_or x'.after.memory j 0
 
 -- so it is enough to look at one core over two memories
-pub steps-over : (a : Ask) (c c′ : Core) → SameButMemory c c′ → Alike c (over c (c′ .memory)) (stepOf a c) (stepOf a (over c (c′ .memory))) (bytesOf a c) (bytesOf a (over c (c′ .memory))) → StepsAlike a c c′
-steps-over a c c′ e x =
-    subst (StepsAlike a c) (core-is c c′ e)
-    (record { answer = x .answer; touched = x .touched; bytes = x .bytes; after = x .after; memory = x .memory })
+pub steps-over : (a : Ask) (c c' : Core) → SameButMemory c c' → Alike c (over c c'.memory) (step_of a c) (step_of a (over c c'.memory)) (bytes_of a c) (bytes_of a (over c c'.memory)) → StepsAlike a c c'
+steps-over a c c' e x =
+    subst (StepsAlike a c) (core_is c c' e)
+    (record { answer = x.answer; touched = x.touched; bytes = x.bytes; after = x.after; memory = x.memory })
 
-module _ (c : Core) (m′ : List ℕ) (long : length (c .memory) ≡ length m′) (q : Plan) (o : laidObjects (c .memory) (q .laid) ≡ laidObjects m′ (q .laid)) where
-  reel-alike : reelAfter q (c .memory) (c .reel) ≡ reelAfter q m′ (c .reel)
+module _ (c : Core) (m' : List ℕ) (long : length c.memory ≡ length m') (q : Plan) (o : laidObjects c.memory q.laid ≡ laidObjects m' q.laid) where
+  reel-alike : reelAfter q c.memory c.reel ≡ reelAfter q m' c.reel
   unfolding reelAfter laidOn
   reel-alike = rw o
 
-  table-alike : tableAfter c (q .laid) ≡ tableAfter (over c m′) (q .laid)
+  table-alike : tableAfter c q.laid ≡ tableAfter (over c m') q.laid
   unfolding tableAfter
   table-alike = rw o
 
-  bytes-alike : planBytes c q ≡ planBytes (over c m′) q
+  bytes-alike : planBytes c q ≡ planBytes (over c m') q
   unfolding planBytes
   bytes-alike = rw (o, reel-alike)
 
-  pub carried-alike : Alike c (over c m′) (carried c q) (carried (over c m′) q) (planBytes c q) (planBytes (over c m′) q)
+  pub carried-alike : Alike c (over c m') (carried c q) (carried (over c m') q) (planBytes c q) (planBytes (over c m') q)
   unfolding carried
   carried-alike =
       record {
@@ -60,7 +60,7 @@ module _ (c : Core) (m′ : List ℕ) (long : length (c .memory) ≡ length m′
               objects = refl;
               reel = reel-alike;
               table = table-alike;
-              long = length-memory q (c .memory) (c .reel) ∙ long ∙ sym (length-memory q m′ (c .reel));
+              long = length-memory q c.memory c.reel ∙ long ∙ sym (length-memory q m' c.reel);
             };
-        memory = λ j h. memory-alike q (c .memory) m′ (c .reel) long reel-alike j h;
+        memory = λ j h. memory-alike q c.memory m' c.reel long reel-alike j h;
       }

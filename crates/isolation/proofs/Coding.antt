@@ -1,19 +1,19 @@
 -- Only code 4 gives Write Characteristics: the one command that is planned by what its data are.
 use mathlib.Core.Bool.{true, false, true≢false}
-use mathlib.Core.Path.{_≡_, refl, sym, _∙_}
+use mathlib.Core.Path.{◌≡◌, refl, sym, ◌∙◌}
 use Prim.Native.Nat.{ℕ}
 use borrow.Author.Tests.{eqb-true}
-use denote.Enum.Declared.{tagOf}
+use denote.Enum.Declared.{tag_of}
 use lib.Dec.{eqb}
-use Rattle·lists.proofs.Cases.{by-test}
-use Rattle·signals.specs.Codes.{commandOf, controlMode, formatMode, positionMode, readMode, singleMode, writeMode}
-use Rattle·signals.specs.declared.codes.Command.{Command}
-use Rattle·signals.specs.declared.codes.Command.the-variants as command
-use Rattle·signals.proofs.codes.Command as variants
-use Rattle·state.proofs.Tests.{either}
+use Rattle.lists.proofs.Cases.{by-test}
+use Rattle.signals.specs.Codes.{commandOf, controlMode, formatMode, positionMode, readMode, singleMode, writeMode}
+use Rattle.signals.specs.declared.codes.Command.{Command}
+use Rattle.signals.specs.declared.codes.Command.TheVariants as command
+use Rattle.signals.specs.contracts.codes.Command as variants
+use Rattle.state.proofs.Tests.{either}
 
 abbrev Other : Command → Type 0
-Other c = eqb (tagOf variants.the-type c) 4 ≡ false
+Other c = eqb (tag_of variants.the_type c) 4 ≡ false
 
 reads : (mode : ℕ) → Other (readMode mode)
 unfolding readMode
@@ -51,5 +51,5 @@ others code mode four =
     (either Other (eqb code 11) _ _ (singles command.Initialize mode refl)
     (either Other (eqb code 15) _ _ (singles command.GetStatus mode refl) refl)))))))
 
-pub code-four : (code mode : ℕ) → eqb (tagOf variants.the-type (commandOf code mode)) 4 ≡ true → code ≡ 4
+pub code-four : (code mode : ℕ) → eqb (tag_of variants.the_type (commandOf code mode)) 4 ≡ true → code ≡ 4
 code-four code mode h = by-test (eqb code 4) (λ t. eqb-true code 4 t) (λ t. absurd (true≢false (sym h ∙ others code mode t)))

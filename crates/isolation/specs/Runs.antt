@@ -1,32 +1,27 @@
 -- "take a run without step back, later mounts, or refusals for room or index, and delete every step of the other units. If the bytes the remaining unit reads from memory are
 -- the same, its registers, messages, reel and position are too." (02, [9]) A run is a list of calls, oldest first.
-use mathlib.Core.Bool.{Bool, true, false}
-use mathlib.Core.List.{List, [], _∷_}
-use mathlib.Core.Logic.{_⊎_}
-use mathlib.Core.Path.{_≡_}
-use Prim.Native.Nat.{ℕ, _+_, _<_, min}
-use lib.Dec.{eqb}
-use Rattle·lists.specs.Pick.{pick}
-use Rattle·lists.specs.Places.{place}
-use Rattle·signals.specs.Numbers.{packetBytes}
-use Rattle·state.specs.declared.Unit.{Unit}
-use Rattle·commands.specs.Answers.{isStep}
-use Rattle·commands.specs.declared.plans.Answer.{Answer}
-use Rattle·commands.specs.declared.plans.Answer.the-variants as answer
-use Rattle·demands.specs.Ways.{header, packet}
-use Rattle·unit.specs.Asks.{advance}
-use Rattle·unit.specs.Stores.{StepBytes, noBytes}
-use Rattle·worlds.specs.Coupled.{coreOf, deckAt}
-use Rattle·sessions.specs.Session.{does, stepped}
-use Rattle·histories.specs.Calling.{Call, Here, calls, coupledFrom, doing, kindNow, onCall, read-register, step, store, wordOf}
-use Rattle·histories.specs.Good.{bytesAt}
-use Rattle·isolation·specs.specs.Reads.{SameRead, TouchesAt}
+use Rattle.std.specs.Prelude.{Bool, true, false, List, [], ◌∷◌, ◌⊎◌, ◌≡◌, ℕ, ◌+◌, ◌<◌, min, eqb}
+use Rattle.lists.specs.Pick.{pick}
+use Rattle.lists.specs.Places.{place}
+use Rattle.signals.specs.Numbers.{packetBytes}
+use Rattle.state.specs.declared.Unit.{Unit}
+use Rattle.commands.specs.Answers.{isStep}
+use Rattle.commands.specs.declared.plans.Answer.{Answer}
+use Rattle.commands.specs.declared.plans.Answer.TheVariants as answer
+use Rattle.demands.specs.Ways.{header, packet}
+use Rattle.unit.specs.Asks.{advance}
+use Rattle.unit.specs.Stores.{StepBytes, noBytes}
+use Rattle.worlds.specs.Coupled.{core_of, deckAt}
+use Rattle.sessions.specs.Session.{does, stepped}
+use Rattle.histories.specs.Calling.{Call, Here, calls, coupledFrom, doing, kindNow, onCall, read-register, step, store, word_of}
+use Rattle.histories.specs.Good.{bytes_at}
+use Rattle.isolation.specs.Reads.{SameRead, TouchesAt}
 
 -- whose call it is: of unit u, or of no unit; "Host stores belong to no unit", and stay
-unfoldable pub isOf : ℕ → Call → Bool
-isOf u (step k a h) = eqb k u
-isOf u (store place bytes) = false
-isOf u (read-register k r) = eqb k u
+unfoldable pub is_of : ℕ → Call → Bool
+is_of u (step k a h) = eqb k u
+is_of u (store place bytes) = false
+is_of u (read-register k r) = eqb k u
 
 unfoldable pub remains : ℕ → Call → Bool
 remains u (step k a h) = eqb k u
@@ -51,7 +46,7 @@ Refusal a = (a ≡ answer.Refused 9) ⊎ (a ≡ answer.Refused 11)
 pub data Unrefused (n u : ℕ) : List Call → Here → Type 0 where
   none : {s : Here} → Unrefused n u [] s
   one : {c : Call} {cs : List Call} {s : Here}
-      → (remains u c ≡ true → Refusal (onCall n c (coupledFrom n s) .answer) → ⊥) → Unrefused n u cs (does (calls n) c s) → Unrefused n u (c ∷ cs) s
+      → (remains u c ≡ true → Refusal (onCall n c (coupledFrom n s)).answer → ⊥) → Unrefused n u cs (does (calls n) c s) → Unrefused n u (c ∷ cs) s
 
 -- an advance of unit u
 abbrev pub IsAdvance : ℕ → Call → Type 0
@@ -63,7 +58,7 @@ IsAdvance u (read-register k r) = ⊥
 pub data ReadsSame (n u : ℕ) : List Call → Here → Here → Type 0 where
   none : {s t : Here} → ReadsSame n u [] s t
   one : {c : Call} {cs : List Call} {s t : Here}
-      → (IsAdvance u c → SameRead (coreOf u (s .core) .unit) (s .core .memory) (t .core .memory) (coreOf u (s .core) .reel))
+      → (IsAdvance u c → SameRead (core_of u s.core).unit s.core.memory t.core.memory (core_of u s.core).reel)
       → ReadsSame n u cs (does (calls n) c s) (pick (remains u c) (does (calls n) c t) t) → ReadsSame n u (c ∷ cs) s t
 
 -- what is seen of unit u: the answer of each of its calls, the word that a register read tells, and the bytes that its steps store: messages, data, blocks, places of
@@ -73,36 +68,36 @@ pub record Seen : Type 0 where
   pub word : ℕ
   pub bytes : StepBytes
 
-unfoldable pub sightOf : ℕ → Call → Here → Seen
-sightOf n c s =
+unfoldable pub sight_of : ℕ → Call → Here → Seen
+sight_of n c s =
     record {
-      answer = onCall n c (coupledFrom n s) .answer;
-      word = wordOf c (coupledFrom n s);
-      bytes = pick (isStep (onCall n c (coupledFrom n s) .answer)) (bytesAt c (s .core)) noBytes;
+      answer = (onCall n c (coupledFrom n s)).answer;
+      word = word_of c (coupledFrom n s);
+      bytes = pick (isStep (onCall n c (coupledFrom n s)).answer) (bytes_at c s.core) noBytes;
     }
 
 unfoldable pub seen : ℕ → ℕ → List Call → Here → List Seen
 seen n u [] s = []
 seen n u (c ∷ cs) s =
-    pick (isOf u c) (sightOf n c s ∷ seen n u cs (does (calls n) c s)) (seen n u cs (does (calls n) c s))
+    pick (is_of u c) (sight_of n c s ∷ seen n u cs (does (calls n) c s)) (seen n u cs (does (calls n) c s))
 
 -- the unit is not disturbed: its record (registers and position among its numbers), reel and table end the same, and all that was seen of it on the way is
 pub record Undisturbed (n u : ℕ) (cs : List Call) (s : Here) : Type 0 where
-  pub deck : deckAt (ran n cs s .core) u ≡ deckAt (ran n (without u cs) s .core) u
+  pub deck : deckAt (ran n cs s).core u ≡ deckAt (ran n (without u cs) s).core u
   pub sight : seen n u cs s ≡ seen n u (without u cs) s
 
 -- all that a waiting command could read, however it ends: its packet, and the data that a Write or Write Characteristics names there. What it reads lies in these (the law
 -- `reads-within`)
 module _ (u : Unit) (m s : List ℕ) where
   pub data BuffersAt (j : ℕ) : Type 0 where
-    in-packet : {i : ℕ} → u .registers .ssr ≡ false → i < packetBytes → j ≡ u .registers .pointer + i → BuffersAt j
-    in-characteristics : {i : ℕ} → u .registers .ssr ≡ false → header u m s .code ≡ 4 → i < min 8 (packet u m s .count) → j ≡ packet u m s .pointer + i → BuffersAt j
-    in-data : {i : ℕ} → u .registers .ssr ≡ false → header u m s .code ≡ 5 → i < packet u m s .count → j ≡ place (header u m s .swb) (packet u m s .pointer + i) → BuffersAt j
+    in-packet : {i : ℕ} → u.registers.ssr ≡ false → i < packetBytes → j ≡ u.registers.pointer + i → BuffersAt j
+    in-characteristics : {i : ℕ} → u.registers.ssr ≡ false → (header u m s).code ≡ 4 → i < min 8 (packet u m s).count → j ≡ (packet u m s).pointer + i → BuffersAt j
+    in-data : {i : ℕ} → u.registers.ssr ≡ false → (header u m s).code ≡ 5 → i < (packet u m s).count → j ≡ place (header u m s).swb ((packet u m s).pointer + i) → BuffersAt j
 
 -- what a user sees to: a region of memory, given as a test, that holds the packet and data of every advance of unit u, and in which no step of another unit stores
 pub data Apart (n u : ℕ) (R : ℕ → Bool) : List Call → Here → Type 0 where
   none : {s : Here} → Apart n u R [] s
   one : {c : Call} {cs : List Call} {s : Here}
-      → (IsAdvance u c → (j : ℕ) → BuffersAt (coreOf u (s .core) .unit) (s .core .memory) (coreOf u (s .core) .reel) j → R j ≡ true)
-      → (remains u c ≡ false → kindNow n c s ≡ stepped → (j : ℕ) → TouchesAt (doing c (s .core) .touched) j → R j ≡ true → ⊥)
+      → (IsAdvance u c → (j : ℕ) → BuffersAt (core_of u s.core).unit s.core.memory (core_of u s.core).reel j → R j ≡ true)
+      → (remains u c ≡ false → kindNow n c s ≡ stepped → (j : ℕ) → TouchesAt (doing c s.core).touched j → R j ≡ true → ⊥)
       → Apart n u R cs (does (calls n) c s) → Apart n u R (c ∷ cs) s

@@ -1,26 +1,16 @@
 // The calls of a transport. Each contract says that answer, session, memory, reel, table and used journal are those of a definition in crate worlds
 // (specs/Calls.antt); the theorems over any sequence of calls over a row are listed in crates/histories/src/lib.rt.
+ghost use Rattle.std.specs.Prelude.{◌≡◌, length};
+ghost use Rattle.unit.specs.Asks.{Ask};
+ghost use Rattle.worlds.specs.Worlds.{Leaves, worldOf};
+ghost use Rattle.tape.specs.Afresh.{objectsIn};
+ghost use Rattle.worlds.specs.Calls.{mountOn, registerOn, stepOn, tableMounted};
+
 use commands::Answer;
 use state::Act;
-use steps::change;
-use steps::change_refusal;
-use steps::mount_table;
-use steps::refused;
-use steps::step;
-use unit::Register;
-use unit::register_word;
-use worlds::JOURNAL_LIMIT;
-use worlds::Outcome;
-use worlds::RegisterRead;
-use worlds::Session;
-use worlds::check;
-use worlds::session_wrong;
-ghost use mathlib.Core.Path.{_≡_};
-ghost use lib.ListN.{length};
-ghost use Rattle·unit.specs.Asks.{Ask};
-ghost use Rattle·worlds.specs.Worlds.{Leaves, worldOf};
-ghost use Rattle·tape.specs.Afresh.{objectsIn};
-ghost use Rattle·worlds.specs.Calls.{mountOn, registerOn, stepOn, tableMounted};
+use steps::{change, change_refusal, mount_table, refused, step};
+use unit::{Register, register_word};
+use worlds::{JOURNAL_LIMIT, Outcome, RegisterRead, Session, check, session_wrong};
 
 pub fn write_tsdb(
     s: Session,
@@ -31,7 +21,7 @@ pub fn write_tsdb(
     jrnl: &mut [u8],
     word: u16,
 ) -> Outcome
-    ensures { λ r. ⌜ Leaves (stepOn (worldOf k s (now (mem .entry)) (now (reel .entry)) (now (table .entry)) (now (jrnl .entry))) (length (now (jrnl .entry))) (Ask.write-tsdb word)) (now (jrnl .entry)) r (now (mem .exit)) (now (reel .exit)) (now (table .entry)) (now (jrnl .exit)) ⌝ }
+    ensures { Leaves (stepOn (worldOf k s mem.old reel.old table.now jrnl.old) (length jrnl.old) (Ask.write-tsdb word)) jrnl.old result mem.new reel.new table.now jrnl.new }
 {
     let n = change_refusal(s, mem.len(), reel.len(), table.len(), jrnl.len());
     if n != 0 {
@@ -50,7 +40,7 @@ pub fn write_tssr(
     table: &[u8],
     jrnl: &mut [u8],
 ) -> Outcome
-    ensures { λ r. ⌜ Leaves (stepOn (worldOf k s (now (mem .entry)) (now (reel .entry)) (now (table .entry)) (now (jrnl .entry))) (length (now (jrnl .entry))) Ask.write-tssr) (now (jrnl .entry)) r (now (mem .exit)) (now (reel .exit)) (now (table .entry)) (now (jrnl .exit)) ⌝ }
+    ensures { Leaves (stepOn (worldOf k s mem.old reel.old table.now jrnl.old) (length jrnl.old) Ask.write-tssr) jrnl.old result mem.new reel.new table.now jrnl.new }
 {
     let n = change_refusal(s, mem.len(), reel.len(), table.len(), jrnl.len());
     if n != 0 {
@@ -69,7 +59,7 @@ pub fn operate(
     jrnl: &mut [u8],
     act: Act,
 ) -> Outcome
-    ensures { λ r. ⌜ Leaves (stepOn (worldOf k s (now (mem .entry)) (now (reel .entry)) (now (table .entry)) (now (jrnl .entry))) (length (now (jrnl .entry))) (Ask.operate act)) (now (jrnl .entry)) r (now (mem .exit)) (now (reel .exit)) (now (table .entry)) (now (jrnl .exit)) ⌝ }
+    ensures { Leaves (stepOn (worldOf k s mem.old reel.old table.now jrnl.old) (length jrnl.old) (Ask.operate act)) jrnl.old result mem.new reel.new table.now jrnl.new }
 {
     let n = change_refusal(s, mem.len(), reel.len(), table.len(), jrnl.len());
     if n != 0 {
@@ -81,7 +71,7 @@ pub fn operate(
 
 // 0 and the word, or refusal 1 and word 0.
 pub fn read_register(s: Session, register: Register) -> RegisterRead
-    ensures { λ r. ⌜ r ≡ registerOn s register ⌝ }
+    ensures { result ≡ registerOn s register }
 {
     if session_wrong(s) {
         return RegisterRead {
@@ -104,7 +94,7 @@ pub fn advance(
     table: &mut [u8],
     jrnl: &mut [u8],
 ) -> Outcome
-    ensures { λ r. ⌜ Leaves (stepOn (worldOf k s (now (mem .entry)) (now (reel .entry)) (now (table .entry)) (now (jrnl .entry))) (length (now (jrnl .entry))) Ask.advance) (now (jrnl .entry)) r (now (mem .exit)) (now (reel .exit)) (now (table .exit)) (now (jrnl .exit)) ⌝ }
+    ensures { Leaves (stepOn (worldOf k s mem.old reel.old table.old jrnl.old) (length jrnl.old) Ask.advance) jrnl.old result mem.new reel.new table.new jrnl.new }
 {
     let n = check(s, mem.len(), reel.len(), jrnl.len());
     if n != 0 {
@@ -132,8 +122,8 @@ pub fn mount(
     online: bool,
     locked: bool,
 ) -> Outcome
-    ensures outcome { λ r. ⌜ r ≡ mountOn old memory (now (reel .entry)) (length (now (table .entry))) journal e online locked ⌝ }
-    ensures table { λ r. ⌜ now (table .exit) ≡ tableMounted (now (table .entry)) (objectsIn (now (reel .entry)) e) (r .answer) ⌝ }
+    ensures outcome { result ≡ mountOn old memory reel.now (length table.old) journal e online locked }
+    ensures table { table.new ≡ tableMounted table.old (objectsIn reel.now e) result.answer }
 {
     let n = unit::mount_refusal(memory, reel.len(), e);
     if n != 0 {

@@ -1,18 +1,14 @@
 // Look-ups in the table: they take the state and the table, and change nothing.
+ghost use Rattle.std.specs.Prelude.{◌≡◌};
+ghost use Rattle.worlds.specs.Calls.{blockOn, fileOn, findRefusal, findingOf};
+
 use commands::Answer;
-use index::Found;
-use index::find_block;
-use index::find_file;
-use index::places;
-use worlds::Finding;
-use worlds::Session;
-use worlds::session_wrong;
-ghost use mathlib.Core.Path.{_≡_};
-ghost use Rattle·worlds.specs.Calls.{blockOn, fileOn, findRefusal, findingOf};
+use index::{Found, find_block, find_file, places};
+use worlds::{Finding, Session, session_wrong};
 
 // 1 as for a register, 11 where the table has fewer places than are used, else 0.
 fn find_refusal(s: Session, table: usize) -> usize
-    ensures { λ r. ⌜ r ≡ findRefusal s table ⌝ }
+    ensures { result ≡ findRefusal s table }
 {
     if session_wrong(s) {
         return 1;
@@ -25,7 +21,7 @@ fn find_refusal(s: Session, table: usize) -> usize
 
 // What a look-up hands back that found x, unless it is refused with n.
 fn finding(n: usize, x: Found) -> Finding
-    ensures { λ r. ⌜ r ≡ findingOf n x ⌝ }
+    ensures { result ≡ findingOf n x }
 {
     if n != 0 {
         return Finding {
@@ -41,14 +37,14 @@ fn finding(n: usize, x: Found) -> Finding
 
 // The place where file f begins.
 pub fn file_place(s: Session, table: &[u8], f: usize) -> Finding
-    ensures { λ r. ⌜ r ≡ fileOn s (now (table .entry)) f ⌝ }
+    ensures { result ≡ fileOn s table.now f }
 {
     finding(find_refusal(s, table.len()), find_file(table, s.objects, f))
 }
 
 // The place of the object that holds block b.
 pub fn block_place(s: Session, table: &[u8], b: usize) -> Finding
-    ensures { λ r. ⌜ r ≡ blockOn s (now (table .entry)) b ⌝ }
+    ensures { result ≡ blockOn s table.now b }
 {
     finding(
         find_refusal(s, table.len()),

@@ -3,11 +3,5 @@
 mod calls;
 mod finds;
 
-pub use calls::advance;
-pub use calls::mount;
-pub use calls::operate;
-pub use calls::read_register;
-pub use calls::write_tsdb;
-pub use calls::write_tssr;
-pub use finds::block_place;
-pub use finds::file_place;
+pub use calls::{advance, mount, operate, read_register, write_tsdb, write_tssr};
+pub use finds::{block_place, file_place};

@@ -1,46 +1,46 @@
 -- An advance keeps the reel well formed and the position a bound, and on such a reel it never names a block at fault.
 use mathlib.Core.List.{List}
-use mathlib.Core.Path.{_≡_}
-use Prim.Native.Nat.{ℕ, _*_}
+use mathlib.Core.Path.{◌≡◌}
+use Prim.Native.Nat.{ℕ, ◌*◌}
 use lib.ListN.{length}
-use Rattle·tape.specs.Numbers.{blockBytes}
-use Rattle·tape.specs.Objects.{Holds, Object}
-use Rattle·tape.proofs.Accepted.{clash}
-use Rattle·tape.specs.declared.BlockFault.{BlockFault}
-use Rattle·signals.specs.Codes.{commandOf}
-use Rattle·state.specs.declared.Tape.{Tape}
-use Rattle·state.specs.declared.Unit.{Unit}
-use Rattle·moves.specs.Between.{Bound}
-use Rattle·commands.specs.declared.plans.Answer.the-variants as answer
-use Rattle·storing.specs.Stored.{reelAfter}
-use Rattle·advance.specs.Steps.{advanced}
-use Rattle·advance.proofs.Walk.{Akin, Carries, Rejects, Untold, advanced-all}
-use Rattle·kept·specs.specs.Formed.{Formed}
-use Rattle·kept·proofs.proofs.Carrying.{carried-kept, rests}
-use Rattle·kept·proofs.proofs.Lengths.{right-count}
-use Rattle·kept·proofs.proofs.Standing.{KeptPlan, still-kept, untold-kept}
+use Rattle.tape.specs.Numbers.{blockBytes}
+use Rattle.tape.specs.Objects.{Holds, Object}
+use Rattle.tape.proofs.Accepted.{clash}
+use Rattle.tape.specs.declared.BlockFault.{BlockFault}
+use Rattle.signals.specs.Codes.{commandOf}
+use Rattle.state.specs.declared.Tape.{Tape}
+use Rattle.state.specs.declared.Unit.{Unit}
+use Rattle.moves.specs.Between.{Bound}
+use Rattle.commands.specs.declared.plans.Answer.TheVariants as answer
+use Rattle.storing.specs.Stored.{reelAfter}
+use Rattle.advance.specs.Steps.{advanced}
+use Rattle.advance.proofs.Walk.{Akin, Carries, Rejects, Untold, advanced-all}
+use Rattle.kept.specs.Formed.{Formed}
+use Rattle.kept.proofs.Carrying.{carried-kept, rests}
+use Rattle.kept.proofs.Lengths.{right-count}
+use Rattle.kept.proofs.Standing.{KeptPlan, still_kept, untold-kept}
 
-module _ (s m : List ℕ) (u : Unit) (w : length s ≡ blockBytes * u .lengths .blocks) (k : Formed s (u .tape)) where
+module _ (s m : List ℕ) (u : Unit) (w : length s ≡ blockBytes * u.lengths.blocks) (k : Formed s u.tape) where
   -- in every state that a step leaves
-  still-formed : (v : Unit) → Akin u v → Formed s (v .tape)
-  still-formed v a = rw (a .tape) k
+  still_formed : (v : Unit) → Akin u v → Formed s v.tape
+  still_formed v a = rw a.tape k
 
   rejects : Rejects u (KeptPlan s m)
-  rejects v a ie x h = rests s m v ie x (v .tape) (still-formed v a)
+  rejects v a ie x h = rests s m v ie x v.tape (still_formed v a)
 
   untolds : Untold u (KeptPlan s m)
-  untolds v a class interrupts h = untold-kept s m v class interrupts (still-formed v a)
+  untolds v a class interrupts h = untold-kept s m v class interrupts (still_formed v a)
 
   carries : Carries u m s (KeptPlan s m)
   carries v a h p f d =
-      carried-kept s m v (rw (a .lengths) w) (still-formed v a) h p (commandOf (h .code) (h .mode)) (right-count h (p .count) f)
+      carried-kept s m v (rw a.lengths w) (still_formed v a) h p (commandOf h.code h.mode) (right-count h p.count f)
 
   plan-kept : KeptPlan s m (advanced u m s)
-  plan-kept = advanced-all u m s (KeptPlan s m) rejects untolds carries (still-kept s m u answer.Idle k (λ why b c. clash (cc)))
+  plan-kept = advanced-all u m s (KeptPlan s m) rejects untolds carries (still_kept s m u answer.Idle k (λ why b c. clash (cc)))
 
-module _ (u : Unit) (m s : List ℕ) {os : List Object} (w : length s ≡ blockBytes * u .lengths .blocks) (h : Holds s (u .tape .end) os) (b : Bound os (u .tape .position)) where
-  pub advanced-kept : Formed (reelAfter (advanced u m s) m s) (advanced u m s .unit .tape)
-  advanced-kept = plan-kept s m u w (os, h, b) .stands
+module _ (u : Unit) (m s : List ℕ) {os : List Object} (w : length s ≡ blockBytes * u.lengths.blocks) (h : Holds s u.tape.end os) (b : Bound os u.tape.position) where
+  pub advanced-kept : Formed (reelAfter (advanced u m s) m s) (advanced u m s).unit.tape
+  advanced-kept = (plan-kept s m u w (os, h, b)).stands
 
-  pub advanced-no-fault : (why : BlockFault) (k : ℕ) → advanced u m s .answer ≡ answer.BadBlock why k → ⊥
-  advanced-no-fault = plan-kept s m u w (os, h, b) .sound
+  pub advanced-no-fault : (why : BlockFault) (k : ℕ) → (advanced u m s).answer ≡ answer.BadBlock why k → ⊥
+  advanced-no-fault = (plan-kept s m u w (os, h, b)).sound

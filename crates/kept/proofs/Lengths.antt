@@ -1,18 +1,18 @@
 -- Step 9 shows that a Write asks for a record of an allowed length: only code 5 gives a Write.
 use mathlib.Core.Bool.{true, false}
-use mathlib.Core.Path.{_≡_}
-use Prim.Native.Nat.{ℕ, _≤_}
+use mathlib.Core.Path.{◌≡◌}
+use Prim.Native.Nat.{ℕ, ◌≤◌}
 use native.Mathlib.Omega.{arith}
 use borrow.Author.Tests.{eqb-false, ltb-false}
 use lib.Dec.{eqb, ltb}
-use Rattle·lists.proofs.Cases.{pick-told}
-use Rattle·tape.specs.Numbers.{recordLimit}
-use Rattle·signals.specs.Codes.{commandOf, controlMode, formatMode, positionMode, readMode, singleMode, writeMode}
-use Rattle·signals.specs.declared.codes.Command.{Command}
-use Rattle·signals.specs.declared.packet.Header.{Header}
-use Rattle·state.proofs.Tests.{either, neither}
-use Rattle·advance.specs.Rules.{lengthWrong}
-use Rattle·kept·proofs.proofs.Carrying.{RightCount}
+use Rattle.lists.proofs.Cases.{pick-told}
+use Rattle.tape.specs.Numbers.{recordLimit}
+use Rattle.signals.specs.Codes.{commandOf, controlMode, formatMode, positionMode, readMode, singleMode, writeMode}
+use Rattle.signals.specs.declared.codes.Command.{Command}
+use Rattle.signals.specs.declared.packet.Header.{Header}
+use Rattle.state.proofs.Tests.{either, neither}
+use Rattle.advance.specs.Rules.{lengthWrong}
+use Rattle.kept.proofs.Carrying.{RightCount}
 
 module _ (n : ℕ) where
   abbrev Right : Command → Type 0
@@ -54,10 +54,10 @@ module _ (n : ℕ) where
       (either Right (eqb code 11) _ _ (singles _ mode tt)
       (either Right (eqb code 15) _ _ (singles _ mode tt) tt)))))))
 
-pub right-count : (h : Header) (n : ℕ) → lengthWrong h n ≡ false → RightCount (commandOf (h .code) (h .mode)) n
+pub right-count : (h : Header) (n : ℕ) → lengthWrong h n ≡ false → RightCount (commandOf h.code h.mode) n
 right-count h n f =
-    only-five n (h .code) (h .mode)
+    only-five n h.code h.mode
     (λ e.
     let p = neither (eqb n 0) (ltb recordLimit n) (rw e at f) in
-    let some : n ≡ 0 → ⊥ = eqb-false n 0 (p .0) in
-    (omega arith, ltb-false recordLimit n (p .1)))
+    let some : n ≡ 0 → ⊥ = eqb-false n 0 p.0 in
+    (omega arith, ltb-false recordLimit n p.1))

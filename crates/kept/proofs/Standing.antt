@@ -1,33 +1,33 @@
 -- What an end of a command keeps: the tape stands well on the reel as it is laid, and no block is at fault.
 use mathlib.Core.Bool.{Bool}
 use mathlib.Core.List.{List}
-use mathlib.Core.Path.{_≡_, refl}
+use mathlib.Core.Path.{◌≡◌, refl}
 use Prim.Native.Nat.{ℕ}
-use Rattle·tape.specs.Objects.{Holds, Object, imagesOf}
-use Rattle·tape.proofs.Accepted.{clash}
-use Rattle·tape.specs.declared.BlockFault.{BlockFault}
-use Rattle·state.specs.declared.Unit.{Unit}
-use Rattle·moves.specs.Between.{Bound}
-use Rattle·motions.specs.Parts.{noLay, standing}
-use Rattle·motions.specs.declared.parts.Ending.{Ending}
-use Rattle·motions.specs.declared.parts.Motion.{Motion}
-use Rattle·motions.specs.declared.parts.Motion.the-variants as motion
-use Rattle·commands.specs.Ends.{ended, motionPlan, motionPlanUnder, still, told, toldUnder, toldUnit, untold}
-use Rattle·commands.specs.declared.plans.Answer.{Answer}
-use Rattle·commands.specs.declared.plans.Answer.the-variants as answer
-use Rattle·commands.specs.declared.plans.Plan.{Plan}
-use Rattle·storing.specs.Stored.{laidObject, laidObjects, laidOn, reelAfter}
-use Rattle·kept·specs.specs.Formed.{Formed}
+use Rattle.tape.specs.Objects.{Holds, Object, imagesOf}
+use Rattle.tape.proofs.Accepted.{clash}
+use Rattle.tape.specs.declared.BlockFault.{BlockFault}
+use Rattle.state.specs.declared.Unit.{Unit}
+use Rattle.moves.specs.Between.{Bound}
+use Rattle.motions.specs.Parts.{noLay, standing}
+use Rattle.motions.specs.declared.parts.Ending.{Ending}
+use Rattle.motions.specs.declared.parts.Motion.{Motion}
+use Rattle.motions.specs.declared.parts.Motion.TheVariants as motion
+use Rattle.commands.specs.Ends.{ended, motionPlan, motionPlanUnder, still, told, toldUnder, toldUnit, untold}
+use Rattle.commands.specs.declared.plans.Answer.{Answer}
+use Rattle.commands.specs.declared.plans.Answer.TheVariants as answer
+use Rattle.commands.specs.declared.plans.Plan.{Plan}
+use Rattle.storing.specs.Stored.{laidObject, laidObjects, laidOn, reelAfter}
+use Rattle.kept.specs.Formed.{Formed}
 
 -- a motion ends, with no block at fault, and its tape stands well on the reel as it is laid
 abbrev pub KeptMotion : List ℕ → List ℕ → Motion → Type 0
-KeptMotion s m (motion.Ended x) = Formed (laidOn s m (x .laid)) (x .tape)
+KeptMotion s m (motion.Ended x) = Formed (laidOn s m x.laid) x.tape
 KeptMotion s m (motion.Fault why k) = ⊥
 
 -- a plan names no block at fault, and its tape stands well on the reel that it leaves
 pub record KeptPlan (s m : List ℕ) (p : Plan) : Type 0 where
-  pub stands : Formed (reelAfter p m s) (p .unit .tape)
-  pub sound : (why : BlockFault) (k : ℕ) → p .answer ≡ answer.BadBlock why k → ⊥
+  pub stands : Formed (reelAfter p m s) p.unit.tape
+  pub sound : (why : BlockFault) (k : ℕ) → p.answer ≡ answer.BadBlock why k → ⊥
 
 -- a reel on which nothing is laid stays as it was
 pub unlaid : (s m : List ℕ) → laidOn s m noLay ≡ s
@@ -40,17 +40,17 @@ module _ (s m : List ℕ) {e : ℕ} {os : List Object} (h : Holds s e os) where
   halts b = rw (unlaid s m) (os, h, b)
 
 module _ (s m : List ℕ) where
-  pub told-kept : (u : Unit) (ie : Bool) (x : Ending) → Formed (laidOn s m (x .laid)) (x .tape) → KeptPlan s m (told u ie x)
+  pub told-kept : (u : Unit) (ie : Bool) (x : Ending) → Formed (laidOn s m x.laid) x.tape → KeptPlan s m (told u ie x)
   unfolding toldUnder toldUnit ended reelAfter
   told-kept u ie x k = record { stands = k; sound = λ why b c. clash (cc) }
 
-  pub still-kept : (u : Unit) (a : Answer) → Formed s (u .tape) → ((why : BlockFault) (k : ℕ) → a ≡ answer.BadBlock why k → ⊥) → KeptPlan s m (still u a)
+  pub still_kept : (u : Unit) (a : Answer) → Formed s u.tape → ((why : BlockFault) (k : ℕ) → a ≡ answer.BadBlock why k → ⊥) → KeptPlan s m (still u a)
   unfolding still reelAfter
-  still-kept u a k f = record { stands = rw (unlaid s m) k; sound = f }
+  still_kept u a k f = record { stands = rw (unlaid s m) k; sound = f }
 
-  pub untold-kept : (u : Unit) (class : ℕ) (interrupts : Bool) → Formed s (u .tape) → KeptPlan s m (untold u class interrupts)
+  pub untold-kept : (u : Unit) (class : ℕ) (interrupts : Bool) → Formed s u.tape → KeptPlan s m (untold u class interrupts)
   unfolding untold ended
-  untold-kept u class interrupts k = still-kept _ _ k (λ why b c. clash (cc))
+  untold-kept u class interrupts k = still_kept _ _ k (λ why b c. clash (cc))
 
   pub motion-kept : (u : Unit) (ie : Bool) (y : Motion) → KeptMotion s m y → KeptPlan s m (motionPlan u ie y)
   unfolding motionPlanUnder

@@ -1,16 +1,16 @@
 -- The commands that lay nothing: all but Write and Format.
 use mathlib.Core.Bool.{false, true≢false}
-use mathlib.Core.Path.{_≡_, sym, _∙_}
+use mathlib.Core.Path.{◌≡◌, sym, ◌∙◌}
 use Prim.Native.Nat.{ℕ}
 use lib.Dec.{eqb}
-use Rattle·lists.specs.Pick.{Always}
-use Rattle·lists.proofs.Cases.{pick-told}
-use Rattle·signals.specs.Codes.{commandOf, controlMode, positionMode, readMode, singleMode}
-use Rattle·signals.specs.declared.codes.Command.{Command}
-use Rattle·signals.specs.declared.codes.Command.the-variants as command
-use Rattle·signals.specs.declared.packet.Header.{Header}
-use Rattle·state.proofs.Tests.{either, neither}
-use Rattle·advance.specs.Rules.{writes}
+use Rattle.lists.specs.Pick.{Always}
+use Rattle.lists.proofs.Cases.{pick-told}
+use Rattle.signals.specs.Codes.{commandOf, controlMode, positionMode, readMode, singleMode}
+use Rattle.signals.specs.declared.codes.Command.{Command}
+use Rattle.signals.specs.declared.codes.Command.TheVariants as command
+use Rattle.signals.specs.declared.packet.Header.{Header}
+use Rattle.state.proofs.Tests.{either, neither}
+use Rattle.advance.specs.Rules.{writes}
 
 abbrev pub Unwriting : Command → Type 0
 Unwriting command.ReadNext = Always
@@ -68,7 +68,7 @@ others code mode five nine =
     (either Unwriting (eqb code 11) _ _ (single command.Initialize mode tt)
     (either Unwriting (eqb code 15) _ _ (single command.GetStatus mode tt) tt)))))))
 
-pub unwriting : (h : Header) → writes h ≡ false → Unwriting (commandOf (h .code) (h .mode))
+pub unwriting : (h : Header) → writes h ≡ false → Unwriting (commandOf h.code h.mode)
 unwriting h w =
-    let n = neither (eqb (h .code) 5) (eqb (h .code) 9) w in
-    others (h .code) (h .mode) (n .0) (n .1)
+    let n = neither (eqb h.code 5) (eqb h.code 9) w in
+    others h.code h.mode n.0 n.1

@@ -1,32 +1,32 @@
 -- Two advances that are alike leave the same reel, and the same memory but for EOT in XST0's low byte.
-use mathlib.Core.List.{List, [], _∷_}
-use mathlib.Core.Path.{_≡_, refl, sym, _∙_}
-use Prim.Native.Nat.{ℕ, suc, _+_, _-_, _/_, _%_, _≤_}
+use mathlib.Core.List.{List, [], ◌∷◌}
+use mathlib.Core.Path.{◌≡◌, refl, sym, ◌∙◌}
+use Prim.Native.Nat.{ℕ, suc, ◌+◌, ◌-◌, ◌/◌, ◌%◌, ◌≤◌}
 use native.Mathlib.Omega.{arith}
 use borrow.Author.Tests.{ltb-false, ltb-true}
 use lib.Dec.{ltb}
-use lib.ListN.{getD, length, length-set, set}
-use lib.Seq.{getD-set-other, getD-set-same, length-sets, sets}
-use Rattle·lists.proofs.Cases.{by-test}
-use Rattle·lists.proofs.Stores.{getD-above, getD-below, getD-within}
-use Rattle·signals.specs.Message.{messaged, wordsBytes}
-use Rattle·commands.specs.declared.plans.Plan.{Plan}
-use Rattle·storing.specs.Stored.{laidOn, memoryAfter, messageOn, movedOn, reelAfter}
-use Rattle·storing.proofs.Lengths.{length-moved}
-use Rattle·unit.specs.Touching.{touchedBy}
-use Rattle·limits·specs.specs.Alike.{ButEotAt, ReadsAlike, SameButEot, as-before, eot-now, same-words}
-use Rattle·limits·specs.specs.Raised.{SentInside, eotByte}
+use lib.ListN.{get_or, length, length-set, set}
+use lib.Seq.{get_or-set_other, get_or-set_same, length-sets, sets}
+use Rattle.lists.proofs.Cases.{by-test}
+use Rattle.lists.proofs.Stores.{getD-above, getD-below, getD-within}
+use Rattle.signals.specs.Message.{messaged, wordsBytes}
+use Rattle.commands.specs.declared.plans.Plan.{Plan}
+use Rattle.storing.specs.Stored.{laidOn, memoryAfter, messageOn, movedOn, reelAfter}
+use Rattle.storing.proofs.Lengths.{length_moved}
+use Rattle.unit.specs.Touching.{touchedBy}
+use Rattle.limits.specs.Alike.{ButEotAt, ReadsAlike, SameButEot, as_before, eot-now, same-words}
+use Rattle.limits.specs.Raised.{SentInside, eotByte}
 
-pub same-memory : (a : ℕ) (m : List ℕ) → ButEotAt a m m
-same-memory a m = record { long = refl; elsewhere = λ j n. refl; there = as-before refl }
+pub same_memory : (a : ℕ) (m : List ℕ) → ButEotAt a m m
+same_memory a m = record { long = refl; elsewhere = λ j n. refl; there = as_before refl }
 
--- a run of bytes stored, one of which is x or x′, with `back` behind it
+-- a run of bytes stored, one of which is x or x', with `back` behind it
 module _ (l : List ℕ) (k : ℕ) (back : List ℕ) (room : suc k + length back ≤ length l) where
-  stored : (x j : ℕ) → (j ≡ k → ⊥) → (y : ℕ) → getD (sets (set l k x) (suc k) back) j 0 ≡ getD (sets (set l k y) (suc k) back) j 0
+  stored : (x j : ℕ) → (j ≡ k → ⊥) → (y : ℕ) → get_or (sets (set l k x) (suc k) back) j 0 ≡ get_or (sets (set l k y) (suc k) back) j 0
   stored x j n y =
       by-test (ltb j (suc k))
-      (λ t. getD-below back (set l k x) (suc k) j (ltb-true j (suc k) t) ∙ getD-set-other l k j x 0 n
-      ∙ sym (getD-below back (set l k y) (suc k) j (ltb-true j (suc k) t) ∙ getD-set-other l k j y 0 n))
+      (λ t. getD-below back (set l k x) (suc k) j (ltb-true j (suc k) t) ∙ get_or-set_other l k j x 0 n
+      ∙ sym (getD-below back (set l k y) (suc k) j (ltb-true j (suc k) t) ∙ get_or-set_other l k j y 0 n))
       (λ t.
       let from : suc k ≤ j = ltb-false j (suc k) t in
       by-test (ltb j (suc k + length back))
@@ -37,24 +37,24 @@ module _ (l : List ℕ) (k : ℕ) (back : List ℕ) (room : suc k + length back 
       ∙ sym (getD-within back (set l k y) (suc k) (j - suc k) (omega (arith, ltb-true j (suc k + length back) v)) (rw length-set room))))
       (λ v.
       let past : suc k + length back ≤ j = ltb-false j (suc k + length back) v in
-      getD-above back (set l k x) (suc k) j past ∙ getD-set-other l k j x 0 n
-      ∙ sym (getD-above back (set l k y) (suc k) j past ∙ getD-set-other l k j y 0 n)))
+      getD-above back (set l k x) (suc k) j past ∙ get_or-set_other l k j x 0 n
+      ∙ sym (getD-above back (set l k y) (suc k) j past ∙ get_or-set_other l k j y 0 n)))
 
-  itself : (x : ℕ) → getD (sets (set l k x) (suc k) back) k 0 ≡ x
-  itself x = getD-below back (set l k x) (suc k) k (omega arith) ∙ getD-set-same l k x 0 (omega arith)
+  itself : (x : ℕ) → get_or (sets (set l k x) (suc k) back) k 0 ≡ x
+  itself x = getD-below back (set l k x) (suc k) k (omega arith) ∙ get_or-set_same l k x 0 (omega arith)
 
 -- the message's bytes
-words-alike : (l : List ℕ) (a : ℕ) {ws ws′ : List ℕ} → SameButEot ws ws′ → a + 14 ≤ length l → ButEotAt (a + 6) (messaged l a ws) (messaged l a ws′)
+words-alike : (l : List ℕ) (a : ℕ) {ws ws' : List ℕ} → SameButEot ws ws' → a + 14 ≤ length l → ButEotAt (a + 6) (messaged l a ws) (messaged l a ws')
 unfolding messaged wordsBytes
-words-alike l a (same-words {xst0 = w} (as-before e)) room = rw e (same-memory (a + 6) _)
-words-alike l a (same-words {header = h} {ten = t} {residual = r} {xst0 = w} {xst0′ = w′} {xst1 = x} {xst2 = y} {xst3 = z} (eot-now even e)) room =
+words-alike l a (same-words {xst0 = w} (as_before e)) room = rw e (same_memory (a + 6) _)
+words-alike l a (same-words {header = h} {ten = t} {residual = r} {xst0 = w} {xst0' = w'} {xst1 = x} {xst2 = y} {xst3 = z} (eot-now even e)) room =
     let k : ℕ = suc (suc (suc (suc (suc (suc a))))) in
     let at : a + 6 ≡ k = omega arith in
     let front : List ℕ = sets l a (h % 256 ∷ h / 256 ∷ t % 256 ∷ t / 256 ∷ r % 256 ∷ r / 256 ∷ []) in
     let back : List ℕ = w / 256 ∷ x % 256 ∷ x / 256 ∷ y % 256 ∷ y / 256 ∷ z % 256 ∷ z / 256 ∷ [] in
     let fits : suc k + length back ≤ length front = rw length-sets (omega arith) in
-    let high : w′ / 256 ≡ w / 256 = omega arith in
-    let low : w′ % 256 ≡ w % 256 + 1 = omega arith in
+    let high : w' / 256 ≡ w / 256 = omega arith in
+    let low : w' % 256 ≡ w % 256 + 1 = omega arith in
     rw (at, high, low)
     (record {
       long = length-sets (set front k (w % 256)) (suc k) back ∙ length-set front k (w % 256)
@@ -63,19 +63,19 @@ words-alike l a (same-words {header = h} {ten = t} {residual = r} {xst0 = w} {xs
       there = rw (itself front k back fits (w % 256), itself front k back fits (w % 256 + 1)) (eot-now (omega arith) refl);
     })
 
-pub reel-alike : {q q′ : Plan} → ReadsAlike q q′ → (m s : List ℕ) → reelAfter q m s ≡ reelAfter q′ m s
+pub reel-alike : {q q' : Plan} → ReadsAlike q q' → (m s : List ℕ) → reelAfter q m s ≡ reelAfter q' m s
 unfolding reelAfter
-reel-alike a m s = rw (a .laid)
+reel-alike a m s = rw a.laid
 
-pub touched-alike : {q q′ : Plan} → ReadsAlike q q′ → (place : ℕ) → touchedBy q place ≡ touchedBy q′ place
+pub touched-alike : {q q' : Plan} → ReadsAlike q q' → (place : ℕ) → touchedBy q place ≡ touchedBy q' place
 unfolding touchedBy
-touched-alike a place = rw (a .laid, a .moved, a .state, a .sends)
+touched-alike a place = rw (a.laid, a.moved, a.state, a.sends)
 
-pub memory-alike : {q q′ : Plan} → ReadsAlike q q′ → (m s : List ℕ) → SentInside q′ m → ButEotAt (eotByte q′) (memoryAfter q m s) (memoryAfter q′ m s)
+pub memory-alike : {q q' : Plan} → ReadsAlike q q' → (m s : List ℕ) → SentInside q' m → ButEotAt (eotByte q') (memoryAfter q m s) (memoryAfter q' m s)
 unfolding memoryAfter reelAfter messageOn
-memory-alike {q} {q′} a m s inside =
-    let l : List ℕ = movedOn (laidOn s m (q′ .laid)) (q′ .moved) m in
-    rw (a .laid, a .moved, a .state, a .sends)
-    (by-test (q′ .sends)
-    (λ t. rw t (words-alike l (q′ .unit .characteristics .address) (a .message) (omega (arith, inside t, length-moved (laidOn s m (q′ .laid)) (q′ .moved) m))))
-    (λ t. rw t (same-memory (eotByte q′) l)))
+memory-alike {q} {q'} a m s inside =
+    let l : List ℕ = movedOn (laidOn s m q'.laid) q'.moved m in
+    rw (a.laid, a.moved, a.state, a.sends)
+    (by-test q'.sends
+    (λ t. rw t (words-alike l q'.unit.characteristics.address a.message (omega (arith, inside t, length_moved (laidOn s m q'.laid) q'.moved m))))
+    (λ t. rw t (same_memory (eotByte q') l)))

@@ -1,5 +1,5 @@
 -- The numbers of document 01 that request [7] raised.
-use Prim.Native.Nat.{ℕ}
+use Rattle.std.specs.Prelude.{ℕ}
 
 -- "Records: 1 to 16,384 bytes."
 abbrev pub limitBefore : ℕ

@@ -1,74 +1,69 @@
--- Request [7] as laws over the numbers: what holds between a unit whose record limit and EOT margin are `limit` and `eotMargin` and one with `limit′` and
--- `eotMargin′`, neither smaller. "Every reel stored under the old limit reads the same, only its EOT bit may come earlier; a unit of the old limit that meets a
+-- Request [7] as laws over the numbers: what holds between a unit whose record limit and EOT margin are `limit` and `eotMargin` and one with `limit'` and
+-- `eotMargin'`, neither smaller. "Every reel stored under the old limit reads the same, only its EOT bit may come earlier; a unit of the old limit that meets a
 -- longer record refuses the mount with 7 at its first block." (02, [7])
-use mathlib.Core.Bool.{Bool, true, false}
-use mathlib.Core.List.{List}
-use mathlib.Core.Logic.{_⊎_}
-use mathlib.Core.Path.{_≡_}
-use Prim.Native.Nat.{ℕ, _+_, _-_, _/_, _<_, _≤_}
-use lib.ListN.{length}
-use Rattle·tape.specs.Numbers.{blockBytes}
-use Rattle·tape.specs.Objects.{HoldsUnder, Object}
-use Rattle·tape.specs.Reading.{classAtUnder}
-use Rattle·tape.specs.declared.Block.the-variants as block
-use Rattle·tape.specs.declared.BlockFault.the-variants as fault
-use Rattle·signals.specs.Message.{messageBytes}
-use Rattle·state.specs.Changes.{mountedAs}
-use Rattle·state.specs.declared.Unit.{Unit}
-use Rattle·motions.specs.Parts.{laidBlocks}
-use Rattle·motions.specs.Writes.{writtenMotionUnder}
-use Rattle·motions.specs.declared.parts.Laid.{Laid}
-use Rattle·motions.specs.declared.parts.Motion.{Motion}
-use Rattle·motions.specs.declared.parts.Motion.the-variants as motion
-use Rattle·commands.specs.declared.plans.Answer.the-variants as answer
-use Rattle·commands.specs.declared.plans.Plan.{Plan}
-use Rattle·storing.specs.Stored.{memoryAfter, reelAfter}
-use Rattle·advance.specs.Rules.{writes}
-use Rattle·advance.specs.Steps.{advancedUnder}
-use Rattle·demands.specs.Ways.{Waits, header}
-use Rattle·unit.specs.Mounts.{mountCallUnder, mountRefusal, mountedWith}
-use Rattle·unit.specs.Touching.{touchedBy}
-use Rattle·limits·specs.specs.Alike.{ButEotAt, ReadsAlike}
+use Rattle.std.specs.Prelude.{Bool, true, false, List, ◌⊎◌, ◌≡◌, ℕ, ◌+◌, ◌-◌, ◌/◌, ◌<◌, ◌≤◌, length}
+use Rattle.tape.specs.Numbers.{blockBytes}
+use Rattle.tape.specs.Objects.{HoldsUnder, Object}
+use Rattle.tape.specs.Reading.{classAtUnder}
+use Rattle.tape.specs.declared.Block.TheVariants as block
+use Rattle.tape.specs.declared.BlockFault.TheVariants as fault
+use Rattle.signals.specs.Message.{messageBytes}
+use Rattle.state.specs.Changes.{mountedAs}
+use Rattle.state.specs.declared.Unit.{Unit}
+use Rattle.motions.specs.Parts.{laidBlocks}
+use Rattle.motions.specs.Writes.{writtenMotionUnder}
+use Rattle.motions.specs.declared.parts.Laid.{Laid}
+use Rattle.motions.specs.declared.parts.Motion.{Motion}
+use Rattle.motions.specs.declared.parts.Motion.TheVariants as motion
+use Rattle.commands.specs.declared.plans.Answer.TheVariants as answer
+use Rattle.commands.specs.declared.plans.Plan.{Plan}
+use Rattle.storing.specs.Stored.{memoryAfter, reelAfter}
+use Rattle.advance.specs.Rules.{writes}
+use Rattle.advance.specs.Steps.{advancedUnder}
+use Rattle.demands.specs.Ways.{Waits, header}
+use Rattle.unit.specs.Mounts.{mountCallUnder, mountRefusal, mountedWith}
+use Rattle.unit.specs.Touching.{touchedBy}
+use Rattle.limits.specs.Alike.{ButEotAt, ReadsAlike}
 
 -- an advance that reads, of a reel that keeps to the limit: no Write or Format waits, and the tape stands no further than the recorded end
 pub record ReadsUnder (limit : ℕ) (u : Unit) (m s : List ℕ) (os : List Object) : Type 0 where
-  pub holds : HoldsUnder limit s (u .tape .end) os
-  pub within : u .tape .position ≤ u .tape .end
+  pub holds : HoldsUnder limit s u.tape.end os
+  pub within : u.tape.position ≤ u.tape.end
   pub unwriting : Waits u m s → writes (header u m s) ≡ false
 
 -- a message that goes out lies inside memory m, as it does in every state that refusal 1 lets pass (`advanced-storable`)
 abbrev pub SentInside : Plan → List ℕ → Type 0
-SentInside q m = q .sends ≡ true → q .unit .characteristics .address + messageBytes ≤ length m
+SentInside q m = q.sends ≡ true → q.unit.characteristics.address + messageBytes ≤ length m
 
 -- where XST0's low byte stands in memory
 abbrev pub eotByte : Plan → ℕ
-eotByte q = q .unit .characteristics .address + 6
+eotByte q = q.unit.characteristics.address + 6
 
 -- a motion that ends so
 abbrev pub EndsWith : ℕ → Motion → Type 0
-EndsWith class (motion.Ended x) = x .end .class ≡ class
+EndsWith class (motion.Ended x) = x.end.class ≡ class
 EndsWith class (motion.Fault why k) = ⊥
 
 -- at block p of the reel s, below its end e, a record begins that is longer than the limit, and none before it is: a unit of the other limit reads its first piece
-pub record LongerAt (limit limit′ : ℕ) (s : List ℕ) (e p : ℕ) : Type 0 where
+pub record LongerAt (limit limit' : ℕ) (s : List ℕ) (e p : ℕ) : Type 0 where
   pub before : List Object
   pub formed : HoldsUnder limit s p before
   pub below : p < e
   pub bytes : ℕ
-  pub piece : classAtUnder limit′ s p ≡ block.Piece bytes 0
+  pub piece : classAtUnder limit' s p ≡ block.Piece bytes 0
   pub longer : limit < bytes
 
-module _ (limit limit′ eotMargin eotMargin′ : ℕ) where
+module _ (limit limit' eotMargin eotMargin' : ℕ) where
   -- what the two advances come to
   abbrev pub one : Unit → List ℕ → List ℕ → Plan
   one u m s = advancedUnder limit eotMargin u m s
 
   abbrev pub other : Unit → List ℕ → List ℕ → Plan
-  other u m s = advancedUnder limit′ eotMargin′ u m s
+  other u m s = advancedUnder limit' eotMargin' u m s
 
   pub record Raised : Type 0 where
     -- a reel that is well formed under the one is under the other, with the same objects
-    pub formed : {s : List ℕ} {e : ℕ} {os : List Object} → HoldsUnder limit s e os → HoldsUnder limit′ s e os
+    pub formed : {s : List ℕ} {e : ℕ} {os : List Object} → HoldsUnder limit s e os → HoldsUnder limit' s e os
     -- every advance that reads comes to the same there, wherever the tape stands, but for EOT in its message
     pub reads : (u : Unit) (m s : List ℕ) {os : List Object} → ReadsUnder limit u m s os → ReadsAlike (one u m s) (other u m s)
     -- so it touches the same places, wherever the table is cut, and takes an entry of the same length; it leaves the same reel, and the same memory but for that bit
@@ -76,14 +71,14 @@ module _ (limit limit′ eotMargin eotMargin′ : ℕ) where
     pub reel : (u : Unit) (m s : List ℕ) {os : List Object} → ReadsUnder limit u m s os → reelAfter (one u m s) m s ≡ reelAfter (other u m s) m s
     pub memory : (u : Unit) (m s : List ℕ) {os : List Object} → ReadsUnder limit u m s os → SentInside (other u m s) m → ButEotAt (eotByte (other u m s)) (memoryAfter (one u m s) m s) (memoryAfter (other u m s) m s)
     -- a write may differ: one that ends at the marker of the larger margin, and so before the other, has class 2 where it had class 0
-    pub writes : (l : Laid) (blocks : ℕ) (mark : Bool) → eotMargin < eotMargin′ → eotMargin′ ≤ blocks → l .at + laidBlocks l ≡ blocks - eotMargin′
-        → EndsWith 0 (writtenMotionUnder eotMargin l blocks mark) × EndsWith 2 (writtenMotionUnder eotMargin′ l blocks mark)
+    pub writes : (l : Laid) (blocks : ℕ) (mark : Bool) → eotMargin < eotMargin' → eotMargin' ≤ blocks → l.at + laidBlocks l ≡ blocks - eotMargin'
+        → EndsWith 0 (writtenMotionUnder eotMargin l blocks mark) × EndsWith 2 (writtenMotionUnder eotMargin' l blocks mark)
     -- both mount such a reel, to the same state
     pub mounts : (old : Unit) (memory : ℕ) (s : List ℕ) (e : ℕ) (online locked : Bool) {os : List Object} → HoldsUnder limit s e os → mountRefusal memory (length s) e ≡ 0
-        → (mountCallUnder limit old memory s e online locked ≡ mountCallUnder limit′ old memory s e online locked)
+        → (mountCallUnder limit old memory s e online locked ≡ mountCallUnder limit' old memory s e online locked)
         × (mountCallUnder limit old memory s e online locked ≡ mountedWith (answer.Done false) (mountedAs e online locked (record { memory = memory; blocks = length s / blockBytes })))
     -- where a record is longer, the smaller limit refuses the mount with 7 at its first block, for its length (N), whatever lies behind that block
-    pub refuses : (old : Unit) (memory : ℕ) (s : List ℕ) (e : ℕ) (online locked : Bool) {p : ℕ} → LongerAt limit limit′ s e p → mountRefusal memory (length s) e ≡ 0
+    pub refuses : (old : Unit) (memory : ℕ) (s : List ℕ) (e : ℕ) (online locked : Bool) {p : ℕ} → LongerAt limit limit' s e p → mountRefusal memory (length s) e ≡ 0
         → mountCallUnder limit old memory s e online locked ≡ mountedWith (answer.BadBlock fault.Length p) old
     -- and of every reel that is well formed under the higher limit one of the two holds
-    pub exhausts : {s : List ℕ} {e : ℕ} {os : List Object} → HoldsUnder limit′ s e os → HoldsUnder limit s e os ⊎ ((p : ℕ) × LongerAt limit limit′ s e p)
+    pub exhausts : {s : List ℕ} {e : ℕ} {os : List Object} → HoldsUnder limit' s e os → HoldsUnder limit s e os ⊎ ((p : ℕ) × LongerAt limit limit' s e p)

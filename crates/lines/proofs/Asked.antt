@@ -1,22 +1,22 @@
 -- Laws of lines that ask for numbers, or for a word of a list.
-use mathlib.Core.Path.{_≡_, sym, ap, _∙_}
+use mathlib.Core.Path.{◌≡◌, sym, ap, ◌∙◌}
 use mathlib.Core.Bool.{Bool, true, false, not}
 use mathlib.Core.List.{List}
 use Prim.Native.Nat.{ℕ}
-use borrow.Author.Tests.{eq-eqb, ne-eqb}
+use borrow.Author.Tests.{eq-eqb, ne_eqb}
 use lib.Dec.{eqb}
-use Rattle·script.specs.declared.Fault.{Fault}
-use Rattle·script.specs.declared.Fault.the-variants as fault
-use Rattle·script.specs.declared.Value.{Value}
-use Rattle·script.specs.declared.Value.the-variants as value
-use Rattle·script.specs.declared.Three.{Three}
-use Rattle·script.specs.declared.Three.the-variants as three
-use Rattle·lines·specs.specs.declared.Arrange.the-variants as arrange
-use Rattle·lines·specs.specs.declared.Line.{Line}
-use Rattle·lines·specs.specs.Makes.{arrangesLine, onNumber, onNumbers, wrongLine}
-use Rattle·lines·specs.specs.Starts.{hasWord, mostWords}
-use Rattle·lines·specs.specs.Arranging.{reelBytes, tableBytes}
-use Rattle·lines·specs.specs.Calling.{operateBy, registerBy}
+use Rattle.script.specs.declared.Fault.{Fault}
+use Rattle.script.specs.declared.Fault.TheVariants as fault
+use Rattle.script.specs.declared.Value.{Value}
+use Rattle.script.specs.declared.Value.TheVariants as value
+use Rattle.script.specs.declared.Three.{Three}
+use Rattle.script.specs.declared.Three.TheVariants as three
+use Rattle.lines.specs.declared.Arrange.TheVariants as arrange
+use Rattle.lines.specs.declared.Line.{Line}
+use Rattle.lines.specs.Makes.{arrangesLine, onNumber, onNumbers, wrongLine}
+use Rattle.lines.specs.Starts.{hasWord, mostWords}
+use Rattle.lines.specs.Arranging.{reelBytes, tableBytes}
+use Rattle.lines.specs.Calling.{operateBy, registerBy}
 
 -- a number that was read, or not
 module _ (x y : Value) (f : ℕ → Line) (r : Line) (e : y ≡ x) where
@@ -24,9 +24,9 @@ module _ (x y : Value) (f : ℕ → Line) (r : Line) (e : y ≡ x) where
   unfolding onNumber
   number-not w g h = rw (← e, g) h
 
-  pub number-read : (n : ℕ) → y ≡ value.Is n → r ≡ f n → r ≡ onNumber x f
+  pub number_read : (n : ℕ) → y ≡ value.Is n → r ≡ f n → r ≡ onNumber x f
   unfolding onNumber
-  number-read n g h = rw (← e, g) h
+  number_read n g h = rw (← e, g) h
 
 module _ (x y : Three) (f : ℕ → ℕ → ℕ → Line) (r : Line) (e : y ≡ x) where
   pub numbers-not : (w : Fault) → y ≡ three.Wrong w → r ≡ wrongLine w → r ≡ onNumbers x f
@@ -41,20 +41,20 @@ module _ (x y : Three) (f : ℕ → ℕ → ℕ → Line) (r : Line) (e : y ≡ 
 pub is-place : (x y : ℕ) → x ≡ y → x ≡ 0 → eqb y 0 ≡ true
 is-place x y e h = rw (← e) (eq-eqb x 0 h)
 
-pub no-place : (x y : ℕ) → x ≡ y → (x ≡ 0 → ⊥) → eqb y 0 ≡ false
-no-place x y e h = rw (← e) (ne-eqb x 0 h)
+pub no_place : (x y : ℕ) → x ≡ y → (x ≡ 0 → ⊥) → eqb y 0 ≡ false
+no_place x y e h = rw (← e) (ne_eqb x 0 h)
 
-pub at-place : (f : ℕ → Line) (x y k : ℕ) (r : Line) → x ≡ y → x ≡ k → r ≡ f k → r ≡ f y
-at-place f x y k r e g h = rw (← e, g) h
+pub at_place : (f : ℕ → Line) (x y k : ℕ) (r : Line) → x ≡ y → x ≡ k → r ≡ f k → r ≡ f y
+at_place f x y k r e g h = rw (← e, g) h
 
 -- one that is none of the list
 pub register-none : (k : ℕ) (r : Line) → (k ≡ 0 → ⊥) → (k ≡ 1 → ⊥) → r ≡ wrongLine fault.UnknownWord → r ≡ registerBy k
 unfolding registerBy
-register-none k r a b h = rw (ne-eqb k 0 a, ne-eqb k 1 b) h
+register-none k r a b h = rw (ne_eqb k 0 a, ne_eqb k 1 b) h
 
 pub operate-none : (k : ℕ) (r : Line) → (k ≡ 0 → ⊥) → (k ≡ 1 → ⊥) → (k ≡ 2 → ⊥) → (k ≡ 3 → ⊥) → r ≡ wrongLine fault.UnknownWord → r ≡ operateBy k
 unfolding operateBy
-operate-none k r a b c d h = rw (ne-eqb k 0 a, ne-eqb k 1 b, ne-eqb k 2 c, ne-eqb k 3 d) h
+operate-none k r a b c d h = rw (ne_eqb k 0 a, ne_eqb k 1 b, ne_eqb k 2 c, ne_eqb k 3 d) h
 
 -- sizes whose reel and table were worked out
 pub sizes-made : (m b j n k : ℕ) (r : Line) → n ≡ reelBytes b → k ≡ tableBytes b → r ≡ arrangesLine (arrange.Sizes (record { memory = m; reel = n; table = k; journal = j })) → r ≡ arrangesLine (arrange.Sizes (record { memory = m; reel = reelBytes b; table = tableBytes b; journal = j }))
@@ -72,5 +72,5 @@ word-not t k true c e h = sym e ∙ ap not h
 word-not t k false c e h = sym e ∙ ap not h
 
 -- whether there is a word too many
-pub word-more : (t : List ℕ) (k m : ℕ) (b c : Bool) → m ≡ mostWords k → b ≡ hasWord t m → b ≡ c → hasWord t (mostWords k) ≡ c
-word-more t k m b c e f g = rw (← e, ← f) g
+pub word_more : (t : List ℕ) (k m : ℕ) (b c : Bool) → m ≡ mostWords k → b ≡ hasWord t m → b ≡ c → hasWord t (mostWords k) ≡ c
+word_more t k m b c e f g = rw (← e, ← f) g

@@ -1,26 +1,26 @@
 -- Laws of the prefix.
-use mathlib.Core.Path.{_≡_}
+use mathlib.Core.Path.{◌≡◌}
 use mathlib.Core.Bool.{Bool, true}
 use mathlib.Core.List.{List}
-use Prim.Native.Nat.{ℕ, _-_, _≤_, _<_}
+use Prim.Native.Nat.{ℕ, ◌-◌, ◌≤◌, ◌<◌}
 use native.Mathlib.Omega.{arith}
 use borrow.Author.Tests.{le-ltb, lt-ltb}
 use lib.ListN.{length, length-drop, take, drop}
-use lib.Seq.{take-all}
-use Rattle·script.specs.Words.{wordEnd}
-use Rattle·lines·specs.specs.declared.Prefix.{Prefix}
-use Rattle·lines·specs.specs.Prefixes.{prefixOf, takesUnit, unitIn}
+use lib.Seq.{take_all}
+use Rattle.script.specs.Words.{wordEnd}
+use Rattle.lines.specs.declared.Prefix.{Prefix}
+use Rattle.lines.specs.Prefixes.{prefix_of, takesUnit, unitIn}
 
 abbrev named : ℕ → ℕ → Bool → Prefix
 named u f b = record { unit = u; from = f; fits = b }
 
 module _ (t : List ℕ) (u : ℕ) (e : u ≡ unitIn t) where
-  pub prefix-none : 9 < u → named 0 0 true ≡ prefixOf t
-  unfolding prefixOf
+  pub prefix-none : 9 < u → named 0 0 true ≡ prefix_of t
+  unfolding prefix_of
   prefix-none h = rw (← e, lt-ltb 9 u h)
 
-  pub prefix-is : (f : ℕ) (b : Bool) → u ≤ 9 → f ≡ wordEnd t 0 → f ≤ length t → b ≡ takesUnit (take (length t - f) (drop f t)) → named u f b ≡ prefixOf t
-  unfolding prefixOf
+  pub prefix-is : (f : ℕ) (b : Bool) → u ≤ 9 → f ≡ wordEnd t 0 → f ≤ length t → b ≡ takesUnit (take (length t - f) (drop f t)) → named u f b ≡ prefix_of t
+  unfolding prefix_of
   prefix-is f b h g l q =
       let n : length (drop f t) ≡ length t - f = length-drop f t in
-      rw (← e, le-ltb 9 u h, ← g, q, take-all (length t - f) (drop f t) (omega arith))
+      rw (← e, le-ltb 9 u h, ← g, q, take_all (length t - f) (drop f t) (omega arith))

@@ -1,60 +1,60 @@
 -- Laws of `named` and `within`: what word k settles, and what is left to the words before it.
-use mathlib.Core.Path.{_≡_, refl, ap, sym, _∙_}
-use mathlib.Core.Bool.{Bool, true, false, _&&_, _||_, not}
+use mathlib.Core.Path.{◌≡◌, refl, ap, sym, ◌∙◌}
+use mathlib.Core.Bool.{Bool, true, false, ◌&&◌, ◌||◌, not}
 use mathlib.Core.List.{List}
-use Prim.Native.Nat.{ℕ, zero, suc, _-_, _≤_, _<_}
+use Prim.Native.Nat.{ℕ, zero, suc, ◌-◌, ◌≤◌, ◌<◌}
 use native.Mathlib.Omega.{arith}
-use Rattle·script.specs.declared.Value.{Value}
-use Rattle·lines·specs.specs.Makes.{numberAt}
-use Rattle·lines·specs.specs.Starts.{hasWord}
-use Rattle·lines·specs.specs.Rules.{heldBy, named, says, within}
+use Rattle.script.specs.declared.Value.{Value}
+use Rattle.lines.specs.Makes.{number_at}
+use Rattle.lines.specs.Starts.{hasWord}
+use Rattle.lines.specs.Rules.{heldBy, named, says, within}
 
-pub named-none : (t : List ℕ) (n k : ℕ) → k ≤ 0 → named t n k ≡ false
+pub named_none : (t : List ℕ) (n k : ℕ) → k ≤ 0 → named t n k ≡ false
 unfolding named
-named-none t n zero h = refl
-named-none t n (suc k) h = absurd (omega arith)
+named_none t n zero h = refl
+named_none t n (suc k) h = absurd (omega arith)
 
 -- word k of the line, as it was read, says n or not
 module _ (t : List ℕ) (n : ℕ) (v : Value) (x : Bool) where
-  named-by : (k : ℕ) → 0 < k → v ≡ numberAt t k → x ≡ says v n → named t n k ≡ (x || named t n (k - 1))
+  named_by : (k : ℕ) → 0 < k → v ≡ number_at t k → x ≡ says v n → named t n k ≡ (x || named t n (k - 1))
   unfolding named
-  named-by zero h e f = absurd (omega arith)
-  named-by (suc k) h e f =
+  named_by zero h e f = absurd (omega arith)
+  named_by (suc k) h e f =
       let before : suc k - 1 ≡ k = omega arith in
       rw (f, e, before)
 
-  module _ (k : ℕ) (h : 0 < k) (e : v ≡ numberAt t k) (f : x ≡ says v n) where
+  module _ (k : ℕ) (h : 0 < k) (e : v ≡ number_at t k) (f : x ≡ says v n) where
     pub named-stop : x ≡ true → named t n k ≡ true
-    named-stop s = named-by k h e f ∙ rw s
+    named-stop s = named_by k h e f ∙ rw s
 
     pub named-on : x ≡ false → named t n k ≡ named t n (k - 1)
-    named-on s = named-by k h e f ∙ rw s
+    named-on s = named_by k h e f ∙ rw s
 
-pub within-none : (a b : List ℕ) (k : ℕ) → k ≤ 0 → within a b k ≡ true
+pub within_none : (a b : List ℕ) (k : ℕ) → k ≤ 0 → within a b k ≡ true
 unfolding within
-within-none a b zero h = refl
-within-none a b (suc k) h = absurd (omega arith)
+within_none a b zero h = refl
+within_none a b (suc k) h = absurd (omega arith)
 
 -- there is a word k or not, and what it says, as it was read, is held or not
 module _ (a b : List ℕ) (y : Bool) (v : Value) (x : Bool) where
-  within-by : (k : ℕ) → 0 < k → y ≡ hasWord a k → v ≡ numberAt a k → x ≡ heldBy b v → within a b k ≡ ((not y || x) && within a b (k - 1))
+  within_by : (k : ℕ) → 0 < k → y ≡ hasWord a k → v ≡ number_at a k → x ≡ heldBy b v → within a b k ≡ ((not y || x) && within a b (k - 1))
   unfolding within
-  within-by zero h e f g = absurd (omega arith)
-  within-by (suc k) h e f g =
+  within_by zero h e f g = absurd (omega arith)
+  within_by (suc k) h e f g =
       let before : suc k - 1 ≡ k = omega arith in
       rw (g, e, f, before)
 
-  module _ (k : ℕ) (h : 0 < k) (e : y ≡ hasWord a k) (f : v ≡ numberAt a k) (g : x ≡ heldBy b v) where
+  module _ (k : ℕ) (h : 0 < k) (e : y ≡ hasWord a k) (f : v ≡ number_at a k) (g : x ≡ heldBy b v) where
     pub within-stop : (y && not x) ≡ true → within a b k ≡ false
-    within-stop s = within-by k h e f g ∙ ap (λ (z : Bool). z && within a b (k - 1)) (not-held y x s)
+    within-stop s = within_by k h e f g ∙ ap (λ (z : Bool). z && within a b (k - 1)) (not-held y x s)
       where
         not-held : (y x : Bool) → (y && not x) ≡ true → (not y || x) ≡ false
         not-held true true s = sym s
         not-held true false s = refl
         not-held false x s = sym s
 
-    pub within-on : (y && not x) ≡ false → within a b k ≡ within a b (k - 1)
-    within-on s = within-by k h e f g ∙ ap (λ (z : Bool). z && within a b (k - 1)) (held y x s)
+    pub within_on : (y && not x) ≡ false → within a b k ≡ within a b (k - 1)
+    within_on s = within_by k h e f g ∙ ap (λ (z : Bool). z && within a b (k - 1)) (held y x s)
       where
         held : (y x : Bool) → (y && not x) ≡ false → (not y || x) ≡ true
         held true true s = refl

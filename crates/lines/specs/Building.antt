@@ -1,33 +1,30 @@
 -- Lines that put bytes into memory or reel with no call: what each comes to.
-use mathlib.Core.Bool.{Bool, true, false}
-use mathlib.Core.List.{List}
-use Prim.Native.Nat.{ℕ}
-use lib.Dec.{eqb}
-use Rattle·lists.specs.Pick.{pick}
-use Rattle·script.specs.declared.Fault.the-variants as fault
-use Rattle·lines·specs.specs.declared.Build.the-variants as build
-use Rattle·lines·specs.specs.declared.Given.the-variants as given
-use Rattle·lines·specs.specs.declared.Line.{Line}
-use Rattle·lines·specs.specs.Makes.{buildsLine, numberAt, numbersAt, onNumber, onNumbers, wrongLine}
-use Rattle·lines·specs.specs.Starts.{hasWord}
+use Rattle.std.specs.Prelude.{Bool, true, false, List, ℕ, eqb}
+use Rattle.lists.specs.Pick.{pick}
+use Rattle.script.specs.declared.Fault.TheVariants as fault
+use Rattle.lines.specs.declared.Build.TheVariants as build
+use Rattle.lines.specs.declared.Given.TheVariants as given
+use Rattle.lines.specs.declared.Line.{Line}
+use Rattle.lines.specs.Makes.{buildsLine, number_at, numbersAt, onNumber, onNumbers, wrongLine}
+use Rattle.lines.specs.Starts.{hasWord}
 
 -- `poke ADDR HEX`, and of the reel `pokereel OFFSET HEX`: word 2 gives the bytes
 unfoldable pub pokeLine : List ℕ → Bool → Line
-pokeLine t reel = onNumber (numberAt t 1) (λ at. buildsLine (pick reel (build.PokeReel at) (build.Poke at)) (given.Word 2))
+pokeLine t reel = onNumber (number_at t 1) (λ at. buildsLine (pick reel (build.PokeReel at) (build.Poke at)) (given.Word 2))
 
 -- `word ADDR VALUE`
-unfoldable pub wordLine : List ℕ → Line
-wordLine t = onNumbers (numbersAt t 1 2) (λ at w x. buildsLine (build.PokeWord at w) given.Nothing)
+unfoldable pub word_line : List ℕ → Line
+word_line t = onNumbers (numbersAt t 1 2) (λ at w x. buildsLine (build.PokeWord at w) given.Nothing)
 
 -- `fixsum BLOCK`
 unfoldable pub sumLine : List ℕ → Line
-sumLine t = onNumber (numberAt t 1) (λ k. buildsLine (build.FixSum k) given.Nothing)
+sumLine t = onNumber (number_at t 1) (λ k. buildsLine (build.FixSum k) given.Nothing)
 
 -- 4 `poke`, 5 `word`, 6 `pokereel`, 7 `fixsum`
 unfoldable pub poking : List ℕ → ℕ → Line
 poking t k =
     pick (eqb k 4) (pokeLine t false)
-    (pick (eqb k 5) (wordLine t)
+    (pick (eqb k 5) (word_line t)
     (pick (eqb k 6) (pokeLine t true)
     (sumLine t)))
 

@@ -1,43 +1,40 @@
 -- Call lines: what each comes to.
-use mathlib.Core.Bool.{not}
-use mathlib.Core.List.{List, [], _∷_}
-use Prim.Native.Nat.{ℕ}
-use lib.Dec.{eqb, ltb}
-use Rattle·lists.specs.Pick.{pick}
-use Rattle·script.specs.declared.Fault.the-variants as fault
-use Rattle·script.specs.declared.Value.{Value}
-use Rattle·script.specs.declared.Value.the-variants as value
-use Rattle·script.specs.Words.{placeOf, wordFrom}
-use Rattle·state.specs.declared.act.Act.the-variants as act
-use Rattle·lines·specs.specs.declared.Ask.the-variants as ask
-use Rattle·lines·specs.specs.declared.Call.the-variants as call
-use Rattle·lines·specs.specs.declared.Given.the-variants as given
-use Rattle·lines·specs.specs.declared.Line.{Line}
-use Rattle·lines·specs.specs.Makes.{asksLine, callsLine, numberAt, numbersAt, onNumber, onNumbers, wrongLine}
+use Rattle.std.specs.Prelude.{not, List, [], ◌∷◌, ℕ, eqb, ltb}
+use Rattle.lists.specs.Pick.{pick}
+use Rattle.script.specs.declared.Fault.TheVariants as fault
+use Rattle.script.specs.declared.Value.{Value}
+use Rattle.script.specs.declared.Value.TheVariants as value
+use Rattle.script.specs.Words.{place_of, wordFrom}
+use Rattle.state.specs.declared.act.Act.TheVariants as act
+use Rattle.lines.specs.declared.Ask.TheVariants as ask
+use Rattle.lines.specs.declared.Call.TheVariants as call
+use Rattle.lines.specs.declared.Given.TheVariants as given
+use Rattle.lines.specs.declared.Line.{Line}
+use Rattle.lines.specs.Makes.{asksLine, callsLine, number_at, numbersAt, onNumber, onNumbers, wrongLine}
 
 -- "cursor"
 abbrev pub cursorWord : List ℕ
 cursorWord = 99 ∷ 117 ∷ 114 ∷ 115 ∷ 111 ∷ 114 ∷ []
 
 -- END of a mount: the build cursor, or a number
-unfoldable pub endOf : List ℕ → ℕ → Value
-endOf t cursor = pick (eqb (placeOf cursorWord (wordFrom t 1)) 0) (value.Is cursor) (numberAt t 1)
+unfoldable pub end_of : List ℕ → ℕ → Value
+end_of t cursor = pick (eqb (place_of cursorWord (wordFrom t 1)) 0) (value.Is cursor) (number_at t 1)
 
 -- `mount END ONLINE LOCK`: any number but 0 turns a switch on
 unfoldable pub mountLine : List ℕ → ℕ → Line
 mountLine t cursor =
-    onNumber (endOf t cursor) (λ e. onNumbers (numbersAt t 2 3) (λ online locked x. callsLine (call.Mount e (not (eqb online 0)) (not (eqb locked 0))) given.Nothing))
+    onNumber (end_of t cursor) (λ e. onNumbers (numbersAt t 2 3) (λ online locked x. callsLine (call.Mount e (not (eqb online 0)) (not (eqb locked 0))) given.Nothing))
 
 -- `tsdb WORD`: 16 bits
 unfoldable pub tsdbTo : ℕ → Line
 tsdbTo w = pick (ltb 65535 w) (wrongLine fault.NumberTooLarge) (asksLine (ask.WriteTsdb w) given.Nothing)
 
 unfoldable pub tsdbLine : List ℕ → Line
-tsdbLine t = onNumber (numberAt t 1) (λ w. tsdbTo w)
+tsdbLine t = onNumber (number_at t 1) (λ w. tsdbTo w)
 
 -- `tssr WORD`: any number
 unfoldable pub tssrLine : List ℕ → Line
-tssrLine t = onNumber (numberAt t 1) (λ w. asksLine ask.WriteTssr given.Nothing)
+tssrLine t = onNumber (number_at t 1) (λ w. asksLine ask.WriteTssr given.Nothing)
 
 -- "tsba tssr"
 abbrev pub registerWords : List ℕ
@@ -51,7 +48,7 @@ registerBy k =
 
 -- `reg tsba` and `reg tssr`
 unfoldable pub regLine : List ℕ → Line
-regLine t = registerBy (placeOf registerWords (wordFrom t 1))
+regLine t = registerBy (place_of registerWords (wordFrom t 1))
 
 -- "on off lock unlock"
 abbrev pub actWords : List ℕ
@@ -67,11 +64,11 @@ operateBy k =
 
 -- `op on|off|lock|unlock`
 unfoldable pub opLine : List ℕ → Line
-opLine t = operateBy (placeOf actWords (wordFrom t 1))
+opLine t = operateBy (place_of actWords (wordFrom t 1))
 
 -- `host ADDR HEX`: word 2 gives the bytes
 unfoldable pub hostLine : List ℕ → Line
-hostLine t = onNumber (numberAt t 1) (λ at. asksLine (ask.HostStore at) (given.Word 2))
+hostLine t = onNumber (number_at t 1) (λ at. asksLine (ask.HostStore at) (given.Word 2))
 
 -- `hostn ADDR LEN SEED`
 unfoldable pub hostnLine : List ℕ → Line

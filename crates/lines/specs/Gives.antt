@@ -1,17 +1,14 @@
 -- The bytes that a line gives, put at the front of a slice: how many, or what is wrong; and what the slice has then.
-use mathlib.Core.List.{List}
-use Prim.Native.Nat.{ℕ}
-use lib.Dec.{ltb}
-use lib.ListN.{length}
-use lib.Seq.{sets}
-use Rattle·lists.specs.Pick.{pick}
-use Rattle·script.specs.declared.Fault.the-variants as fault
-use Rattle·script.specs.declared.Value.{Value}
-use Rattle·script.specs.declared.Value.the-variants as value
-use Rattle·script.specs.Fills.{generated, hexAnswer, hexFilled}
-use Rattle·script.specs.Words.{wordFrom}
-use Rattle·lines·specs.specs.declared.Given.{Given}
-use Rattle·lines·specs.specs.declared.Given.the-variants as given
+use Rattle.std.specs.Prelude.{List, ℕ, ltb, length}
+use Rattle.std.proofs.lemmas.List.Edits.{sets}
+use Rattle.lists.specs.Pick.{pick}
+use Rattle.script.specs.declared.Fault.TheVariants as fault
+use Rattle.script.specs.declared.Value.{Value}
+use Rattle.script.specs.declared.Value.TheVariants as value
+use Rattle.script.specs.Fills.{generated, hexAnswer, hexFilled}
+use Rattle.script.specs.Words.{wordFrom}
+use Rattle.lines.specs.declared.Given.{Given}
+use Rattle.lines.specs.declared.Given.TheVariants as given
 
 -- n bytes made from a seed
 unfoldable pub madeAnswer : ℕ → ℕ → Value

@@ -1,19 +1,17 @@
 -- What a line of a script comes to, with no comment and no prefix, while the build cursor is at a block.
-use mathlib.Core.List.{List}
-use Prim.Native.Nat.{ℕ}
-use lib.Dec.{eqb, ltb}
-use Rattle·lists.specs.Pick.{pick}
-use Rattle·script.specs.declared.Fault.the-variants as fault
-use Rattle·lines·specs.specs.declared.Does.the-variants as does
-use Rattle·lines·specs.specs.declared.Line.{Line}
-use Rattle·lines·specs.specs.Makes.{plainLine, wrongLine}
-use Rattle·lines·specs.specs.Starts.{hasWord, mostWords, startOf}
-use Rattle·lines·specs.specs.Arranging.{arranging}
-use Rattle·lines·specs.specs.Building.{laying, poking}
-use Rattle·lines·specs.specs.Calling.{calling}
-use Rattle·lines·specs.specs.Rowing.{rowing}
-use Rattle·lines·specs.specs.Rules.{rulesLine}
-use Rattle·lines·specs.specs.Tabling.{tabling}
+use Rattle.std.specs.Prelude.{List, ℕ, eqb, ltb}
+use Rattle.lists.specs.Pick.{pick}
+use Rattle.script.specs.declared.Fault.TheVariants as fault
+use Rattle.lines.specs.declared.Does.TheVariants as does
+use Rattle.lines.specs.declared.Line.{Line}
+use Rattle.lines.specs.Makes.{plainLine, wrongLine}
+use Rattle.lines.specs.Starts.{hasWord, mostWords, start_of}
+use Rattle.lines.specs.Arranging.{arranging}
+use Rattle.lines.specs.Building.{laying, poking}
+use Rattle.lines.specs.Calling.{calling}
+use Rattle.lines.specs.Rowing.{rowing}
+use Rattle.lines.specs.Rules.{rulesLine}
+use Rattle.lines.specs.Tabling.{tabling}
 
 -- by its first word's number
 unfoldable pub lineBy : List ℕ → ℕ → ℕ → Line
@@ -34,5 +32,5 @@ lineFrom t k cursor =
     (lineBy t k cursor))
 
 -- a blank line does nothing
-unfoldable pub lineOf : List ℕ → ℕ → Line
-lineOf t cursor = pick (hasWord t 0) (lineFrom t (startOf t) cursor) (plainLine does.Nothing)
+unfoldable pub line_of : List ℕ → ℕ → Line
+line_of t cursor = pick (hasWord t 0) (lineFrom t (start_of t) cursor) (plainLine does.Nothing)

@@ -1,24 +1,23 @@
 -- A line made of what it does and the bytes that it gives, or of the first of its words that can't be read as the number it has to be.
-use mathlib.Core.List.{List}
-use Prim.Native.Nat.{ℕ, _+_}
-use Rattle·script.specs.declared.Fault.{Fault}
-use Rattle·script.specs.declared.Value.{Value}
-use Rattle·script.specs.declared.Value.the-variants as value
-use Rattle·script.specs.declared.Three.{Three}
-use Rattle·script.specs.declared.Three.the-variants as three
-use Rattle·script.specs.Words.{wordFrom}
-use Rattle·script.specs.Numbers.{numberIn, threeOf, wantedOf}
-use Rattle·lines·specs.specs.declared.Arrange.{Arrange}
-use Rattle·lines·specs.specs.declared.Build.{Build}
-use Rattle·lines·specs.specs.declared.Table.{Table}
-use Rattle·lines·specs.specs.declared.Ask.{Ask}
-use Rattle·lines·specs.specs.declared.Call.{Call}
-use Rattle·lines·specs.specs.declared.Call.the-variants as call
-use Rattle·lines·specs.specs.declared.Does.{Does}
-use Rattle·lines·specs.specs.declared.Does.the-variants as does
-use Rattle·lines·specs.specs.declared.Given.{Given}
-use Rattle·lines·specs.specs.declared.Given.the-variants as given
-use Rattle·lines·specs.specs.declared.Line.{Line}
+use Rattle.std.specs.Prelude.{List, ℕ, ◌+◌}
+use Rattle.script.specs.declared.Fault.{Fault}
+use Rattle.script.specs.declared.Value.{Value}
+use Rattle.script.specs.declared.Value.TheVariants as value
+use Rattle.script.specs.declared.Three.{Three}
+use Rattle.script.specs.declared.Three.TheVariants as three
+use Rattle.script.specs.Words.{wordFrom}
+use Rattle.script.specs.Numbers.{number_in, threeOf, wantedOf}
+use Rattle.lines.specs.declared.Arrange.{Arrange}
+use Rattle.lines.specs.declared.Build.{Build}
+use Rattle.lines.specs.declared.Table.{Table}
+use Rattle.lines.specs.declared.Ask.{Ask}
+use Rattle.lines.specs.declared.Call.{Call}
+use Rattle.lines.specs.declared.Call.TheVariants as call
+use Rattle.lines.specs.declared.Does.{Does}
+use Rattle.lines.specs.declared.Does.TheVariants as does
+use Rattle.lines.specs.declared.Given.{Given}
+use Rattle.lines.specs.declared.Given.TheVariants as given
+use Rattle.lines.specs.declared.Line.{Line}
 
 -- a line that gives no bytes
 abbrev pub plainLine : Does → Line
@@ -43,8 +42,8 @@ abbrev pub asksLine : Ask → Given → Line
 asksLine a g = callsLine (call.Step a) g
 
 -- word k of a line as a number, and the line that it makes
-abbrev pub numberAt : List ℕ → ℕ → Value
-numberAt t k = numberIn (wordFrom t k)
+abbrev pub number_at : List ℕ → ℕ → Value
+number_at t k = number_in (wordFrom t k)
 
 unfoldable pub onNumber : Value → (ℕ → Line) → Line
 onNumber (value.Is n) f = f n

@@ -1,13 +1,9 @@
 -- "`uN LINE` does LINE for unit N (one digit); without a prefix it is unit 0's."
-use mathlib.Core.Bool.{Bool, true, _&&_}
-use mathlib.Core.List.{List, [], _∷_}
-use Prim.Native.Nat.{ℕ}
-use lib.Dec.{ltb}
-use lib.ListN.{drop}
-use Rattle·lists.specs.Pick.{pick}
-use Rattle·script.specs.Words.{placeOf, wordEnd, wordFrom}
-use Rattle·lines·specs.specs.declared.Prefix.{Prefix}
-use Rattle·lines·specs.specs.Starts.{hasWord}
+use Rattle.std.specs.Prelude.{Bool, true, ◌&&◌, List, [], ◌∷◌, ℕ, ltb, drop}
+use Rattle.lists.specs.Pick.{pick}
+use Rattle.script.specs.Words.{place_of, wordEnd, wordFrom}
+use Rattle.lines.specs.declared.Prefix.{Prefix}
+use Rattle.lines.specs.Starts.{hasWord}
 
 -- "u0 u1 u2 u3 u4 u5 u6 u7 u8 u9"
 unfoldable pub unitWords : List ℕ
@@ -15,7 +11,7 @@ unitWords = 117 ∷ 48 ∷ 32 ∷ 117 ∷ 49 ∷ 32 ∷ 117 ∷ 50 ∷ 32 ∷ 11
 
 -- the unit that word 0 names; more than 9 where it names none
 unfoldable pub unitIn : List ℕ → ℕ
-unitIn t = placeOf unitWords (wordFrom t 0)
+unitIn t = place_of unitWords (wordFrom t 0)
 
 -- "case sizes poke word rules units": lines of no one unit, which take no prefix
 unfoldable pub bareWords : List ℕ
@@ -23,10 +19,10 @@ bareWords = 99 ∷ 97 ∷ 115 ∷ 101 ∷ 32 ∷ 115 ∷ 105 ∷ 122 ∷ 101 ∷
 
 -- the line proper may have a prefix: it is not blank, and starts with none of these six
 unfoldable pub takesUnit : List ℕ → Bool
-takesUnit t = hasWord t 0 && ltb 5 (placeOf bareWords (wordFrom t 0))
+takesUnit t = hasWord t 0 && ltb 5 (place_of bareWords (wordFrom t 0))
 
 -- the line proper stands behind the prefix, or is the whole text
-unfoldable pub prefixOf : List ℕ → Prefix
-prefixOf t =
+unfoldable pub prefix_of : List ℕ → Prefix
+prefix_of t =
     pick (ltb 9 (unitIn t)) (record { unit = 0; from = 0; fits = true })
     (record { unit = unitIn t; from = wordEnd t 0; fits = takesUnit (drop (wordEnd t 0) t) })

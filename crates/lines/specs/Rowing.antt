@@ -1,13 +1,11 @@
 -- Lines about the row of units: what each comes to.
-use mathlib.Core.List.{List}
-use Prim.Native.Nat.{ℕ}
-use lib.Dec.{eqb, ltb}
-use Rattle·lists.specs.Pick.{pick}
-use Rattle·script.specs.declared.Fault.the-variants as fault
-use Rattle·lines·specs.specs.declared.Arrange.the-variants as arrange
-use Rattle·lines·specs.specs.declared.Line.{Line}
-use Rattle·lines·specs.specs.Makes.{arrangesLine, numberAt, onNumber, wrongLine}
-use Rattle·lines·specs.specs.Arranging.{reelBytes}
+use Rattle.std.specs.Prelude.{List, ℕ, eqb, ltb}
+use Rattle.lists.specs.Pick.{pick}
+use Rattle.script.specs.declared.Fault.TheVariants as fault
+use Rattle.lines.specs.declared.Arrange.TheVariants as arrange
+use Rattle.lines.specs.declared.Line.{Line}
+use Rattle.lines.specs.Makes.{arrangesLine, number_at, onNumber, wrongLine}
+use Rattle.lines.specs.Arranging.{reelBytes}
 
 -- "the row has N records (0 to 9 ..)"
 unfoldable pub unitsTo : ℕ → Line
@@ -15,4 +13,4 @@ unitsTo n = pick (ltb 9 n) (wrongLine fault.NumberTooLarge) (arrangesLine (arran
 
 -- 24 `units N`, 25 `reel BLOCKS`
 unfoldable pub rowing : List ℕ → ℕ → Line
-rowing t k = onNumber (numberAt t 1) (λ n. pick (eqb k 24) (unitsTo n) (arrangesLine (arrange.Reel (reelBytes n))))
+rowing t k = onNumber (number_at t 1) (λ n. pick (eqb k 24) (unitsTo n) (arrangesLine (arrange.Reel (reelBytes n))))

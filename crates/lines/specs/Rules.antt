@@ -1,16 +1,13 @@
 -- `rules N N ..`: the requests of document 02 that a script expects, held to those that the program has built in.
-use mathlib.Core.Bool.{Bool, true, false, _&&_, _||_, not}
-use mathlib.Core.List.{List, [], _∷_}
-use Prim.Native.Nat.{ℕ, zero, suc}
-use lib.Dec.{eqb}
-use Rattle·lists.specs.Pick.{pick}
-use Rattle·script.specs.declared.Fault.the-variants as fault
-use Rattle·script.specs.declared.Value.{Value}
-use Rattle·script.specs.declared.Value.the-variants as value
-use Rattle·lines·specs.specs.declared.Does.the-variants as does
-use Rattle·lines·specs.specs.declared.Line.{Line}
-use Rattle·lines·specs.specs.Makes.{numberAt, plainLine, wrongLine}
-use Rattle·lines·specs.specs.Starts.{hasWord}
+use Rattle.std.specs.Prelude.{Bool, true, false, ◌&&◌, ◌||◌, not, List, [], ◌∷◌, ℕ, zero, suc, eqb}
+use Rattle.lists.specs.Pick.{pick}
+use Rattle.script.specs.declared.Fault.TheVariants as fault
+use Rattle.script.specs.declared.Value.{Value}
+use Rattle.script.specs.declared.Value.TheVariants as value
+use Rattle.lines.specs.declared.Does.TheVariants as does
+use Rattle.lines.specs.declared.Line.{Line}
+use Rattle.lines.specs.Makes.{number_at, plainLine, wrongLine}
+use Rattle.lines.specs.Starts.{hasWord}
 
 -- the program's own: "rules 2 4 7 8 9"
 unfoldable pub ownRules : List ℕ
@@ -27,7 +24,7 @@ says (value.Wrong f) n = false
 -- one of the words 1 to k of the line t says n
 unfoldable pub named : List ℕ → ℕ → ℕ → Bool
 named t n zero = false
-named t n (suc k) = says (numberAt t (suc k)) n || named t n k
+named t n (suc k) = says (number_at t (suc k)) n || named t n k
 
 -- "[1], [3], [12], [13] change no script line and may be missing from or present in either set"
 abbrev pub unseen : ℕ → Bool
@@ -41,12 +38,12 @@ heldBy b (value.Wrong f) = false
 -- each of the words 1 to k of the line a is one
 unfoldable pub within : List ℕ → List ℕ → ℕ → Bool
 within a b zero = true
-within a b (suc k) = (not (hasWord a (suc k)) || heldBy b (numberAt a (suc k))) && within a b k
+within a b (suc k) = (not (hasWord a (suc k)) || heldBy b (number_at a (suc k))) && within a b k
 
 -- two lines name the same set
-abbrev pub sameRules : List ℕ → List ℕ → Bool
-sameRules a b = within a b requests && within b a requests
+abbrev pub same_rules : List ℕ → List ℕ → Bool
+same_rules a b = within a b requests && within b a requests
 
 -- "it takes the line, and says so in one line if it names another set than its own"
 unfoldable pub rulesLine : List ℕ → Line
-rulesLine t = pick (sameRules t ownRules) (plainLine does.Nothing) (wrongLine fault.OtherRules)
+rulesLine t = pick (same_rules t ownRules) (plainLine does.Nothing) (wrongLine fault.OtherRules)

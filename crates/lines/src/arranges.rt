@@ -1,37 +1,30 @@
 // Lines that set the desk up.
-use crate::Arrange;
-use crate::Line;
-use crate::Sizes;
-use crate::makes::arranges;
-use crate::makes::wrong;
+ghost use Rattle.std.specs.Prelude.{◌≡◌};
+ghost use Rattle.lines.specs.Arranging.{arranging, cutLine, field_of, lensLine, reelBytes, setLine, set_to, sizesLine, tableBytes, tooWide};
+
+use crate::makes::{arranges, wrong};
 use crate::texts::has_word;
+use crate::{Arrange, Line, Sizes};
 use lists::least;
-use script::Fault;
-use script::Three;
-use script::Value;
-use script::argument;
-use script::find_word;
-use script::numbers;
+use script::{Fault, Three, Value, argument, find_word, numbers};
 use tape::Geometry;
-ghost use mathlib.Core.Path.{_≡_};
-ghost use Rattle·lines·specs.specs.Arranging.{arranging, cutLine, fieldOf, lensLine, reelBytes, setLine, setTo, sizesLine, tableBytes, tooWide};
 
 // In bytes; no reel of the program has so many blocks that a cut matters.
 pub fn reel_bytes(blocks: usize) -> usize
-    ensures { λ r. ⌜ r ≡ reelBytes blocks ⌝ }
+    ensures { result ≡ reelBytes blocks }
 {
     Geometry::BLOCK * least(blocks, 1000000)
 }
 
 // Eight bytes for each block, unless a line says another length.
 fn table_bytes(blocks: usize) -> usize
-    ensures { λ r. ⌜ r ≡ tableBytes blocks ⌝ }
+    ensures { result ≡ tableBytes blocks }
 {
     8 * least(blocks, 1000000)
 }
 
 fn sizes_line(text: &[u8]) -> Line
-    ensures { λ r. ⌜ r ≡ sizesLine (now (text .entry)) ⌝ }
+    ensures { result ≡ sizesLine text.now }
 {
     match numbers(text, 1, 3) {
         Three::Wrong(f) => wrong(f),
@@ -46,7 +39,7 @@ fn sizes_line(text: &[u8]) -> Line
 
 // Without a fourth number the table stays as it is.
 fn cut_line(text: &[u8], memory: usize, reel: usize, journal: usize) -> Line
-    ensures { λ r. ⌜ r ≡ cutLine (now (text .entry)) memory reel journal ⌝ }
+    ensures { result ≡ cutLine text.now memory reel journal }
 {
     if !has_word(text, 4) {
         let s = Sizes {
@@ -72,7 +65,7 @@ fn cut_line(text: &[u8], memory: usize, reel: usize, journal: usize) -> Line
 }
 
 fn lens_line(text: &[u8]) -> Line
-    ensures { λ r. ⌜ r ≡ lensLine (now (text .entry)) ⌝ }
+    ensures { result ≡ lensLine text.now }
 {
     if find_word(b"off", text, 1) == 0 {
         return arranges(Arrange::Uncut);
@@ -84,7 +77,7 @@ fn lens_line(text: &[u8]) -> Line
 }
 
 fn field_in(text: &[u8]) -> usize
-    ensures { λ r. ⌜ r ≡ fieldOf (now (text .entry)) ⌝ }
+    ensures { result ≡ field_of text.now }
 {
     find_word(
         b"pos end ptr class rmr nxm nba ssr online lock vck unit_owns attn eai ess enb msgaddr msglen release_ie used objects memlen reelblocks jrnllen",
@@ -95,13 +88,13 @@ fn field_in(text: &[u8]) -> usize
 
 // Is v more than field k of the state can hold? The message buffer's address and length have 32 bits.
 fn too_wide(k: usize, v: usize) -> bool
-    ensures { λ r. ⌜ r ≡ tooWide k v ⌝ }
+    ensures { result ≡ tooWide k v }
 {
     ((k == 16) | (k == 17)) & (4294967295 < v)
 }
 
 fn set_to(k: usize, v: usize) -> Line
-    ensures { λ r. ⌜ r ≡ setTo k v ⌝ }
+    ensures { result ≡ set_to k v }
 {
     if 23 < k {
         return wrong(Fault::UnknownWord);
@@ -113,7 +106,7 @@ fn set_to(k: usize, v: usize) -> Line
 }
 
 fn set_line(text: &[u8]) -> Line
-    ensures { λ r. ⌜ r ≡ setLine (now (text .entry)) ⌝ }
+    ensures { result ≡ setLine text.now }
 {
     match argument(text, 2) {
         Value::Wrong(f) => wrong(f),
@@ -123,7 +116,7 @@ fn set_line(text: &[u8]) -> Line
 
 // Lines 0 to 3 of the list of words.
 pub fn arrange_line(text: &[u8], k: usize) -> Line
-    ensures { λ r. ⌜ r ≡ arranging (now (text .entry)) k ⌝ }
+    ensures { result ≡ arranging text.now k }
 {
     match k {
         0 => arranges(Arrange::Case),

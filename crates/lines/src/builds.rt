@@ -1,20 +1,14 @@
 // Lines that put bytes into memory or reel with no call.
-use crate::Build;
-use crate::Given;
-use crate::Line;
-use crate::makes::builds;
-use crate::makes::wrong;
+ghost use Rattle.std.specs.Prelude.{◌≡◌};
+ghost use Rattle.lines.specs.Building.{laying, madeLine, pokeLine, poking, recordLine, sumLine, word_line};
+
+use crate::makes::{builds, wrong};
 use crate::texts::has_word;
-use script::Fault;
-use script::Three;
-use script::Value;
-use script::argument;
-use script::numbers;
-ghost use mathlib.Core.Path.{_≡_};
-ghost use Rattle·lines·specs.specs.Building.{laying, madeLine, pokeLine, poking, recordLine, sumLine, wordLine};
+use crate::{Build, Given, Line};
+use script::{Fault, Three, Value, argument, numbers};
 
 fn poke_line(text: &[u8], reel: bool) -> Line
-    ensures { λ r. ⌜ r ≡ pokeLine (now (text .entry)) reel ⌝ }
+    ensures { result ≡ pokeLine text.now reel }
 {
     match argument(text, 1) {
         Value::Wrong(f) => wrong(f),
@@ -28,7 +22,7 @@ fn poke_line(text: &[u8], reel: bool) -> Line
 }
 
 fn word_line(text: &[u8]) -> Line
-    ensures { λ r. ⌜ r ≡ wordLine (now (text .entry)) ⌝ }
+    ensures { result ≡ word_line text.now }
 {
     match numbers(text, 1, 2) {
         Three::Wrong(f) => wrong(f),
@@ -37,7 +31,7 @@ fn word_line(text: &[u8]) -> Line
 }
 
 fn sum_line(text: &[u8]) -> Line
-    ensures { λ r. ⌜ r ≡ sumLine (now (text .entry)) ⌝ }
+    ensures { result ≡ sumLine text.now }
 {
     match argument(text, 1) {
         Value::Wrong(f) => wrong(f),
@@ -47,7 +41,7 @@ fn sum_line(text: &[u8]) -> Line
 
 // Lines 4 to 7.
 pub fn poke_lines(text: &[u8], k: usize) -> Line
-    ensures { λ r. ⌜ r ≡ poking (now (text .entry)) k ⌝ }
+    ensures { result ≡ poking text.now k }
 {
     match k {
         4 => poke_line(text, false),
@@ -58,7 +52,7 @@ pub fn poke_lines(text: &[u8], k: usize) -> Line
 }
 
 fn record_line(text: &[u8]) -> Line
-    ensures { λ r. ⌜ r ≡ recordLine (now (text .entry)) ⌝ }
+    ensures { result ≡ recordLine text.now }
 {
     if has_word(text, 1) {
         return builds(Build::Record, Given::Word(1));
@@ -67,7 +61,7 @@ fn record_line(text: &[u8]) -> Line
 }
 
 fn made_line(text: &[u8]) -> Line
-    ensures { λ r. ⌜ r ≡ madeLine (now (text .entry)) ⌝ }
+    ensures { result ≡ madeLine text.now }
 {
     match numbers(text, 1, 2) {
         Three::Wrong(f) => wrong(f),
@@ -77,7 +71,7 @@ fn made_line(text: &[u8]) -> Line
 
 // Lines 8 to 11.
 pub fn lay_line(text: &[u8], k: usize) -> Line
-    ensures { λ r. ⌜ r ≡ laying (now (text .entry)) k ⌝ }
+    ensures { result ≡ laying text.now k }
 {
     match k {
         8 => record_line(text),

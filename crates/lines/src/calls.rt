@@ -1,23 +1,14 @@
 // Call lines.
-use crate::Ask;
-use crate::Call;
-use crate::Given;
-use crate::Line;
-use crate::makes::asks;
-use crate::makes::calls;
-use crate::makes::wrong;
-use script::Fault;
-use script::Three;
-use script::Value;
-use script::argument;
-use script::find_word;
-use script::numbers;
+ghost use Rattle.std.specs.Prelude.{◌≡◌};
+ghost use Rattle.lines.specs.Calling.{calling, end_of, hostLine, hostnLine, mountLine, opLine, regLine, tsdbLine, tsdbTo, tssrLine};
+
+use crate::makes::{asks, calls, wrong};
+use crate::{Ask, Call, Given, Line};
+use script::{Fault, Three, Value, argument, find_word, numbers};
 use state::Act;
-ghost use mathlib.Core.Path.{_≡_};
-ghost use Rattle·lines·specs.specs.Calling.{calling, endOf, hostLine, hostnLine, mountLine, opLine, regLine, tsdbLine, tsdbTo, tssrLine};
 
 fn end_in(text: &[u8], cursor: usize) -> Value
-    ensures { λ r. ⌜ r ≡ endOf (now (text .entry)) cursor ⌝ }
+    ensures { result ≡ end_of text.now cursor }
 {
     if find_word(b"cursor", text, 1) == 0 {
         return Value::Is(cursor);
@@ -26,7 +17,7 @@ fn end_in(text: &[u8], cursor: usize) -> Value
 }
 
 fn mount_line(text: &[u8], cursor: usize) -> Line
-    ensures { λ r. ⌜ r ≡ mountLine (now (text .entry)) cursor ⌝ }
+    ensures { result ≡ mountLine text.now cursor }
 {
     match end_in(text, cursor) {
         Value::Wrong(f) => wrong(f),
@@ -40,7 +31,7 @@ fn mount_line(text: &[u8], cursor: usize) -> Line
 }
 
 fn tsdb_to(w: usize) -> Line
-    ensures { λ r. ⌜ r ≡ tsdbTo w ⌝ }
+    ensures { result ≡ tsdbTo w }
 {
     if 65535 < w {
         return wrong(Fault::NumberTooLarge);
@@ -49,7 +40,7 @@ fn tsdb_to(w: usize) -> Line
 }
 
 fn tsdb_line(text: &[u8]) -> Line
-    ensures { λ r. ⌜ r ≡ tsdbLine (now (text .entry)) ⌝ }
+    ensures { result ≡ tsdbLine text.now }
 {
     match argument(text, 1) {
         Value::Wrong(f) => wrong(f),
@@ -58,7 +49,7 @@ fn tsdb_line(text: &[u8]) -> Line
 }
 
 fn tssr_line(text: &[u8]) -> Line
-    ensures { λ r. ⌜ r ≡ tssrLine (now (text .entry)) ⌝ }
+    ensures { result ≡ tssrLine text.now }
 {
     match argument(text, 1) {
         Value::Wrong(f) => wrong(f),
@@ -67,7 +58,7 @@ fn tssr_line(text: &[u8]) -> Line
 }
 
 fn reg_line(text: &[u8]) -> Line
-    ensures { λ r. ⌜ r ≡ regLine (now (text .entry)) ⌝ }
+    ensures { result ≡ regLine text.now }
 {
     match find_word(b"tsba tssr", text, 1) {
         0 => calls(Call::ReadTsba, Given::Nothing),
@@ -77,7 +68,7 @@ fn reg_line(text: &[u8]) -> Line
 }
 
 fn op_line(text: &[u8]) -> Line
-    ensures { λ r. ⌜ r ≡ opLine (now (text .entry)) ⌝ }
+    ensures { result ≡ opLine text.now }
 {
     match find_word(b"on off lock unlock", text, 1) {
         0 => asks(Ask::Operate(Act::OnLine), Given::Nothing),
@@ -89,7 +80,7 @@ fn op_line(text: &[u8]) -> Line
 }
 
 fn host_line(text: &[u8]) -> Line
-    ensures { λ r. ⌜ r ≡ hostLine (now (text .entry)) ⌝ }
+    ensures { result ≡ hostLine text.now }
 {
     match argument(text, 1) {
         Value::Wrong(f) => wrong(f),
@@ -98,7 +89,7 @@ fn host_line(text: &[u8]) -> Line
 }
 
 fn hostn_line(text: &[u8]) -> Line
-    ensures { λ r. ⌜ r ≡ hostnLine (now (text .entry)) ⌝ }
+    ensures { result ≡ hostnLine text.now }
 {
     match numbers(text, 1, 3) {
         Three::Wrong(f) => wrong(f),
@@ -108,7 +99,7 @@ fn hostn_line(text: &[u8]) -> Line
 
 // Lines 12 to 20.
 pub fn call_line(text: &[u8], k: usize, cursor: usize) -> Line
-    ensures { λ r. ⌜ r ≡ calling (now (text .entry)) k cursor ⌝ }
+    ensures { result ≡ calling text.now k cursor }
 {
     match k {
         12 => mount_line(text, cursor),

@@ -1,20 +1,16 @@
 // The bytes that a line gives.
+ghost use Rattle.std.specs.Prelude.{◌≡◌, length};
+ghost use Rattle.script.specs.Fills.{hexAnswer, hexFilled};
+ghost use Rattle.script.specs.Words.{wordFrom};
+ghost use Rattle.lines.specs.Gives.{givenAnswer, givenFilled, madeAnswer, madeFilled};
+
 use crate::Given;
-use script::Fault;
-use script::Value;
-use script::generate;
-use script::hex_bytes;
-use script::nth;
-ghost use mathlib.Core.Path.{_≡_};
-ghost use lib.ListN.{length};
-ghost use Rattle·script.specs.Fills.{hexAnswer, hexFilled};
-ghost use Rattle·script.specs.Words.{wordFrom};
-ghost use Rattle·lines·specs.specs.Gives.{givenAnswer, givenFilled, madeAnswer, madeFilled};
+use script::{Fault, Value, generate, hex_bytes, nth};
 
 // The bytes that word k gives go into data; how many.
 fn bytes_in(text: &[u8], k: usize, data: &mut [u8]) -> Value
-    ensures answer { λ r. ⌜ r ≡ hexAnswer (wordFrom (now (text .entry)) k) (length (now («data» .entry))) ⌝ }
-    ensures filled { λ _. ⌜ now («data» .exit) ≡ hexFilled (wordFrom (now (text .entry)) k) (now («data» .entry)) ⌝ }
+    ensures answer { result ≡ hexAnswer (wordFrom text.now k) (length «data».old) }
+    ensures filled { «data».new ≡ hexFilled (wordFrom text.now k) «data».old }
 {
     let s = nth(text, k);
     let start = s.start;
@@ -24,8 +20,8 @@ fn bytes_in(text: &[u8], k: usize, data: &mut [u8]) -> Value
 
 // The first n bytes of data made from a seed.
 fn bytes_made(n: usize, seed: usize, data: &mut [u8]) -> Value
-    ensures answer { λ r. ⌜ r ≡ madeAnswer n (length (now («data» .entry))) ⌝ }
-    ensures filled { λ _. ⌜ now («data» .exit) ≡ madeFilled n seed (now («data» .entry)) ⌝ }
+    ensures answer { result ≡ madeAnswer n (length «data».old) }
+    ensures filled { «data».new ≡ madeFilled n seed «data».old }
 {
     if data.len() < n {
         return Value::Wrong(Fault::BeyondBuffers);
@@ -36,8 +32,8 @@ fn bytes_made(n: usize, seed: usize, data: &mut [u8]) -> Value
 
 // The bytes that a line gives go into data; how many.
 pub fn fill(g: Given, text: &[u8], data: &mut [u8]) -> Value
-    ensures answer { λ r. ⌜ r ≡ givenAnswer g (now (text .entry)) (length (now («data» .entry))) ⌝ }
-    ensures filled { λ _. ⌜ now («data» .exit) ≡ givenFilled g (now (text .entry)) (now («data» .entry)) ⌝ }
+    ensures answer { result ≡ givenAnswer g text.now (length «data».old) }
+    ensures filled { «data».new ≡ givenFilled g text.now «data».old }
 {
     match g {
         Given::Nothing => Value::Is(0),

@@ -17,6 +17,7 @@ use state::Act;
 pub use texts::line_of;
 
 // In bytes.
+#[derive(Drop)]
 pub struct Sizes {
     pub memory: usize,
     pub reel: usize,
@@ -25,6 +26,7 @@ pub struct Sizes {
 }
 
 // Lines that set the desk up.
+#[derive(Drop)]
 pub enum Arrange {
     Case,
     Sizes(Sizes),
@@ -40,6 +42,7 @@ pub enum Arrange {
 }
 
 // Lines that put bytes into memory or reel with no call: at a place, in a block, or at the cursor.
+#[derive(Drop)]
 pub enum Build {
     Poke(usize),
     PokeWord(usize, usize),
@@ -51,12 +54,14 @@ pub enum Build {
 }
 
 // Lines about the table with no call: its length, or bytes at a place.
+#[derive(Drop)]
 pub enum Table {
     Index(usize),
     Poke(usize),
 }
 
 // A step that is asked for.
+#[derive(Drop)]
 pub enum Ask {
     WriteTsdb(u16),
     WriteTssr,
@@ -66,6 +71,7 @@ pub enum Ask {
     Advance,
 }
 
+#[derive(Drop)]
 pub enum Call {
     // The recorded end; whether on line; whether locked.
     Mount(usize, bool, bool),
@@ -75,6 +81,7 @@ pub enum Call {
     StepBack,
 }
 
+#[derive(Drop)]
 pub enum Does {
     Nothing,
     Arranges(Arrange),
@@ -85,6 +92,7 @@ pub enum Does {
 }
 
 // The bytes that a line gives: none, those of a word, or so many made from a seed.
+#[derive(Drop)]
 pub enum Given {
     Nothing,
     Word(usize),
@@ -92,6 +100,7 @@ pub enum Given {
 }
 
 // The unit that a line is for, and where the line proper starts in its text.
+#[derive(Drop)]
 pub struct Prefix {
     pub unit: usize,
     pub from: usize,
@@ -99,6 +108,7 @@ pub struct Prefix {
     pub fits: bool,
 }
 
+#[derive(Drop)]
 pub struct Line {
     pub does: Does,
     pub given: Given,

@@ -1,32 +1,30 @@
 // The unit that a line is for: `u` and one digit before the line proper.
+ghost use Rattle.std.specs.Prelude.{◌≡◌, ◌≤◌, length};
+ghost use Rattle.script.specs.Words.{wordEnd, wordStart};
+ghost use Rattle.lines.specs.Prefixes.{prefix_of, takesUnit, unitIn};
+
 use crate::Prefix;
 use crate::texts::has_word;
-use script::find_word;
-use script::nth;
-ghost use mathlib.Core.Path.{_≡_};
-ghost use Prim.Native.Nat.{_≤_};
-ghost use lib.ListN.{length};
-ghost use Rattle·script.specs.Words.{wordEnd, wordStart};
-ghost use Rattle·lines·specs.specs.Prefixes.{prefixOf, takesUnit, unitIn};
+use script::{find_word, nth};
 
 // The unit that word 0 names; more than 9 where it names none.
 fn unit_in(text: &[u8]) -> usize
-    ensures { λ r. ⌜ r ≡ unitIn (now (text .entry)) ⌝ }
+    ensures { result ≡ unitIn text.now }
 {
     find_word(b"u0 u1 u2 u3 u4 u5 u6 u7 u8 u9", text, 0)
 }
 
 // Whether the line proper may have a prefix.
 fn takes_unit(text: &[u8]) -> bool
-    ensures { λ r. ⌜ r ≡ takesUnit (now (text .entry)) ⌝ }
+    ensures { result ≡ takesUnit text.now }
 {
     has_word(text, 0) & (5 < find_word(b"case sizes poke word rules units", text, 0))
 }
 
 // A line with no prefix is unit 0's.
 pub fn prefix_of(text: &[u8]) -> Prefix
-    ensures is { λ r. ⌜ r ≡ prefixOf (now (text .entry)) ⌝ }
-    ensures within { λ r. ⌜ r .from ≤ length (now (text .entry)) ⌝ }
+    ensures is { result ≡ prefix_of text.now }
+    ensures within { result.from ≤ length text.now }
 {
     let unit = unit_in(text);
     if 9 < unit {

@@ -1,17 +1,14 @@
 // Lines about the row of units.
-use crate::Arrange;
-use crate::Line;
+ghost use Rattle.std.specs.Prelude.{◌≡◌};
+ghost use Rattle.lines.specs.Rowing.{rowing, unitsTo};
+
 use crate::arranges::reel_bytes;
-use crate::makes::arranges;
-use crate::makes::wrong;
-use script::Fault;
-use script::Value;
-use script::argument;
-ghost use mathlib.Core.Path.{_≡_};
-ghost use Rattle·lines·specs.specs.Rowing.{rowing, unitsTo};
+use crate::makes::{arranges, wrong};
+use crate::{Arrange, Line};
+use script::{Fault, Value, argument};
 
 fn units_to(n: usize) -> Line
-    ensures { λ r. ⌜ r ≡ unitsTo n ⌝ }
+    ensures { result ≡ unitsTo n }
 {
     if 9 < n {
         return wrong(Fault::NumberTooLarge);
@@ -21,7 +18,7 @@ fn units_to(n: usize) -> Line
 
 // Lines 24 and 25: both have one number.
 pub fn row_line(text: &[u8], k: usize) -> Line
-    ensures { λ r. ⌜ r ≡ rowing (now (text .entry)) k ⌝ }
+    ensures { result ≡ rowing text.now k }
 {
     match argument(text, 1) {
         Value::Wrong(f) => wrong(f),

@@ -1,20 +1,17 @@
 // The requests that a script expects: they have to be those of this program.
-use crate::Does;
-use crate::Line;
-use crate::makes::plain;
-use crate::makes::wrong;
+ghost use Rattle.std.specs.Prelude.{◌≡◌};
+ghost use Rattle.lines.specs.Rules.{heldBy, named, requests, rulesLine, same_rules, says, unseen, within};
+
+use crate::makes::{plain, wrong};
 use crate::texts::has_word;
-use script::Fault;
-use script::Value;
-use script::argument;
-ghost use mathlib.Core.Path.{_≡_};
-ghost use Rattle·lines·specs.specs.Rules.{heldBy, named, requests, rulesLine, sameRules, says, unseen, within};
+use crate::{Does, Line};
+use script::{Fault, Value, argument};
 
 // As many as document 02 has: a line names no more.
 const REQUESTS: usize = 14;
 
 fn is_number(v: Value, n: usize) -> bool
-    ensures { λ r. ⌜ r ≡ says v n ⌝ }
+    ensures { result ≡ says v n }
 {
     match v {
         Value::Is(m) => m == n,
@@ -23,7 +20,7 @@ fn is_number(v: Value, n: usize) -> bool
 }
 
 fn names(text: &[u8], n: usize) -> bool
-    ensures { λ r. ⌜ r ≡ named (now (text .entry)) n requests ⌝ }
+    ensures { result ≡ named text.now n requests }
 {
     let mut k: usize = REQUESTS;
     while 0 < k {
@@ -37,13 +34,13 @@ fn names(text: &[u8], n: usize) -> bool
 
 // Requests that change no line of a script.
 fn is_unseen(n: usize) -> bool
-    ensures { λ r. ⌜ r ≡ unseen n ⌝ }
+    ensures { result ≡ unseen n }
 {
     (n == 1) | (n == 3) | (n == 12) | (n == 13)
 }
 
 fn is_held(text: &[u8], v: Value) -> bool
-    ensures { λ r. ⌜ r ≡ heldBy (now (text .entry)) v ⌝ }
+    ensures { result ≡ heldBy text.now v }
 {
     match v {
         Value::Is(n) => is_unseen(n) | names(text, n),
@@ -53,7 +50,7 @@ fn is_held(text: &[u8], v: Value) -> bool
 
 // Are all that line a names held by line b?
 fn are_within(a: &[u8], b: &[u8]) -> bool
-    ensures { λ r. ⌜ r ≡ within (now (a .entry)) (now (b .entry)) requests ⌝ }
+    ensures { result ≡ within a.now b.now requests }
 {
     let mut k: usize = REQUESTS;
     while 0 < k {
@@ -66,13 +63,13 @@ fn are_within(a: &[u8], b: &[u8]) -> bool
 }
 
 fn are_same(a: &[u8], b: &[u8]) -> bool
-    ensures { λ r. ⌜ r ≡ sameRules (now (a .entry)) (now (b .entry)) ⌝ }
+    ensures { result ≡ same_rules a.now b.now }
 {
     are_within(a, b) & are_within(b, a)
 }
 
 pub fn rules_line(text: &[u8]) -> Line
-    ensures { λ r. ⌜ r ≡ rulesLine (now (text .entry)) ⌝ }
+    ensures { result ≡ rulesLine text.now }
 {
     if are_same(text, b"rules 2 4 7 8 9") {
         return plain(Does::Nothing);

@@ -1,17 +1,14 @@
 // Lines about the table beside the reel, with no call.
-use crate::Given;
-use crate::Line;
-use crate::Table;
-use crate::makes::tables;
-use crate::makes::wrong;
-use script::Value;
-use script::argument;
-ghost use mathlib.Core.Path.{_≡_};
-ghost use Rattle·lines·specs.specs.Tabling.{tabling};
+ghost use Rattle.std.specs.Prelude.{◌≡◌};
+ghost use Rattle.lines.specs.Tabling.{tabling};
+
+use crate::makes::{tables, wrong};
+use crate::{Given, Line, Table};
+use script::{Value, argument};
 
 // Lines 22 and 23: both begin with a number.
 pub fn table_line(text: &[u8], k: usize) -> Line
-    ensures { λ r. ⌜ r ≡ tabling (now (text .entry)) k ⌝ }
+    ensures { result ≡ tabling text.now k }
 {
     match argument(text, 1) {
         Value::Wrong(f) => wrong(f),

@@ -1,26 +1,21 @@
 // A line by its words.
-use crate::Does;
-use crate::Line;
+ghost use Rattle.std.specs.Prelude.{◌≡◌, ◌<◌};
+ghost use Rattle.lines.specs.Lines.{lineBy, lineFrom, line_of};
+ghost use Rattle.lines.specs.Starts.{hasWord, mostWords, start_of};
+
 use crate::arranges::arrange_line;
-use crate::builds::lay_line;
-use crate::builds::poke_lines;
+use crate::builds::{lay_line, poke_lines};
 use crate::calls::call_line;
-use crate::makes::plain;
-use crate::makes::wrong;
+use crate::makes::{plain, wrong};
 use crate::rows::row_line;
 use crate::rules::rules_line;
 use crate::tables::table_line;
-use script::Fault;
-use script::find_word;
-use script::nth;
-ghost use mathlib.Core.Path.{_≡_};
-ghost use Prim.Native.Nat.{_<_};
-ghost use Rattle·lines·specs.specs.Lines.{lineBy, lineFrom, lineOf};
-ghost use Rattle·lines·specs.specs.Starts.{hasWord, mostWords, startOf};
+use crate::{Does, Line};
+use script::{Fault, find_word, nth};
 
 // The words that a line may start with, in the order of the tables here.
 fn first_word(text: &[u8]) -> usize
-    ensures { λ r. ⌜ r ≡ startOf (now (text .entry)) ⌝ }
+    ensures { result ≡ start_of text.now }
 {
     find_word(
         b"case sizes lens set poke word pokereel fixsum R RN M G mount tsdb tssr reg op host hostn adv back rules index poketable units reel",
@@ -31,8 +26,8 @@ fn first_word(text: &[u8]) -> usize
 
 // How many words a line may have that starts with word k of them.
 fn most_words(k: usize) -> usize
-    requires { ⌜ k < 26 ⌝ }
-    ensures { λ r. ⌜ r ≡ mostWords k ⌝ }
+    requires { k < 26 }
+    ensures { result ≡ mostWords k }
 {
     let most: [usize; 26] = [
         4096, // case
@@ -66,7 +61,7 @@ fn most_words(k: usize) -> usize
 }
 
 pub fn has_word(text: &[u8], k: usize) -> bool
-    ensures { λ r. ⌜ r ≡ hasWord (now (text .entry)) k ⌝ }
+    ensures { result ≡ hasWord text.now k }
 {
     let s = nth(text, k);
     s.start < s.end
@@ -74,7 +69,7 @@ pub fn has_word(text: &[u8], k: usize) -> bool
 
 // The line whose first word is number k of the list.
 fn line_by(text: &[u8], k: usize, cursor: usize) -> Line
-    ensures { λ r. ⌜ r ≡ lineBy (now (text .entry)) k cursor ⌝ }
+    ensures { result ≡ lineBy text.now k cursor }
 {
     if k < 4 {
         return arrange_line(text, k);
@@ -99,7 +94,7 @@ fn line_by(text: &[u8], k: usize, cursor: usize) -> Line
 
 // A line that starts with word k of the list, or with none of them.
 fn line_from(text: &[u8], k: usize, cursor: usize) -> Line
-    ensures { λ r. ⌜ r ≡ lineFrom (now (text .entry)) k cursor ⌝ }
+    ensures { result ≡ lineFrom text.now k cursor }
 {
     if 25 < k {
         return wrong(Fault::UnknownWord);
@@ -112,7 +107,7 @@ fn line_from(text: &[u8], k: usize, cursor: usize) -> Line
 
 // A line with no comment, while the cursor is at that block.
 pub fn line_of(text: &[u8], cursor: usize) -> Line
-    ensures { λ r. ⌜ r ≡ lineOf (now (text .entry)) cursor ⌝ }
+    ensures { result ≡ line_of text.now cursor }
 {
     if has_word(text, 0) {
         return line_from(text, first_word(text), cursor);

@@ -1,11 +1,9 @@
 -- "Letter, first block, record length; E gives the recorded end ..; a gap prints G and its block." (01, The listing)
-use mathlib.Core.List.{List, [], _∷_, _++_}
-use Prim.Native.Nat.{ℕ, _+_}
-use lib.ListN.{length}
-use Rattle·tape.specs.Letters.{letterOf}
-use Rattle·tape.specs.declared.BlockFault.{BlockFault}
-use Rattle·tape.specs.Objects.{Object, blocksIn, gap, mark, record-of}
-use Rattle·script.specs.Spelling.{spelling}
+use Rattle.std.specs.Prelude.{List, [], ◌∷◌, ◌++◌, ℕ, ◌+◌, length}
+use Rattle.tape.specs.Letters.{letterOf}
+use Rattle.tape.specs.declared.BlockFault.{BlockFault}
+use Rattle.tape.specs.Objects.{Object, blocksIn, gap, mark, record_of}
+use Rattle.script.specs.Spelling.{spelling}
 
 -- in the fewest digits
 abbrev pub decimal : ℕ → List ℕ
@@ -39,12 +37,12 @@ unfoldable pub badLine : BlockFault → ℕ → List ℕ
 badLine why k = letterX ∷ 32 ∷ (decimal k ++ (32 ∷ letterOf why ∷ 10 ∷ []))
 
 -- the line of the object whose first block is p
-unfoldable pub lineOf : ℕ → Object → List ℕ
-lineOf p (record-of d) = recordLine p (length d)
-lineOf p mark = numberLine letterM p
-lineOf p gap = numberLine letterG p
+unfoldable pub line_of : ℕ → Object → List ℕ
+line_of p (record_of d) = recordLine p (length d)
+line_of p mark = numberLine letterM p
+line_of p gap = numberLine letterG p
 
 -- the lines of objects in a row, the first of them at block p
-unfoldable pub linesOf : ℕ → List Object → List ℕ
-linesOf p [] = []
-linesOf p (o ∷ os) = lineOf p o ++ linesOf (p + blocksIn o) os
+unfoldable pub lines_of : ℕ → List Object → List ℕ
+lines_of p [] = []
+lines_of p (o ∷ os) = line_of p o ++ lines_of (p + blocksIn o) os

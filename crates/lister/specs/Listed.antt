@@ -1,27 +1,23 @@
 -- "Instead: `L` too long, `S` not whole blocks, `X k` bad block k, in that order." (01, The listing) "The listing's X line gets a second field: K, N,
 -- I, P or C." (02, [4])
-use mathlib.Core.Bool.{false}
-use mathlib.Core.Path.{_≡_}
-use mathlib.Core.List.{List, [], _∷_, _++_}
-use Prim.Native.Nat.{ℕ, suc, _*_, _<_, _≤_, _%_}
-use lib.ListN.{length}
-use Rattle·tape.specs.Listing.{examined, imageLimit}
-use Rattle·tape.specs.Numbers.{blockBytes}
-use Rattle·tape.specs.Objects.{Holds, Object}
-use Rattle·tape.specs.Pass.{passed}
-use Rattle·tape.specs.Wrong.{WrongAt}
-use Rattle·tape.specs.declared.BlockFault.{BlockFault}
-use Rattle·tape.specs.declared.Image.{Image}
-use Rattle·tape.specs.declared.Image.the-variants as image
-use Rattle·tape.specs.declared.Met.{Met}
-use Rattle·tape.specs.declared.Met.the-variants as met
-use Rattle·lister·specs.specs.Lines.{badLine, letterE, letterG, letterM, linesOf, numberLine, recordLine}
+use Rattle.std.specs.Prelude.{false, ◌≡◌, List, [], ◌∷◌, ◌++◌, ℕ, suc, ◌*◌, ◌<◌, ◌≤◌, ◌%◌, length}
+use Rattle.tape.specs.Listing.{examined, imageLimit}
+use Rattle.tape.specs.Numbers.{blockBytes}
+use Rattle.tape.specs.Objects.{Holds, Object}
+use Rattle.tape.specs.Pass.{passed}
+use Rattle.tape.specs.Wrong.{WrongAt}
+use Rattle.tape.specs.declared.BlockFault.{BlockFault}
+use Rattle.tape.specs.declared.Image.{Image}
+use Rattle.tape.specs.declared.Image.TheVariants as image
+use Rattle.tape.specs.declared.Met.{Met}
+use Rattle.tape.specs.declared.Met.TheVariants as met
+use Rattle.lister.specs.Lines.{badLine, letterE, letterG, letterM, lines_of, numberLine, recordLine}
 
 -- what the listing of an image is, by the objects that it holds
 pub data Listing (s : List ℕ) : List ℕ → Type 0 where
   -- a line for each object; "E gives the recorded end (the image's block count, 0 if empty)"
-  objects : (os : List Object) (e : ℕ) → length s ≤ imageLimit → blockBytes * e ≡ length s → Holds s e os → Listing s (linesOf 0 os ++ numberLine letterE e)
-  too-long : imageLimit < length s → Listing s (76 ∷ 10 ∷ [])
+  objects : (os : List Object) (e : ℕ) → length s ≤ imageLimit → blockBytes * e ≡ length s → Holds s e os → Listing s (lines_of 0 os ++ numberLine letterE e)
+  too_long : imageLimit < length s → Listing s (76 ∷ 10 ∷ [])
   not-whole : length s ≤ imageLimit → (length s % blockBytes ≡ 0 → ⊥) → Listing s (83 ∷ 10 ∷ [])
   -- the first block at fault, which a mount would name, and what is wrong with it
   bad : (why : BlockFault) (k : ℕ) → WrongAt s k why → examined s ≡ image.Bad why k → Listing s (badLine why k)
@@ -43,13 +39,13 @@ metNext e met.Nothing = e
 metNext e (met.Bad why k) = e
 
 -- the lines of at most `turns` objects, met from block p on
-unfoldable pub linesFrom : ℕ → List ℕ → ℕ → ℕ → List ℕ
-linesFrom ℕ.zero s p e = []
-linesFrom (suc turns) s p e = metLine p (passed s false p e) ++ linesFrom turns s (metNext e (passed s false p e)) e
+unfoldable pub lines_from : ℕ → List ℕ → ℕ → ℕ → List ℕ
+lines_from ℕ.zero s p e = []
+lines_from (suc turns) s p e = metLine p (passed s false p e) ++ lines_from turns s (metNext e (passed s false p e)) e
 
 -- each object takes a block or more, so e objects are all (law `listed-is`)
 unfoldable pub listedAs : List ℕ → Image → List ℕ
-listedAs s (image.Whole e) = linesFrom e s 0 e ++ numberLine letterE e
+listedAs s (image.Whole e) = lines_from e s 0 e ++ numberLine letterE e
 listedAs s (image.Bad why k) = badLine why k
 listedAs s image.TooLong = 76 ∷ 10 ∷ []
 listedAs s image.NotWhole = 83 ∷ 10 ∷ []

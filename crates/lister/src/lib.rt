@@ -1,13 +1,13 @@
 // The listing of a reel image. What it prints is made in a lent buffer, and proved there; a thin write goes on top.
 mod prints;
 
+ghost use Rattle.std.specs.Prelude.{◌≡◌, length};
+ghost use Rattle.lister.specs.Listed.{listingLimit};
+
 use libc::STDOUT_FILENO;
 use prints::LISTING_LIMIT;
 pub use prints::lines;
 use tape::Geometry;
-ghost use mathlib.Core.Path.{_≡_};
-ghost use lib.ListN.{length};
-ghost use Rattle·lister·specs.specs.Listed.{listingLimit};
 
 // One byte more than the longest image, so that a longer one is seen.
 fn space() -> [u8; Geometry::IMAGE_LIMIT + 1] {
@@ -15,7 +15,7 @@ fn space() -> [u8; Geometry::IMAGE_LIMIT + 1] {
 }
 
 fn lines_space() -> [u8; LISTING_LIMIT]
-    ensures { λ r. ⌜ listingLimit ≡ length r ⌝ }
+    ensures { listingLimit ≡ length result }
 {
     [0u8; LISTING_LIMIT]
 }

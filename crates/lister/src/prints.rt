@@ -1,24 +1,19 @@
 // The listing's lines, made in a lent buffer. Which they are is decided by `reel::examine` and `reel::pass`; here they only get their letters.
-use script::put_byte;
-use script::put_bytes;
-use script::put_labelled;
-use tape::BlockFault;
-use tape::Image;
-use tape::Met;
-ghost use mathlib.Core.Path.{_≡_};
-ghost use mathlib.Core.List.{[], _∷_, _++_};
-ghost use lib.ListN.{length};
-ghost use lib.Seq.{sets};
-ghost use Rattle·script.specs.Prints.{Put};
-ghost use Rattle·lister·specs.specs.Lines.{badLine, decimal, recordLine};
-ghost use Rattle·lister·specs.specs.Listed.{linesFrom, listed, metLine, metNext};
+ghost use Rattle.std.specs.Prelude.{◌≡◌, [], ◌∷◌, ◌++◌, length};
+ghost use Rattle.std.proofs.lemmas.List.Edits.{sets};
+ghost use Rattle.script.specs.Prints.{Put};
+ghost use Rattle.lister.specs.Lines.{badLine, decimal, recordLine};
+ghost use Rattle.lister.specs.Listed.{lines_from, listed, metLine, metNext};
+
+use script::{put_byte, put_bytes, put_labelled};
+use tape::{BlockFault, Image, Met};
 
 // More than the longest listing.
 pub const LISTING_LIMIT: usize = 18000;
 
 // A letter, a blank, a number and a line end; where the next byte goes.
 fn put_line(out: &mut [u8], at: usize, label: &[u8], k: usize) -> usize
-    ensures { λ r. ⌜ Put (now (out .entry)) at (now (label .entry) ++ (decimal k ++ (10 ∷ []))) (now (out .exit)) r ⌝ }
+    ensures { Put out.old at (label.now ++ (decimal k ++ (10 ∷ []))) out.new result }
 {
     let next = put_labelled(out, at, label, k);
     put_bytes(out, next, b"\n")
@@ -26,7 +21,7 @@ fn put_line(out: &mut [u8], at: usize, label: &[u8], k: usize) -> usize
 
 // A record: its first block and its length.
 fn put_record(out: &mut [u8], at: usize, p: usize, n: usize) -> usize
-    ensures { λ r. ⌜ Put (now (out .entry)) at (recordLine p n) (now (out .exit)) r ⌝ }
+    ensures { Put out.old at (recordLine p n) out.new result }
 {
     let next = put_labelled(out, at, b"R ", p);
     put_line(out, next, b" ", n)
@@ -34,7 +29,7 @@ fn put_record(out: &mut [u8], at: usize, p: usize, n: usize) -> usize
 
 // The line of what is met at block p.
 fn put_met(out: &mut [u8], at: usize, p: usize, m: Met) -> usize
-    ensures { λ r. ⌜ Put (now (out .entry)) at (metLine p m) (now (out .exit)) r ⌝ }
+    ensures { Put out.old at (metLine p m) out.new result }
 {
     match m {
         Met::Record(n, _) => put_record(out, at, p, n),
@@ -46,7 +41,7 @@ fn put_met(out: &mut [u8], at: usize, p: usize, m: Met) -> usize
 }
 
 fn next_of(m: Met, e: usize) -> usize
-    ensures { λ r. ⌜ r ≡ metNext e m ⌝ }
+    ensures { result ≡ metNext e m }
 {
     match m {
         Met::Record(_, q) => q,
@@ -59,7 +54,7 @@ fn next_of(m: Met, e: usize) -> usize
 
 // A line for each object of a whole image. Each takes a block or more, so e turns are enough.
 fn put_objects(out: &mut [u8], image: &[u8], e: usize) -> usize
-    ensures { λ r. ⌜ Put (now (out .entry)) 0 (linesFrom e (now (image .entry)) 0 e) (now (out .exit)) r ⌝ }
+    ensures { Put out.old 0 (lines_from e image.now 0 e) out.new result }
 {
     let mut at: usize = 0;
     let mut p: usize = 0;
@@ -75,7 +70,7 @@ fn put_objects(out: &mut [u8], image: &[u8], e: usize) -> usize
 
 // A bad block: its number, and the letter of what is wrong with it.
 fn put_bad(out: &mut [u8], fault: BlockFault, k: usize) -> usize
-    ensures { λ r. ⌜ Put (now (out .entry)) 0 (badLine fault k) (now (out .exit)) r ⌝ }
+    ensures { Put out.old 0 (badLine fault k) out.new result }
 {
     let at1 = put_labelled(out, 0, b"X ", k);
     let at2 = put_bytes(out, at1, b" ");
@@ -84,7 +79,7 @@ fn put_bad(out: &mut [u8], fault: BlockFault, k: usize) -> usize
 }
 
 fn put_listing(out: &mut [u8], image: &[u8]) -> usize
-    ensures { λ r. ⌜ Put (now (out .entry)) 0 (listed (now (image .entry))) (now (out .exit)) r ⌝ }
+    ensures { Put out.old 0 (listed image.now) out.new result }
 {
     match reel::examine(image) {
         Image::TooLong => put_bytes(out, 0, b"L\n"),
@@ -99,8 +94,8 @@ fn put_listing(out: &mut [u8], image: &[u8]) -> usize
 
 // The listing of an image, at the start of the buffer; how many bytes it has. The rest of the buffer stays.
 pub fn lines(image: &[u8], out: &mut [u8; LISTING_LIMIT]) -> usize
-    ensures stored { λ r. ⌜ now (out .exit) ≡ sets (now (out .entry)) 0 (listed (now (image .entry))) ⌝ }
-    ensures told { λ r. ⌜ r ≡ length (listed (now (image .entry))) ⌝ }
+    ensures stored { out.new ≡ sets out.old 0 (listed image.now) }
+    ensures told { result ≡ length (listed image.now) }
 {
     put_listing(out, image)
 }

@@ -1,12 +1,12 @@
 -- Lists of bytes stay lists of bytes.
 use mathlib.Core.Bool.{Bool}
-use mathlib.Core.List.{List, [], _∷_, _++_}
-use Prim.Native.Nat.{ℕ, zero, suc, _<_}
+use mathlib.Core.List.{List, [], ◌∷◌, ◌++◌}
+use Prim.Native.Nat.{ℕ, zero, suc, ◌<◌}
 use native.Mathlib.Omega.{arith}
 use lib.ListN.{set}
 use lib.Seq.{sets}
-use Rattle·lists·specs.specs.Places.{gathered, place}
-use Rattle·lists·specs.specs.Words.{Bytes}
+use Rattle.lists.specs.Places.{gathered, place}
+use Rattle.lists.specs.Words.{Bytes}
 
 pub bytes-append : (xs ys : List ℕ) → Bytes xs → Bytes ys → Bytes (xs ++ ys)
 bytes-append [] ys h k i = k i

@@ -1,7 +1,7 @@
 -- By cases on a test whose outcome each case is told.
-use mathlib.Core.Path.{_≡_, refl}
+use mathlib.Core.Path.{◌≡◌, refl}
 use mathlib.Core.Bool.{Bool, true, false}
-use Rattle·lists·specs.specs.Pick.{pick}
+use Rattle.lists.specs.Pick.{pick}
 
 pub by-test : {P : Type 0} (t : Bool) → (t ≡ true → P) → (t ≡ false → P) → P
 by-test true f g = f refl

@@ -1,21 +1,21 @@
 -- Laws of words in bytes, and of the sum of the words of a list.
-use mathlib.Core.Path.{_≡_, refl}
-use mathlib.Core.List.{List, [], _∷_, _++_}
-use Prim.Native.Nat.{ℕ, zero, suc, _+_, _*_, _/_, _%_, _≤_, _<_}
+use mathlib.Core.Path.{◌≡◌, refl}
+use mathlib.Core.List.{List, [], ◌∷◌, ◌++◌}
+use Prim.Native.Nat.{ℕ, zero, suc, ◌+◌, ◌*◌, ◌/◌, ◌%◌, ◌≤◌, ◌<◌}
 use native.Mathlib.Numerals.{add-one}
 use native.Mathlib.Omega.{arith}
-use lib.ListN.{length, take, getD, replicate}
-use Rattle·lists·specs.specs.Words.{wordAt, wordBytes, wordSum}
+use lib.ListN.{length, take, get_or, replicate}
+use Rattle.lists.specs.Words.{word_at, word_bytes, wordSum}
 
 -- a word from its bytes, and its bytes from the word
-pub word-whole : (a b : ℕ) → a < 256 → b < 256 → wordBytes (a + 256 * b) ≡ a ∷ b ∷ []
+pub word-whole : (a b : ℕ) → a < 256 → b < 256 → word_bytes (a + 256 * b) ≡ a ∷ b ∷ []
 word-whole a b h k =
     let low : (a + 256 * b) % 256 ≡ a = omega arith in
     let high : (a + 256 * b) / 256 ≡ b = omega arith in
     cc
 
-pub word-back : (w : ℕ) → w % 256 + 256 * (w / 256) ≡ w
-word-back w = omega arith
+pub word_back : (w : ℕ) → w % 256 + 256 * (w / 256) ≡ w
+word_back w = omega arith
 
 -- twice a number by recursion, since `2 * suc j` does not compute
 abbrev dbl : ℕ → ℕ
@@ -26,7 +26,7 @@ dbl-is : (j : ℕ) → dbl j ≡ 2 * j
 dbl-is zero = refl
 dbl-is (suc j) = omega (arith, dbl-is j)
 
-step : (j : ℕ) (l : List ℕ) → suc (dbl j) < length l → wordSum (take (suc (suc (dbl j))) l) ≡ wordSum (take (dbl j) l) + (getD l (dbl j) 0 + 256 * getD l (suc (dbl j)) 0)
+step : (j : ℕ) (l : List ℕ) → suc (dbl j) < length l → wordSum (take (suc (suc (dbl j))) l) ≡ wordSum (take (dbl j) l) + (get_or l (dbl j) 0 + 256 * get_or l (suc (dbl j)) 0)
 unfolding wordSum
 step j [] h = absurd (omega arith)
 step j (a ∷ []) h = absurd (omega arith)
@@ -34,8 +34,8 @@ step zero (a ∷ (b ∷ r)) h = omega arith
 step (suc j) (a ∷ (b ∷ r)) h = omega (arith, step j r (omega arith))
 
 -- the sum of one word more
-pub sum-more : (j : ℕ) (l : List ℕ) → 2 * j + 1 < length l → wordSum (take (2 * (j + 1)) l) ≡ wordSum (take (2 * j) l) + wordAt l (2 * j)
-sum-more j l h =
+pub sum_more : (j : ℕ) (l : List ℕ) → 2 * j + 1 < length l → wordSum (take (2 * (j + 1)) l) ≡ wordSum (take (2 * j) l) + word_at l (2 * j)
+sum_more j l h =
     let e : 2 * (j + 1) ≡ suc (suc (2 * j)) = omega arith in
     rw (e, add-one (2 * j), ← dbl-is j) (step j l (rw dbl-is (omega arith)))
 

@@ -1,9 +1,6 @@
 -- "Data byte i lies at address pointer + i; with SWB at that address with its lowest bit flipped." (01, Commands)
-use mathlib.Core.Bool.{Bool, true, false}
-use mathlib.Core.List.{List, [], _∷_}
-use Prim.Native.Nat.{ℕ, suc, _+_, _-_, _*_, _%_}
-use lib.ListN.{getD, set}
-use Rattle·lists·specs.specs.Pick.{pick}
+use Rattle.std.specs.Prelude.{Bool, true, false, List, [], ◌∷◌, ℕ, suc, ◌+◌, ◌-◌, ◌*◌, ◌%◌, get_or, set}
+use Rattle.lists.specs.Pick.{pick}
 
 -- the place of the data byte whose address is a: with SWB the lowest bit is flipped
 abbrev pub place : Bool → ℕ → ℕ
@@ -17,4 +14,4 @@ placed swb m a (b ∷ d) = placed swb (set m (place swb a) b) (suc a) d
 -- the n bytes that lie at the places from address a on
 unfoldable pub gathered : Bool → List ℕ → ℕ → ℕ → List ℕ
 gathered swb m a ℕ.zero = []
-gathered swb m a (suc n) = getD m (place swb a) 0 ∷ gathered swb m (suc a) n
+gathered swb m a (suc n) = get_or m (place swb a) 0 ∷ gathered swb m (suc a) n

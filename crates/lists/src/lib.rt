@@ -4,15 +4,7 @@ mod places;
 mod runs;
 mod words;
 
-pub use numbers::number_at;
-pub use numbers::put_number;
-pub use places::gather;
-pub use places::place_of;
-pub use places::scatter;
-pub use places::zero_fill;
+pub use numbers::{number_at, put_number};
+pub use places::{gather, place_of, scatter, zero_fill};
 pub use runs::copy;
-pub use words::least;
-pub use words::put_word;
-pub use words::wide;
-pub use words::word;
-pub use words::word_sum;
+pub use words::{least, put_word, wide, word, word_sum};

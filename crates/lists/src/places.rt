@@ -1,26 +1,22 @@
 // Runs of bytes between a slice and the places in memory that the paper names, and a run of zeros.
-use crate::runs::copy;
-use crate::runs::put_swapped;
-use crate::runs::run_at;
-ghost use mathlib.Core.Path.{_≡_};
-ghost use Prim.Native.Nat.{_+_, _*_, _<_, _≤_, _%_};
-ghost use mathlib.Core.Bool.{true};
-ghost use lib.ListN.{length, replicate};
-ghost use lib.Seq.{sets};
-ghost use Rattle·lists·specs.specs.Places.{gathered, place, placed};
+ghost use Rattle.std.specs.Prelude.{◌≡◌, ◌+◌, ◌*◌, ◌<◌, ◌≤◌, ◌%◌, true, length, replicate};
+ghost use Rattle.std.proofs.lemmas.List.Edits.{sets};
+ghost use Rattle.lists.specs.Places.{gathered, place, placed};
+
+use crate::runs::{copy, put_swapped, run_at};
 
 // Where the data byte of address a lies: with SWB the lowest bit is flipped.
 pub fn place_of(swb: bool, a: usize) -> usize
-    requires { ⌜ a < 18446744073709551615 ⌝ }
-    ensures { λ r. ⌜ r ≡ place swb a ⌝ }
+    requires { a < 18446744073709551615 }
+    ensures { result ≡ place swb a }
 {
     if swb { a + 1 - 2 * (a % 2) } else { a }
 }
 
 // With SWB. From an even address on, 64 bytes at a time change their places by pairs.
 fn scatter_swapped(d: &[u8], mem: &mut [u8], a: usize)
-    requires { ⌜ (a + length (now d) ≤ length (now mem)) × (length (now mem) % 2 ≡ 0) ⌝ }
-    ensures { λ _. ⌜ now (mem .exit) ≡ placed true (now (mem .entry)) a (now (d .entry)) ⌝ }
+    requires { (a + length d.now ≤ length mem.old) × (length mem.old % 2 ≡ 0) }
+    ensures { mem.new ≡ placed true mem.old a d.now }
 {
     let mut i: usize = 0;
     if (a % 2 == 1) & (0 < d.len()) {
@@ -40,8 +36,8 @@ fn scatter_swapped(d: &[u8], mem: &mut [u8], a: usize)
 
 // All of d goes to the places from address a on. An even memory holds the flipped place of each address it holds.
 pub fn scatter(d: &[u8], mem: &mut [u8], a: usize, swb: bool)
-    requires { ⌜ (a + length (now d) ≤ length (now mem)) × (length (now mem) % 2 ≡ 0) ⌝ }
-    ensures { λ _. ⌜ now (mem .exit) ≡ placed swb (now (mem .entry)) a (now (d .entry)) ⌝ }
+    requires { (a + length d.now ≤ length mem.old) × (length mem.old % 2 ≡ 0) }
+    ensures { mem.new ≡ placed swb mem.old a d.now }
 {
     if swb {
         scatter_swapped(d, mem, a);
@@ -51,8 +47,8 @@ pub fn scatter(d: &[u8], mem: &mut [u8], a: usize, swb: bool)
 }
 
 fn gather_swapped(b: &mut [u8], mem: &[u8], a: usize)
-    requires { ⌜ (a + length (now b) ≤ length (now mem)) × (length (now mem) % 2 ≡ 0) ⌝ }
-    ensures { λ _. ⌜ now (b .exit) ≡ gathered true (now (mem .entry)) a (length (now (b .entry))) ⌝ }
+    requires { (a + length b.old ≤ length mem.now) × (length mem.now % 2 ≡ 0) }
+    ensures { b.new ≡ gathered true mem.now a (length b.old) }
 {
     let n = b.len();
     let mut i: usize = 0;
@@ -73,8 +69,8 @@ fn gather_swapped(b: &mut [u8], mem: &[u8], a: usize)
 
 // The bytes at the places from address a on fill b.
 pub fn gather(b: &mut [u8], mem: &[u8], a: usize, swb: bool)
-    requires { ⌜ (a + length (now b) ≤ length (now mem)) × (length (now mem) % 2 ≡ 0) ⌝ }
-    ensures { λ _. ⌜ now (b .exit) ≡ gathered swb (now (mem .entry)) a (length (now (b .entry))) ⌝ }
+    requires { (a + length b.old ≤ length mem.now) × (length mem.now % 2 ≡ 0) }
+    ensures { b.new ≡ gathered swb mem.now a (length b.old) }
 {
     if swb {
         gather_swapped(b, mem, a);
@@ -85,7 +81,7 @@ pub fn gather(b: &mut [u8], mem: &[u8], a: usize, swb: bool)
 }
 
 pub fn zero_fill(b: &mut [u8])
-    ensures { λ _. ⌜ now (b .exit) ≡ replicate (length (now (b .entry))) 0 ⌝ }
+    ensures { b.new ≡ replicate (length b.old) 0 }
 {
     let mut i: usize = 0;
     while i < b.len() {

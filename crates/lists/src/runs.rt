@@ -1,21 +1,18 @@
 // Runs of bytes from slice to slice, many at a time: what is read whole before it is stored costs no test whether two slices meet.
-ghost use mathlib.Core.Bool.{true};
-ghost use mathlib.Core.Path.{_≡_};
-ghost use Prim.Native.Nat.{_+_, _≤_};
-ghost use lib.ListN.{length, take, drop};
-ghost use lib.Seq.{sets};
-ghost use Rattle·lists·specs.specs.Places.{gathered};
+ghost use Rattle.std.specs.Prelude.{true, ◌≡◌, ◌+◌, ◌≤◌, length, take, drop};
+ghost use Rattle.std.proofs.lemmas.List.Edits.{sets};
+ghost use Rattle.lists.specs.Places.{gathered};
 
 fn blank_run() -> [u8; 64]
-    ensures { λ r. ⌜ length r ≡ 64 ⌝ }
+    ensures { length result ≡ 64 }
 {
     [0u8; 64]
 }
 
 // The 64 bytes from `at` on: a run that is read whole before it is stored, so nothing hinges on whether two slices meet.
 pub fn run_at(b: &[u8], at: usize) -> [u8; 64]
-    requires { ⌜ at + 64 ≤ length (now b) ⌝ }
-    ensures { λ r. ⌜ r ≡ take 64 (drop at (now (b .entry))) ⌝ }
+    requires { at + 64 ≤ length b.now }
+    ensures { result ≡ take 64 (drop at b.now) }
 {
     let mut r = blank_run();
     let mut i: usize = 0;
@@ -27,8 +24,8 @@ pub fn run_at(b: &[u8], at: usize) -> [u8; 64]
 }
 
 fn put_run(b: &mut [u8], at: usize, r: [u8; 64])
-    requires { ⌜ at + 64 ≤ length (now b) ⌝ }
-    ensures { λ _. ⌜ now (b .exit) ≡ sets (now (b .entry)) at r ⌝ }
+    requires { at + 64 ≤ length b.old }
+    ensures { b.new ≡ sets b.old at r }
 {
     let mut i: usize = 0;
     while i < 64 {
@@ -39,8 +36,8 @@ fn put_run(b: &mut [u8], at: usize, r: [u8; 64])
 
 // The two bytes of each word change their places.
 pub fn put_swapped(b: &mut [u8], at: usize, r: [u8; 64])
-    requires { ⌜ at + 64 ≤ length (now b) ⌝ }
-    ensures { λ _. ⌜ now (b .exit) ≡ sets (now (b .entry)) at (gathered true r 0 64) ⌝ }
+    requires { at + 64 ≤ length b.old }
+    ensures { b.new ≡ sets b.old at (gathered true r 0 64) }
 {
     let mut i: usize = 0;
     while i < 64 {
@@ -51,14 +48,14 @@ pub fn put_swapped(b: &mut [u8], at: usize, r: [u8; 64])
 }
 
 fn blank_eight() -> [u8; 8]
-    ensures { λ r. ⌜ length r ≡ 8 ⌝ }
+    ensures { length result ≡ 8 }
 {
     [0u8; 8]
 }
 
 fn eight_at(b: &[u8], at: usize) -> [u8; 8]
-    requires { ⌜ at + 8 ≤ length (now b) ⌝ }
-    ensures { λ r. ⌜ r ≡ take 8 (drop at (now (b .entry))) ⌝ }
+    requires { at + 8 ≤ length b.now }
+    ensures { result ≡ take 8 (drop at b.now) }
 {
     let mut r = blank_eight();
     let mut i: usize = 0;
@@ -70,8 +67,8 @@ fn eight_at(b: &[u8], at: usize) -> [u8; 8]
 }
 
 fn put_eight(b: &mut [u8], at: usize, r: [u8; 8])
-    requires { ⌜ at + 8 ≤ length (now b) ⌝ }
-    ensures { λ _. ⌜ now (b .exit) ≡ sets (now (b .entry)) at r ⌝ }
+    requires { at + 8 ≤ length b.old }
+    ensures { b.new ≡ sets b.old at r }
 {
     let mut i: usize = 0;
     while i < 8 {
@@ -82,8 +79,8 @@ fn put_eight(b: &mut [u8], at: usize, r: [u8; 8])
 
 // 64 bytes at a time. The last run ends where the bytes end, over some that are there already.
 fn copy_runs(d: &[u8], from: usize, b: &mut [u8], at: usize, n: usize)
-    requires { ⌜ (64 ≤ n) × (from + n ≤ length (now d)) × (at + n ≤ length (now b)) ⌝ }
-    ensures { λ _. ⌜ now (b .exit) ≡ sets (now (b .entry)) at (take n (drop from (now (d .entry)))) ⌝ }
+    requires { (64 ≤ n) × (from + n ≤ length d.now) × (at + n ≤ length b.old) }
+    ensures { b.new ≡ sets b.old at (take n (drop from d.now)) }
 {
     let last = n - 64;
     let mut i: usize = 0;
@@ -96,8 +93,8 @@ fn copy_runs(d: &[u8], from: usize, b: &mut [u8], at: usize, n: usize)
 
 // The same, eight at a time.
 fn copy_eights(d: &[u8], from: usize, b: &mut [u8], at: usize, n: usize)
-    requires { ⌜ (8 ≤ n) × (from + n ≤ length (now d)) × (at + n ≤ length (now b)) ⌝ }
-    ensures { λ _. ⌜ now (b .exit) ≡ sets (now (b .entry)) at (take n (drop from (now (d .entry)))) ⌝ }
+    requires { (8 ≤ n) × (from + n ≤ length d.now) × (at + n ≤ length b.old) }
+    ensures { b.new ≡ sets b.old at (take n (drop from d.now)) }
 {
     let last = n - 8;
     let mut i: usize = 0;
@@ -110,8 +107,8 @@ fn copy_eights(d: &[u8], from: usize, b: &mut [u8], at: usize, n: usize)
 
 // n bytes of d, from `from` on, go to b at `at`.
 pub fn copy(d: &[u8], from: usize, b: &mut [u8], at: usize, n: usize)
-    requires { ⌜ (from + n ≤ length (now d)) × (at + n ≤ length (now b)) ⌝ }
-    ensures { λ _. ⌜ now (b .exit) ≡ sets (now (b .entry)) at (take n (drop from (now (d .entry)))) ⌝ }
+    requires { (from + n ≤ length d.now) × (at + n ≤ length b.old) }
+    ensures { b.new ≡ sets b.old at (take n (drop from d.now)) }
 {
     if 64 <= n {
         copy_runs(d, from, b, at, n);

@@ -1,45 +1,45 @@
 -- Whatever the reel holds, a motion that ended leaves the tape inside its recorded end and the reel, and moves and lays inside both.
 use mathlib.Core.Bool.{Bool}
 use mathlib.Core.List.{List}
-use mathlib.Core.Logic.{_⊎_, ⊎-elim}
-use mathlib.Core.Path.{_≡_}
-use Prim.Native.Nat.{ℕ, _≤_}
+use mathlib.Core.Logic.{◌⊎◌, ⊎_elim}
+use mathlib.Core.Path.{◌≡◌}
+use Prim.Native.Nat.{ℕ, ◌≤◌}
 use native.Mathlib.Omega.{arith}
-use Rattle·state.specs.declared.Tape.{Tape}
-use Rattle·moves.specs.declared.spacing.Count.{Count}
-use Rattle·moves.specs.declared.spacing.Rule.{Rule}
-use Rattle·motions·specs.specs.Reads.{readOne, reread}
-use Rattle·motions·specs.specs.Spaces.{positioned}
-use Rattle·motions·specs.specs.Writes.{retried, writtenAt}
-use Rattle·motions·specs.specs.declared.parts.Laid.{Laid}
-use Rattle·motions·specs.specs.declared.parts.Motion.the-variants as motion
-use Rattle·motions·specs.specs.declared.parts.Ending.{Ending}
-use Rattle·motions·specs.specs.declared.reads.Buffer.{Buffer}
-use Rattle·motions·proofs.proofs.Stages.{one-has, reread-has}
-use Rattle·motions·proofs.proofs.Halts.{space-has}
-use Rattle·motions·proofs.proofs.Rooms.{retried-has, written-has}
-pub use Rattle·motions·proofs.proofs.Ends.{EndFits}
-pub use Rattle·motions·proofs.proofs.Stages.{ReadFits}
-pub use Rattle·motions·proofs.proofs.Halts.{SpaceFits}
-pub use Rattle·motions·proofs.proofs.Rooms.{WriteFits}
+use Rattle.state.specs.declared.Tape.{Tape}
+use Rattle.moves.specs.declared.spacing.Count.{Count}
+use Rattle.moves.specs.declared.spacing.Rule.{Rule}
+use Rattle.motions.specs.Reads.{readOne, reread}
+use Rattle.motions.specs.Spaces.{positioned}
+use Rattle.motions.specs.Writes.{retried, writtenAt}
+use Rattle.motions.specs.declared.parts.Laid.{Laid}
+use Rattle.motions.specs.declared.parts.Motion.TheVariants as motion
+use Rattle.motions.specs.declared.parts.Ending.{Ending}
+use Rattle.motions.specs.declared.reads.Buffer.{Buffer}
+use Rattle.motions.proofs.Stages.{one_has, reread-has}
+use Rattle.motions.proofs.Halts.{space-has}
+use Rattle.motions.proofs.Rooms.{retried-has, written_has}
+pub use Rattle.motions.proofs.Ends.{EndFits}
+pub use Rattle.motions.proofs.Stages.{ReadFits}
+pub use Rattle.motions.proofs.Halts.{SpaceFits}
+pub use Rattle.motions.proofs.Rooms.{WriteFits}
 
-module _ (s : List ℕ) (t : Tape) (h : t .position ≤ t .end) {x : Ending} where
+module _ (s : List ℕ) (t : Tape) (h : t.position ≤ t.end) {x : Ending} where
   module _ (r : Buffer) (reverse : Bool) where
-    pub read-one-fits : readOne s t r reverse ≡ motion.Ended x → ReadFits (t .end) r x
-    read-one-fits y = rw y at (one-has (t .end) r s (t .position) reverse h)
+    pub read-one-fits : readOne s t r reverse ≡ motion.Ended x → ReadFits t.end r x
+    read-one-fits y = rw y at (one_has t.end r s t.position reverse h)
 
-    pub reread-fits : (opp : Bool) → reread s t r reverse opp ≡ motion.Ended x → ReadFits (t .end) r x
-    reread-fits opp y = rw y at (reread-has (t .end) r s (t .position) reverse opp h)
+    pub reread-fits : (opp : Bool) → reread s t r reverse opp ≡ motion.Ended x → ReadFits t.end r x
+    reread-fits opp y = rw y at (reread-has t.end r s t.position reverse opp h)
 
-    pub read-fits : (opp : Bool) → (readOne s t r reverse ≡ motion.Ended x) ⊎ (reread s t r reverse opp ≡ motion.Ended x) → ReadFits (t .end) r x
-    read-fits opp y = ⊎-elim (λ a. read-one-fits a) (λ b. reread-fits opp b) y
+    pub read_fits : (opp : Bool) → (readOne s t r reverse ≡ motion.Ended x) ⊎ (reread s t r reverse opp ≡ motion.Ended x) → ReadFits t.end r x
+    read_fits opp y = ⊎_elim (λ a. read-one-fits a) (λ b. reread-fits opp b) y
 
-  pub space-fits : (r : Rule) (count : Count) (enb : Bool) → positioned s t r count enb ≡ motion.Ended x → SpaceFits (t .end) x
+  pub space-fits : (r : Rule) (count : Count) (enb : Bool) → positioned s t r count enb ≡ motion.Ended x → SpaceFits t.end x
   space-fits r count enb y = rw y at (space-has s t r count enb h)
 
-module _ (t : Tape) (blocks : ℕ) (h : t .position ≤ t .end) (k : t .end ≤ blocks) (l : Laid) (mark : Bool) {x : Ending} where
+module _ (t : Tape) (blocks : ℕ) (h : t.position ≤ t.end) (k : t.end ≤ blocks) (l : Laid) (mark : Bool) {x : Ending} where
   pub write-fits : writtenAt t blocks l mark ≡ motion.Ended x → WriteFits blocks l x
-  write-fits y = rw y at (written-has blocks l l mark (omega arith) t h k)
+  write-fits y = rw y at (written_has blocks l l mark (omega arith) t h k)
 
   pub retry-fits : (s : List ℕ) → retried s t blocks l mark ≡ motion.Ended x → WriteFits blocks l x
   retry-fits s y = rw y at (retried-has blocks l t mark h k s)

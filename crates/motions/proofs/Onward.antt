@@ -1,10 +1,10 @@
 -- What holds of every end of a stage, and of all that goes on from its record, holds of the two together.
 use Prim.Native.Nat.{ℕ}
-use Rattle·motions·specs.specs.Reads.{onRecord}
-use Rattle·motions·specs.specs.declared.parts.Motion.{Motion}
-use Rattle·motions·specs.specs.declared.parts.Motion.the-variants as motion
-use Rattle·motions·specs.specs.declared.reads.Stage.{Stage}
-use Rattle·motions·specs.specs.declared.reads.Stage.the-variants as stage
+use Rattle.motions.specs.Reads.{onRecord}
+use Rattle.motions.specs.declared.parts.Motion.{Motion}
+use Rattle.motions.specs.declared.parts.Motion.TheVariants as motion
+use Rattle.motions.specs.declared.reads.Stage.{Stage}
+use Rattle.motions.specs.declared.reads.Stage.TheVariants as stage
 
 -- R of the record that a stage found, or P of the end that it came to
 abbrev pub StageHas : (Motion → Type 0) → (ℕ → ℕ → Type 0) → Stage → Type 0

@@ -1,30 +1,30 @@
 -- A space that stopped, and not at a fault, ends as its stop says.
-use mathlib.Core.List.{[], _∷_}
+use mathlib.Core.List.{[], ◌∷◌}
 use mathlib.Core.Logic.{inl, inr}
-use mathlib.Core.Path.{_≡_, refl}
+use mathlib.Core.Path.{◌≡◌, refl}
 use Prim.Native.Nat.{ℕ}
 use native.Mathlib.Omega.{arith}
 use types.Run.{OneOf}
-use denote.Enum.Declared.{tagOf}
-use Rattle·moves.proofs.spacing.Stop as Stop'
-use Rattle·moves.specs.declared.spacing.Rule.{Rule}
-use Rattle·moves.specs.declared.spacing.Span.{Span}
-use Rattle·moves.specs.declared.spacing.Stop.{Stop}
-use Rattle·moves.specs.declared.spacing.Stop.the-variants as stop-as
-use Rattle·motions·specs.specs.Parts.{standing, stops}
-use Rattle·motions·specs.specs.Spaces.{spaceEnd, spaceMotionBy}
+use denote.Enum.Declared.{tag_of}
+use Rattle.moves.specs.contracts.spacing.Stop as Stop'
+use Rattle.moves.specs.declared.spacing.Rule.{Rule}
+use Rattle.moves.specs.declared.spacing.Span.{Span}
+use Rattle.moves.specs.declared.spacing.Stop.{Stop}
+use Rattle.moves.specs.declared.spacing.Stop.TheVariants as stop-as
+use Rattle.motions.specs.Parts.{standing, stops}
+use Rattle.motions.specs.Spaces.{spaceEnd, spaceMotionBy}
 
-no-key : {n : ℕ} → n ≡ 4 → OneOf (0 ∷ 1 ∷ 2 ∷ 3 ∷ []) n → ⊥
-no-key e (inl h) = omega arith
-no-key e (inr (inl h)) = omega arith
-no-key e (inr (inr (inl h))) = omega arith
-no-key e (inr (inr (inr h))) = omega arith
+no_key : {n : ℕ} → n ≡ 4 → OneOf (0 ∷ 1 ∷ 2 ∷ 3 ∷ []) n → ⊥
+no_key e (inl h) = omega arith
+no_key e (inr (inl h)) = omega arith
+no_key e (inr (inr (inl h))) = omega arith
+no_key e (inr (inr (inr h))) = omega arith
 
 module _ (r : Rule) (x : Span) (e : ℕ) where
-  pub not-bad : (stop : Stop) → OneOf (0 ∷ 1 ∷ 2 ∷ 3 ∷ []) (tagOf Stop'.the-type stop) → stops (spaceEnd r x stop) (standing (x .position) e) ≡ spaceMotionBy r x e stop
+  pub not-bad : (stop : Stop) → OneOf (0 ∷ 1 ∷ 2 ∷ 3 ∷ []) (tag_of Stop'.the_type stop) → stops (spaceEnd r x stop) (standing x.position e) ≡ spaceMotionBy r x e stop
   unfolding spaceMotionBy
   not-bad stop-as.Count h = refl
   not-bad stop-as.Mark h = refl
   not-bad stop-as.LogicalEnd h = refl
   not-bad stop-as.Nothing h = refl
-  not-bad (stop-as.Bad why k) h = absurd (no-key refl h)
+  not-bad (stop-as.Bad why k) h = absurd (no_key refl h)

@@ -1,18 +1,17 @@
 -- The parts of what a command is about to do: ends, moves and blocks laid.
-use mathlib.Core.Bool.{Bool, true, false}
-use Prim.Native.Nat.{ℕ, _+_, min}
-use Rattle·lists.specs.Pick.{pick}
-use Rattle·tape.specs.Numbers.{piecesOf}
-use Rattle·signals.specs.declared.message.End.{End}
-use Rattle·signals.specs.declared.counts.Residual.{Residual}
-use Rattle·state.specs.declared.Tape.{Tape}
-use Rattle·motions·specs.specs.declared.parts.Moved.{Moved}
-use Rattle·motions·specs.specs.declared.parts.Laid.{Laid}
-use Rattle·motions·specs.specs.declared.parts.ObjectKind.{ObjectKind}
-use Rattle·motions·specs.specs.declared.parts.ObjectKind.the-variants as kind
-use Rattle·motions·specs.specs.declared.parts.Ending.{Ending}
-use Rattle·motions·specs.specs.declared.parts.Motion.{Motion}
-use Rattle·motions·specs.specs.declared.parts.Motion.the-variants as motion
+use Rattle.std.specs.Prelude.{Bool, true, false, ℕ, ◌+◌, min}
+use Rattle.lists.specs.Pick.{pick}
+use Rattle.tape.specs.Numbers.{pieces_of}
+use Rattle.signals.specs.declared.message.End.{End}
+use Rattle.signals.specs.declared.counts.Residual.{Residual}
+use Rattle.state.specs.declared.Tape.{Tape}
+use Rattle.motions.specs.declared.parts.Moved.{Moved}
+use Rattle.motions.specs.declared.parts.Laid.{Laid}
+use Rattle.motions.specs.declared.parts.ObjectKind.{ObjectKind}
+use Rattle.motions.specs.declared.parts.ObjectKind.TheVariants as kind
+use Rattle.motions.specs.declared.parts.Ending.{Ending}
+use Rattle.motions.specs.declared.parts.Motion.{Motion}
+use Rattle.motions.specs.declared.parts.Motion.TheVariants as motion
 
 -- an end: class, what was found for XST0, XST3, residual
 abbrev pub end : ℕ → ℕ → ℕ → Residual → End
@@ -25,7 +24,7 @@ abbrev pub noMove : Moved
 noMove = record { first = 0; length = 0; reverse = false; pointer = 0; count = 0; swb = false }
 
 abbrev pub noLay : Laid
-noLay = record { at = 0; «gap_first» = false; object = kind.Nothing; pointer = 0; length = 0; swb = false }
+noLay = record { at = 0; gap_first = false; object = kind.Nothing; pointer = 0; length = 0; swb = false }
 
 -- an end that moves and lays nothing
 abbrev pub resting : End → Tape → Ending
@@ -39,12 +38,12 @@ unfoldable pub objectBlocks : ObjectKind → ℕ → ℕ
 objectBlocks kind.Nothing n = 0
 objectBlocks kind.Mark n = 1
 objectBlocks kind.Gap n = 1
-objectBlocks kind.Record n = piecesOf n
+objectBlocks kind.Record n = pieces_of n
 
 -- "gap and object together" for a retry
 unfoldable pub laidBlocks : Laid → ℕ
-laidBlocks l = pick (l .«gap_first») (objectBlocks (l .object) (l .length) + 1) (objectBlocks (l .object) (l .length))
+laidBlocks l = pick l.gap_first (objectBlocks l.object l.length + 1) (objectBlocks l.object l.length)
 
 -- the memory bytes that a Read stores
 unfoldable pub movedLength : Moved → ℕ
-movedLength m = min (m .length) (m .count)
+movedLength m = min m.length m.count

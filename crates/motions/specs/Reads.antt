@@ -1,26 +1,23 @@
 -- "Read 1 / 0 next, 1 previous, 2 reread previous, 3 reread next." (01, Commands)
-use mathlib.Core.Bool.{Bool, not}
-use mathlib.Core.List.{List}
-use Prim.Native.Nat.{ℕ, _+_, _-_, min}
-use lib.Dec.{eqb, ltb}
-use Rattle·lists.specs.Pick.{pick}
-use Rattle·tape.specs.Numbers.{piecesOf, recordLimit}
-use Rattle·signals.specs.Bits.{OPI, REV, RIB, RLL, RLS, TMK}
-use Rattle·signals.specs.Message.{flagOf}
-use Rattle·signals.specs.declared.message.End.{End}
-use Rattle·signals.specs.declared.counts.ByteCount.{ByteCount}
-use Rattle·signals.specs.declared.counts.Residual.{Residual}
-use Rattle·signals.specs.declared.counts.Residual.the-variants as residual
-use Rattle·state.specs.declared.Tape.{Tape}
-use Rattle·moves.specs.Seeking.{soughtUnder}
-use Rattle·moves.specs.declared.seeking.Sought.{Sought}
-use Rattle·moves.specs.declared.seeking.Sought.the-variants as sought-as
-use Rattle·motions·specs.specs.Parts.{end, noLay, resting, standing, stops}
-use Rattle·motions·specs.specs.declared.parts.Motion.{Motion}
-use Rattle·motions·specs.specs.declared.parts.Motion.the-variants as motion
-use Rattle·motions·specs.specs.declared.reads.Buffer.{Buffer}
-use Rattle·motions·specs.specs.declared.reads.Stage.{Stage}
-use Rattle·motions·specs.specs.declared.reads.Stage.the-variants as stage
+use Rattle.std.specs.Prelude.{Bool, not, List, ℕ, ◌+◌, ◌-◌, min, eqb, ltb}
+use Rattle.lists.specs.Pick.{pick}
+use Rattle.tape.specs.Numbers.{pieces_of, recordLimit}
+use Rattle.signals.specs.Bits.{OPI, REV, RIB, RLL, RLS, TMK}
+use Rattle.signals.specs.Message.{flagOf}
+use Rattle.signals.specs.declared.message.End.{End}
+use Rattle.signals.specs.declared.counts.ByteCount.{ByteCount}
+use Rattle.signals.specs.declared.counts.Residual.{Residual}
+use Rattle.signals.specs.declared.counts.Residual.TheVariants as residual
+use Rattle.state.specs.declared.Tape.{Tape}
+use Rattle.moves.specs.Seeking.{soughtUnder}
+use Rattle.moves.specs.declared.seeking.Sought.{Sought}
+use Rattle.moves.specs.declared.seeking.Sought.TheVariants as sought-as
+use Rattle.motions.specs.Parts.{end, noLay, resting, standing, stops}
+use Rattle.motions.specs.declared.parts.Motion.{Motion}
+use Rattle.motions.specs.declared.parts.Motion.TheVariants as motion
+use Rattle.motions.specs.declared.reads.Buffer.{Buffer}
+use Rattle.motions.specs.declared.reads.Stage.{Stage}
+use Rattle.motions.specs.declared.reads.Stage.TheVariants as stage
 
 abbrev pub bytes : ℕ → Residual
 bytes n = residual.Bytes (record { 0 = n })
@@ -28,7 +25,7 @@ bytes n = residual.Bytes (record { 0 = n })
 -- "Record longer than the count: RLL; shorter: RLS; class 2."
 unfoldable pub readEnd : ℕ → ByteCount → Bool → End
 readEnd n count rev =
-    end (pick (eqb n (count .0)) 0 2) (flagOf (ltb n (count .0)) RLS + flagOf (ltb (count .0) n) RLL) (flagOf rev REV) (bytes (count .0 - min n (count .0)))
+    end (pick (eqb n count.0) 0 2) (flagOf (ltb n count.0) RLS + flagOf (ltb count.0 n) RLL) (flagOf rev REV) (bytes (count.0 - min n count.0))
 
 -- "A mark: TMK, RLS, class 2, position past it, nothing moved."
 unfoldable pub markEnd : ByteCount → Bool → End
@@ -44,29 +41,29 @@ stopMotion x p e = stops x (standing p e)
 
 unfoldable pub stageBy : Tape → ByteCount → Bool → Sought → Stage
 stageBy t count reverse (sought-as.Record n q) = stage.Record n q
-stageBy t count reverse (sought-as.Mark q) = stage.Over (resting (markEnd count reverse) (standing q (t .end)))
-stageBy t count reverse (sought-as.Nothing q) = stage.Over (resting (nothingEnd count reverse) (standing q (t .end)))
+stageBy t count reverse (sought-as.Mark q) = stage.Over (resting (markEnd count reverse) (standing q t.end))
+stageBy t count reverse (sought-as.Nothing q) = stage.Over (resting (nothingEnd count reverse) (standing q t.end))
 stageBy t count reverse (sought-as.Bad why k) = stage.Bad why k
 
 -- the first block of a record of n bytes beyond which the position is q
 unfoldable pub firstBlock : Bool → ℕ → ℕ → ℕ
-firstBlock reverse n q = pick reverse q (q - piecesOf n)
+firstBlock reverse n q = pick reverse q (q - pieces_of n)
 
 -- the record is read in direction `reverse`; the last stage ran `rev` and left the tape at t
 unfoldable pub readMotion : Buffer → Bool → ℕ → ℕ → Tape → Bool → Motion
 readMotion r reverse n q t rev =
     motion.Ended
     (record {
-      end = readEnd n (r .count) rev;
+      end = readEnd n r.count rev;
       tape = t;
       moved =
           record {
             first = firstBlock reverse n q;
             length = n;
             reverse = reverse;
-            pointer = r .pointer;
-            count = r .count .0;
-            swb = r .swb;
+            pointer = r.pointer;
+            count = r.count.0;
+            swb = r.swb;
           };
       laid = noLay;
     })
@@ -81,26 +78,26 @@ onRecord (stage.Bad why k) f = motion.Fault why k
 module _ (limit : ℕ) where
   -- one stage: gaps are passed over; "A mark, BOT or end in the first stage ends it, residual as if nothing moved."
   unfoldable pub stageOfUnder : List ℕ → Tape → ByteCount → Bool → Stage
-  stageOfUnder s t count reverse = stageBy t count reverse (soughtUnder limit s reverse (t .position) (t .end))
+  stageOfUnder s t count reverse = stageBy t count reverse (soughtUnder limit s reverse t.position t.end)
 
   -- "Read 1 / 0 next, 1 previous"
   unfoldable pub readOneUnder : List ℕ → Tape → Buffer → Bool → Motion
   readOneUnder s t r reverse =
-      onRecord (stageOfUnder s t (r .count) reverse) (λ n q. readMotion r reverse n q (standing q (t .end)) reverse)
+      onRecord (stageOfUnder s t r.count reverse) (λ n q. readMotion r reverse n q (standing q t.end) reverse)
 
   -- "Mode 2 reread: space reverse, read forward. Mode 3: space forward, read reverse."
   unfoldable pub spaceThenReadUnder : List ℕ → Tape → Buffer → Bool → Motion
   spaceThenReadUnder s t r reverse =
-      onRecord (stageOfUnder s t (r .count) reverse) (λ n q. readOneUnder s (standing q (t .end)) r (not reverse))
+      onRecord (stageOfUnder s t r.count reverse) (λ n q. readOneUnder s (standing q t.end) r (not reverse))
 
   -- the space back over the record of n bytes that was read up to q
   unfoldable pub spaceBackUnder : List ℕ → ℕ → Buffer → Bool → ℕ → ℕ → Motion
   spaceBackUnder s e r reverse n q =
-      onRecord (stageOfUnder s (standing q e) (r .count) (not reverse)) (λ n′ b. readMotion r reverse n q (standing b e) (not reverse))
+      onRecord (stageOfUnder s (standing q e) r.count (not reverse)) (λ n' b. readMotion r reverse n q (standing b e) (not reverse))
 
   -- "OPP puts the read first, same direction as the space had, then the space back."
   unfoldable pub readThenSpaceUnder : List ℕ → Tape → Buffer → Bool → Motion
-  readThenSpaceUnder s t r reverse = onRecord (stageOfUnder s t (r .count) reverse) (λ n q. spaceBackUnder s (t .end) r reverse n q)
+  readThenSpaceUnder s t r reverse = onRecord (stageOfUnder s t r.count reverse) (λ n q. spaceBackUnder s t.end r reverse n q)
 
   unfoldable pub rereadUnder : List ℕ → Tape → Buffer → Bool → Bool → Motion
   rereadUnder s t r reverse opp = pick opp (readThenSpaceUnder s t r reverse) (spaceThenReadUnder s t r reverse)

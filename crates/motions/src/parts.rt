@@ -1,13 +1,14 @@
 // The parts of what a command is about to do: what is moved to memory and what is laid on the reel.
+ghost use Rattle.std.specs.Prelude.{◌≡◌, ◌+◌, ◌≤◌};
+ghost use Rattle.tape.specs.Numbers.{capacityLimit};
+ghost use Rattle.motions.specs.Parts.{laidBlocks, movedLength, noLay, noMove, objectBlocks, resting};
+
 use signals::End;
 use state::Tape;
 use tape::BlockFault;
-ghost use mathlib.Core.Path.{_≡_};
-ghost use Prim.Native.Nat.{_+_, _≤_};
-ghost use Rattle·tape.specs.Numbers.{capacityLimit};
-ghost use Rattle·motions·specs.specs.Parts.{laidBlocks, movedLength, noLay, noMove, objectBlocks, resting};
 
 // The bytes that a Read moves: of the record of `length` bytes at block `first`, to a buffer of `count` bytes at `pointer`.
+#[derive(Drop)]
 pub struct Moved {
     pub first: usize,
     pub length: usize,
@@ -17,6 +18,7 @@ pub struct Moved {
     pub swb: bool,
 }
 
+#[derive(Drop)]
 pub enum ObjectKind {
     Nothing,
     Mark,
@@ -26,6 +28,7 @@ pub enum ObjectKind {
 }
 
 // What is laid at block `at`: for a retry a gap first, then the object.
+#[derive(Drop)]
 pub struct Laid {
     pub at: usize,
     pub gap_first: bool,
@@ -36,6 +39,7 @@ pub struct Laid {
 }
 
 // How a command ended: what it says, where the tape stands, what is moved and laid.
+#[derive(Drop)]
 pub struct Ending {
     pub end: End,
     pub tape: Tape,
@@ -43,6 +47,7 @@ pub struct Ending {
     pub laid: Laid,
 }
 
+#[derive(Drop)]
 pub enum Motion {
     Ended(Ending),
     // A block at fault: what is wrong with it, and its number.
@@ -50,7 +55,7 @@ pub enum Motion {
 }
 
 pub fn no_move() -> Moved
-    ensures { λ r. ⌜ r ≡ noMove ⌝ }
+    ensures { result ≡ noMove }
 {
     Moved {
         first: 0,
@@ -63,7 +68,7 @@ pub fn no_move() -> Moved
 }
 
 pub fn no_lay() -> Laid
-    ensures { λ r. ⌜ r ≡ noLay ⌝ }
+    ensures { result ≡ noLay }
 {
     Laid {
         at: 0,
@@ -77,7 +82,7 @@ pub fn no_lay() -> Laid
 
 // An end that moves and lays nothing.
 pub fn rest(end: End, tape: Tape) -> Ending
-    ensures { λ r. ⌜ r ≡ resting end tape ⌝ }
+    ensures { result ≡ resting end tape }
 {
     let moved = no_move();
     let laid = no_lay();
@@ -90,8 +95,8 @@ pub fn rest(end: End, tape: Tape) -> Ending
 }
 
 fn object_blocks(o: ObjectKind, length: u16) -> usize
-    ensures is { λ r. ⌜ r ≡ objectBlocks o length ⌝ }
-    ensures low { λ r. ⌜ r ≤ capacityLimit ⌝ }
+    ensures is { result ≡ objectBlocks o length }
+    ensures low { result ≤ capacityLimit }
 {
     match o {
         ObjectKind::Nothing => 0,
@@ -103,8 +108,8 @@ fn object_blocks(o: ObjectKind, length: u16) -> usize
 
 // How many blocks are laid.
 pub fn laid_blocks(l: Laid) -> usize
-    ensures is { λ r. ⌜ r ≡ laidBlocks l ⌝ }
-    ensures low { λ r. ⌜ r ≤ capacityLimit + 1 ⌝ }
+    ensures is { result ≡ laidBlocks l }
+    ensures low { result ≤ capacityLimit + 1 }
 {
     let o = l.object;
     let n = object_blocks(o, l.length);
@@ -113,7 +118,7 @@ pub fn laid_blocks(l: Laid) -> usize
 
 // How many memory bytes a Read stores.
 pub fn moved_bytes(m: Moved) -> usize
-    ensures { λ r. ⌜ r ≡ movedLength m ⌝ }
+    ensures { result ≡ movedLength m }
 {
     lists::least(m.length, m.count as usize)
 }

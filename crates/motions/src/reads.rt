@@ -1,21 +1,15 @@
 // Read: one stage, or two for a reread.
-use crate::parts::Ending;
-use crate::parts::Motion;
-use crate::parts::Moved;
-use crate::parts::no_lay;
-use crate::parts::rest;
-use moves::Sought;
-use moves::seek;
-use signals::ByteCount;
-use signals::End;
-use signals::Residual;
-use signals::flag;
+ghost use Rattle.std.specs.Prelude.{◌≡◌};
+ghost use Rattle.motions.specs.Reads.{firstBlock, markEnd, nothingEnd, readEnd, readMotion, readOne, readThenSpace, reread, spaceBack, spaceThenRead, stageOf};
+
+use crate::parts::{Ending, Motion, Moved, no_lay, rest};
+use moves::{Sought, seek};
+use signals::{ByteCount, End, Residual, flag};
 use state::Tape;
 use tape::BlockFault;
-ghost use mathlib.Core.Path.{_≡_};
-ghost use Rattle·motions·specs.specs.Reads.{firstBlock, markEnd, nothingEnd, readEnd, readMotion, readOne, readThenSpace, reread, spaceBack, spaceThenRead, stageOf};
 
 // What a Read asks for.
+#[derive(Drop)]
 pub struct Buffer {
     pub pointer: usize,
     pub count: ByteCount,
@@ -23,6 +17,7 @@ pub struct Buffer {
 }
 
 // A stage found a record, with the position beyond it, or the command is over, or a block is at fault.
+#[derive(Drop)]
 pub enum Stage {
     Record(usize, usize),
     Over(Ending),
@@ -31,7 +26,7 @@ pub enum Stage {
 
 // A record of n bytes against the count: RLS if shorter, RLL if longer, class 2 for both.
 fn read_end(n: usize, count: ByteCount, rev: bool) -> End
-    ensures { λ r. ⌜ r ≡ readEnd n count rev ⌝ }
+    ensures { result ≡ readEnd n count rev }
 {
     let c = count.0 as usize;
     let class = if n == c { 0 } else { 2 };
@@ -49,7 +44,7 @@ fn read_end(n: usize, count: ByteCount, rev: bool) -> End
 
 // A mark: TMK, RLS, class 2.
 fn mark_end(count: ByteCount, rev: bool) -> End
-    ensures { λ r. ⌜ r ≡ markEnd count rev ⌝ }
+    ensures { result ≡ markEnd count rev }
 {
     let xst3 = flag(rev, signals::REV);
     let residual = Residual::Bytes(count);
@@ -63,7 +58,7 @@ fn mark_end(count: ByteCount, rev: bool) -> End
 
 // Nothing left: OPI and class 6 forward, RIB and class 2 in reverse.
 fn nothing_end(count: ByteCount, reverse: bool) -> End
-    ensures { λ r. ⌜ r ≡ nothingEnd count reverse ⌝ }
+    ensures { result ≡ nothingEnd count reverse }
 {
     let residual = Residual::Bytes(count);
     if reverse {
@@ -84,7 +79,7 @@ fn nothing_end(count: ByteCount, reverse: bool) -> End
 
 // Seek, and say how the command ends where no record is found.
 fn run_stage(reel: &[u8], t: Tape, count: ByteCount, reverse: bool) -> Stage
-    ensures { λ r. ⌜ r ≡ stageOf (now (reel .entry)) t count reverse ⌝ }
+    ensures { result ≡ stageOf reel.now t count reverse }
 {
     match seek(reel, reverse, t.position, t.end) {
         Sought::Record(n, q) => Stage::Record(n, q),
@@ -108,7 +103,7 @@ fn run_stage(reel: &[u8], t: Tape, count: ByteCount, reverse: bool) -> Stage
 
 // The first block of the record of n bytes beyond which the position is q.
 fn first_block(reverse: bool, n: usize, q: usize) -> usize
-    ensures { λ r. ⌜ r ≡ firstBlock reverse n q ⌝ }
+    ensures { result ≡ firstBlock reverse n q }
 {
     if reverse {
         return q;
@@ -119,7 +114,7 @@ fn first_block(reverse: bool, n: usize, q: usize) -> usize
 
 // The record's bytes go to the buffer by the direction of the read, and the tape stands at `position` after the last stage.
 fn read_motion(r: Buffer, reverse: bool, n: usize, q: usize, t: Tape, rev: bool) -> Motion
-    ensures { λ x. ⌜ x ≡ readMotion r reverse n q t rev ⌝ }
+    ensures { result ≡ readMotion r reverse n q t rev }
 {
     let count = r.count;
     let end = read_end(n, count, rev);
@@ -142,7 +137,7 @@ fn read_motion(r: Buffer, reverse: bool, n: usize, q: usize, t: Tape, rev: bool)
 }
 
 pub fn read_one(reel: &[u8], t: Tape, r: Buffer, reverse: bool) -> Motion
-    ensures { λ x. ⌜ x ≡ readOne (now (reel .entry)) t r reverse ⌝ }
+    ensures { result ≡ readOne reel.now t r reverse }
 {
     match run_stage(reel, t, r.count, reverse) {
         Stage::Record(n, q) => read_motion(
@@ -163,7 +158,7 @@ pub fn read_one(reel: &[u8], t: Tape, r: Buffer, reverse: bool) -> Motion
 
 // Space, then read back over it.
 fn space_then_read(reel: &[u8], t: Tape, r: Buffer, reverse: bool) -> Motion
-    ensures { λ x. ⌜ x ≡ spaceThenRead (now (reel .entry)) t r reverse ⌝ }
+    ensures { result ≡ spaceThenRead reel.now t r reverse }
 {
     match run_stage(reel, t, r.count, reverse) {
         Stage::Record(_, q) => read_one(
@@ -182,7 +177,7 @@ fn space_then_read(reel: &[u8], t: Tape, r: Buffer, reverse: bool) -> Motion
 
 // The space back after a read, for OPP.
 fn space_back(reel: &[u8], e: usize, r: Buffer, reverse: bool, n: usize, q: usize) -> Motion
-    ensures { λ x. ⌜ x ≡ spaceBack (now (reel .entry)) e r reverse n q ⌝ }
+    ensures { result ≡ spaceBack reel.now e r reverse n q }
 {
     match run_stage(
         reel,
@@ -211,7 +206,7 @@ fn space_back(reel: &[u8], e: usize, r: Buffer, reverse: bool, n: usize, q: usiz
 
 // Read, then space back over it: OPP.
 fn read_then_space(reel: &[u8], t: Tape, r: Buffer, reverse: bool) -> Motion
-    ensures { λ x. ⌜ x ≡ readThenSpace (now (reel .entry)) t r reverse ⌝ }
+    ensures { result ≡ readThenSpace reel.now t r reverse }
 {
     match run_stage(reel, t, r.count, reverse) {
         Stage::Record(n, q) => space_back(reel, t.end, r, reverse, n, q),
@@ -221,7 +216,7 @@ fn read_then_space(reel: &[u8], t: Tape, r: Buffer, reverse: bool) -> Motion
 }
 
 pub fn reread_one(reel: &[u8], t: Tape, r: Buffer, reverse: bool, opp: bool) -> Motion
-    ensures { λ x. ⌜ x ≡ reread (now (reel .entry)) t r reverse opp ⌝ }
+    ensures { result ≡ reread reel.now t r reverse opp }
 {
     if opp {
         return read_then_space(reel, t, r, reverse);

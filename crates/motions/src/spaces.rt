@@ -1,26 +1,15 @@
 // Position: records and marks, forward and in reverse.
-use crate::parts::Ending;
-use crate::parts::Motion;
-use crate::parts::no_lay;
-use crate::parts::no_move;
-use moves::Count;
-use moves::Rule;
-use moves::Spaced;
-use moves::Span;
-use moves::Stop;
-use moves::none_left;
-use moves::space;
-use signals::End;
-use signals::Residual;
-use signals::flag;
+ghost use Rattle.std.specs.Prelude.{◌≡◌, ◌≤◌};
+ghost use Rattle.tape.specs.Numbers.{capacityLimit};
+ghost use Rattle.motions.specs.Spaces.{positioned, residualOf, spaceEnd, spaceMotion};
+
+use crate::parts::{Ending, Motion, no_lay, no_move};
+use moves::{Count, Rule, Spaced, Span, Stop, none_left, space};
+use signals::{End, Residual, flag};
 use state::Tape;
-ghost use mathlib.Core.Path.{_≡_};
-ghost use Prim.Native.Nat.{_≤_};
-ghost use Rattle·tape.specs.Numbers.{capacityLimit};
-ghost use Rattle·motions·specs.specs.Spaces.{positioned, residualOf, spaceEnd, spaceMotion};
 
 fn residual_of(left: Count) -> Residual
-    ensures { λ r. ⌜ r ≡ residualOf left ⌝ }
+    ensures { result ≡ residualOf left }
 {
     match left {
         Count::Records(n) => Residual::Records(n),
@@ -30,7 +19,7 @@ fn residual_of(left: Count) -> Residual
 
 // How a stop ends the command; RLS if BOT or LET left any count.
 fn space_end(r: Rule, s: Span, stop: Stop) -> End
-    ensures { λ x. ⌜ x ≡ spaceEnd r s stop ⌝ }
+    ensures { result ≡ spaceEnd r s stop }
 {
     let count = s.left;
     let residual = residual_of(count);
@@ -81,7 +70,7 @@ fn space_end(r: Rule, s: Span, stop: Stop) -> End
 }
 
 fn space_motion(r: Rule, x: Spaced, e: usize) -> Motion
-    ensures { λ y. ⌜ y ≡ spaceMotion r x e ⌝ }
+    ensures { result ≡ spaceMotion r x e }
 {
     let stop = x.stop;
     let span = x.span;
@@ -105,8 +94,8 @@ fn space_motion(r: Rule, x: Spaced, e: usize) -> Motion
 
 // A count of 0 moves nothing and no stage runs. With ENB a mark met first from block 0 counts as the second in a row.
 pub fn position(reel: &[u8], t: Tape, r: Rule, count: Count, enb: bool) -> Motion
-    requires { ⌜ t .end ≤ capacityLimit ⌝ }
-    ensures { λ x. ⌜ x ≡ positioned (now (reel .entry)) t r count enb ⌝ }
+    requires { t.end ≤ capacityLimit }
+    ensures { result ≡ positioned reel.now t r count enb }
 {
     if none_left(count) {
         let residual = residual_of(count);

@@ -1,25 +1,17 @@
 // Write and Format: the object goes where the tape stands, or for a retry, behind a gap, where the last object stood.
-use crate::parts::Ending;
-use crate::parts::Laid;
-use crate::parts::Motion;
-use crate::parts::laid_blocks;
-use crate::parts::no_lay;
-use crate::parts::no_move;
-use moves::Sought;
-use moves::seek;
-use signals::End;
-use signals::Residual;
-use signals::flag;
+ghost use Rattle.std.specs.Prelude.{◌≡◌, ◌+◌, ◌≤◌};
+ghost use Rattle.motions.specs.Parts.{laidBlocks};
+ghost use Rattle.motions.specs.Writes.{behindGap, noRoom, retried, writtenAt, writtenMotion};
+
+use crate::parts::{Ending, Laid, Motion, laid_blocks, no_lay, no_move};
+use moves::{Sought, seek};
+use signals::{End, Residual, flag};
 use state::Tape;
 use tape::Geometry;
-ghost use mathlib.Core.Path.{_≡_};
-ghost use Prim.Native.Nat.{_+_, _≤_};
-ghost use Rattle·motions·specs.specs.Parts.{laidBlocks};
-ghost use Rattle·motions·specs.specs.Writes.{behindGap, noRoom, retried, writtenAt, writtenMotion};
 
 // Step 11: the object doesn't fit the reel: NEF, class 3, unmoved. (EOT shows by the position.)
 fn no_room(t: Tape) -> Motion
-    ensures { λ r. ⌜ r ≡ noRoom t ⌝ }
+    ensures { result ≡ noRoom t }
 {
     let residual = Residual::Nothing;
     let end = End {
@@ -40,8 +32,8 @@ fn no_room(t: Tape) -> Motion
 
 // Carried out: class 2 if it ends at or past EOT. A written mark sets TMK.
 fn written_motion(l: Laid, blocks: usize, mark: bool) -> Motion
-    requires { ⌜ l .at + laidBlocks l ≤ blocks ⌝ }
-    ensures { λ r. ⌜ r ≡ writtenMotion l blocks mark ⌝ }
+    requires { l.at + laidBlocks l ≤ blocks }
+    ensures { result ≡ writtenMotion l blocks mark }
 {
     let after = l.at + laid_blocks(l);
     let marker = Geometry { capacity: blocks }.marker();
@@ -68,7 +60,7 @@ fn written_motion(l: Laid, blocks: usize, mark: bool) -> Motion
 }
 
 pub fn write_at(t: Tape, blocks: usize, l: Laid, mark: bool) -> Motion
-    ensures { λ r. ⌜ r ≡ writtenAt t blocks l mark ⌝ }
+    ensures { result ≡ writtenAt t blocks l mark }
 {
     if blocks < l.at {
         return no_room(t);
@@ -80,7 +72,7 @@ pub fn write_at(t: Tape, blocks: usize, l: Laid, mark: bool) -> Motion
 }
 
 fn behind_gap(l: Laid, q: usize) -> Laid
-    ensures { λ r. ⌜ r ≡ behindGap l q ⌝ }
+    ensures { result ≡ behindGap l q }
 {
     let object = l.object;
     Laid {
@@ -95,7 +87,7 @@ fn behind_gap(l: Laid, q: usize) -> Laid
 
 // Retry: space reverse over gaps and one record or mark. None found: RIB, class 2, nothing written.
 pub fn retry(reel: &[u8], t: Tape, blocks: usize, l: Laid, mark: bool) -> Motion
-    ensures { λ r. ⌜ r ≡ retried (now (reel .entry)) t blocks l mark ⌝ }
+    ensures { result ≡ retried reel.now t blocks l mark }
 {
     match seek(reel, true, t.position, t.end) {
         Sought::Record(_, q) => write_at(t, blocks, behind_gap(l, q), mark),

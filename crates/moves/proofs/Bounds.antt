@@ -1,47 +1,47 @@
 -- Bounds between objects and the stretches from one to another: a position cuts the objects in one way, so that stretches join.
 use mathlib.Core.Bool.{Bool, true, false}
-use mathlib.Core.List.{List, [], _∷_, _++_, append-assoc, append-nil}
-use mathlib.Core.Path.{_≡_, refl, sym, ap, _∙_}
-use Prim.Native.Nat.{ℕ, _≤_}
+use mathlib.Core.List.{List, [], ◌∷◌, ◌++◌, append_assoc, append-nil}
+use mathlib.Core.Path.{◌≡◌, refl, sym, ap, ◌∙◌}
+use Prim.Native.Nat.{ℕ, ◌≤◌}
 use native.Mathlib.Omega.{arith}
-use Rattle·lists.specs.Pick.{pick}
-use Rattle·tape.specs.Objects.{AllAllowed, Holds, Object, blocksIn, blocksOf}
-use Rattle·tape.proofs.Images.{allowed-rest, blocks-append, one-or-more}
-use Rattle·tape.proofs.Passes.{allowed-at}
-use Rattle·moves·specs.specs.Between.{Between, Bound}
+use Rattle.lists.specs.Pick.{pick}
+use Rattle.tape.specs.Objects.{AllAllowed, Holds, Object, blocksIn, blocksOf}
+use Rattle.tape.proofs.Images.{allowed-rest, blocks-append, one-or-more}
+use Rattle.tape.proofs.Passes.{allowed_at}
+use Rattle.moves.specs.Between.{Between, Bound}
 
 -- each object takes a block or more, so that no two cuts are at one position
-cut-one : (xs ys xs′ ys′ : List Object) → AllAllowed (xs ++ ys) → xs ++ ys ≡ xs′ ++ ys′ → blocksOf xs ≡ blocksOf xs′ → (xs ≡ xs′) × (ys ≡ ys′)
+cut-one : (xs ys xs' ys' : List Object) → AllAllowed (xs ++ ys) → xs ++ ys ≡ xs' ++ ys' → blocksOf xs ≡ blocksOf xs' → (xs ≡ xs') × (ys ≡ ys')
 unfolding blocksOf
-cut-one [] ys [] ys′ h e n = (refl, e)
-cut-one [] ys (o ∷ xs′) ys′ h e n = absurd (omega (arith, one-or-more o (allowed-at [] o (xs′ ++ ys′) (rw e at h))))
-cut-one (o ∷ xs) ys [] ys′ h e n = absurd (omega (arith, one-or-more o (allowed-at [] o (xs ++ ys) h)))
-cut-one (o ∷ xs) ys (o′ ∷ xs′) ys′ h e n =
-    let head : o ≡ o′ = cc in
-    let tail : xs ++ ys ≡ xs′ ++ ys′ = cc in
-    let rest = cut-one xs ys xs′ ys′ (allowed-rest (o ∷ []) (xs ++ ys) h) tail (omega (arith, ap blocksIn head)) in
-    (cc (head, rest .0), rest .1)
+cut-one [] ys [] ys' h e n = (refl, e)
+cut-one [] ys (o ∷ xs') ys' h e n = absurd (omega (arith, one-or-more o (allowed_at [] o (xs' ++ ys') (rw e at h))))
+cut-one (o ∷ xs) ys [] ys' h e n = absurd (omega (arith, one-or-more o (allowed_at [] o (xs ++ ys) h)))
+cut-one (o ∷ xs) ys (o' ∷ xs') ys' h e n =
+    let head : o ≡ o' = cc in
+    let tail : xs ++ ys ≡ xs' ++ ys' = cc in
+    let rest = cut-one xs ys xs' ys' (allowed-rest (o ∷ []) (xs ++ ys) h) tail (omega (arith, ap blocksIn head)) in
+    (cc (head, rest.0), rest.1)
 
-pub one-cut : {os : List Object} (xs ys xs′ ys′ : List Object) → AllAllowed os → os ≡ xs ++ ys → os ≡ xs′ ++ ys′ → blocksOf xs ≡ blocksOf xs′ → (xs ≡ xs′) × (ys ≡ ys′)
-one-cut xs ys xs′ ys′ h e e′ n = cut-one xs ys xs′ ys′ (rw e at h) (sym e ∙ e′) n
+pub one-cut : {os : List Object} (xs ys xs' ys' : List Object) → AllAllowed os → os ≡ xs ++ ys → os ≡ xs' ++ ys' → blocksOf xs ≡ blocksOf xs' → (xs ≡ xs') × (ys ≡ ys')
+one-cut xs ys xs' ys' h e e' n = cut-one xs ys xs' ys' (rw e at h) (sym e ∙ e') n
 
 module _ {os : List Object} where
   -- a stretch is passed one way xs the other
   pub back-again : {p q : ℕ} {mid : List Object} → Between os true p q mid → Between os false q p mid
-  back-again b = record { before = b .before; after = b .after; whole = b .whole; from = b .to; to = b .from }
+  back-again b = record { before = b.before; after = b.after; whole = b.whole; from = b.to; to = b.from }
 
   pub backward : {p q : ℕ} {mid : List Object} → Between os false p q mid → Between os true q p mid
-  backward b = record { before = b .before; after = b .after; whole = b .whole; from = b .to; to = b .from }
+  backward b = record { before = b.before; after = b.after; whole = b.whole; from = b.to; to = b.from }
 
   forward-joins : {p q t : ℕ} {xs ys : List Object} → AllAllowed os → Between os false p q xs → Between os false q t ys → Between os false p t (xs ++ ys)
   forward-joins {xs = xs} {ys = ys} h a b =
-      let same = one-cut (a .before ++ xs) (a .after) (b .before) (ys ++ b .after) h (cc (a .whole, append-assoc (a .before) xs (a .after))) (b .whole) (sym (a .to) ∙ b .from) in
+      let same = one-cut (a.before ++ xs) a.after b.before (ys ++ b.after) h (cc (a.whole, append_assoc a.before xs a.after)) b.whole (sym a.to ∙ b.from) in
       record {
-        before = a .before;
-        after = b .after;
-        whole = cc (a .whole, same .1, append-assoc xs ys (b .after));
-        from = a .from;
-        to = cc (b .to, same .0, append-assoc (a .before) xs ys);
+        before = a.before;
+        after = b.after;
+        whole = cc (a.whole, same.1, append_assoc xs ys b.after);
+        from = a.from;
+        to = cc (b.to, same.0, append_assoc a.before xs ys);
       }
 
   pub joins : (reverse : Bool) {p q t : ℕ} {xs ys : List Object} → AllAllowed os → Between os reverse p q xs → Between os reverse q t ys → Between os reverse p t (pick reverse (ys ++ xs) (xs ++ ys))
@@ -50,10 +50,10 @@ module _ {os : List Object} where
 
   -- a stretch is bounded on both sides
   forward-from : {p q : ℕ} {mid : List Object} → Between os false p q mid → Bound os p
-  forward-from {mid = mid} b = record { before = b .before; after = mid ++ b .after; whole = b .whole; place = sym (b .from) }
+  forward-from {mid = mid} b = record { before = b.before; after = mid ++ b.after; whole = b.whole; place = sym b.from }
 
   forward-to : {p q : ℕ} {mid : List Object} → Between os false p q mid → Bound os q
-  forward-to {mid = mid} b = record { before = b .before ++ mid; after = b .after; whole = rw append-assoc (b .whole); place = sym (b .to) }
+  forward-to {mid = mid} b = record { before = b.before ++ mid; after = b.after; whole = rw append_assoc b.whole; place = sym b.to }
 
   pub bound-to : (reverse : Bool) {p q : ℕ} {mid : List Object} → Between os reverse p q mid → Bound os q
   bound-to true b = forward-from (back-again b)
@@ -61,11 +61,11 @@ module _ {os : List Object} where
 
   -- nothing lies between a bound and itself
   forward-stays : {p : ℕ} → Bound os p → Between os false p p []
-  forward-stays b = record { before = b .before; after = b .after; whole = b .whole; from = sym (b .place); to = rw append-nil (sym (b .place)) }
+  forward-stays b = record { before = b.before; after = b.after; whole = b.whole; from = sym b.place; to = rw append-nil (sym b.place) }
 
   pub stays : (reverse : Bool) {p : ℕ} → Bound os p → Between os reverse p p []
   stays true b = backward (forward-stays b)
   stays false b = forward-stays b
 
   pub bound-below : {s : List ℕ} {e p : ℕ} → Holds s e os → Bound os p → p ≤ e
-  bound-below h b = omega (arith, blocks-append (b .before) (b .after), ap blocksOf (b .whole), b .place, h .ends)
+  bound-below h b = omega (arith, blocks-append b.before b.after, ap blocksOf b.whole, b.place, h.ends)

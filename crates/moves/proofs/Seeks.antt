@@ -1,14 +1,14 @@
 -- One turn of the search: what the object at p says of it.
 use mathlib.Core.Bool.{Bool}
 use mathlib.Core.List.{List}
-use mathlib.Core.Path.{_≡_}
-use Prim.Native.Nat.{ℕ, zero, suc, _-_, _<_, _≤_}
+use mathlib.Core.Path.{◌≡◌}
+use Prim.Native.Nat.{ℕ, zero, suc, ◌-◌, ◌<◌, ◌≤◌}
 use native.Mathlib.Omega.{arith}
-use Rattle·tape.specs.Pass.{passed}
-use Rattle·tape.specs.declared.Met.{Met}
-use Rattle·moves·specs.specs.Seeking.{soughtFrom, soughtFromUnder, soughtOn}
-use Rattle·moves·specs.specs.declared.seeking.Sought.{Sought}
-use Rattle·moves·specs.specs.declared.seeking.Sought.the-variants as sought-as
+use Rattle.tape.specs.Pass.{passed}
+use Rattle.tape.specs.declared.Met.{Met}
+use Rattle.moves.specs.Seeking.{soughtFrom, soughtFromUnder, soughtOn}
+use Rattle.moves.specs.declared.seeking.Sought.{Sought}
+use Rattle.moves.specs.declared.seeking.Sought.TheVariants as sought-as
 
 pub seek-turn : (turns : ℕ) (s : List ℕ) (reverse : Bool) (p e : ℕ) {m : Met} {r : Sought} → 0 < turns → m ≡ passed s reverse p e → r ≡ soughtOn m p (λ q. soughtFrom (turns - 1) s reverse q e) → r ≡ soughtFrom turns s reverse p e
 unfolding soughtFromUnder

@@ -1,23 +1,23 @@
 -- One turn of a space: the count has run out, or the turn over what was found says how it goes on.
 use mathlib.Core.Bool.{Bool, true, false}
 use mathlib.Core.List.{List}
-use mathlib.Core.Path.{_≡_, refl, sym, ap, _∙_}
-use Prim.Native.Nat.{ℕ, zero, suc, _-_, _<_, _≤_}
+use mathlib.Core.Path.{◌≡◌, refl, sym, ap, ◌∙◌}
+use Prim.Native.Nat.{ℕ, zero, suc, ◌-◌, ◌<◌, ◌≤◌}
 use native.Mathlib.Omega.{arith}
 use borrow.Author.Tests.{eqb-false}
 use lib.Dec.{eqb}
-use Rattle·signals.specs.declared.counts.MarkCount.{MarkCount}
-use Rattle·moves·specs.specs.Counting.{howMany}
-use Rattle·moves·specs.specs.Seeking.{sought}
-use Rattle·moves·specs.specs.Spacing.{markTurn, markTurnBy, skipTurn, spacedFrom, spacedFromUnder, spacedOn, stopped, turnOf}
-use Rattle·moves·specs.specs.declared.seeking.Sought.{Sought}
-use Rattle·moves·specs.specs.declared.spacing.Count.{Count}
-use Rattle·moves·specs.specs.declared.spacing.Count.the-variants as count-as
-use Rattle·moves·specs.specs.declared.spacing.Rule.{Rule}
-use Rattle·moves·specs.specs.declared.spacing.Spaced.{Spaced}
-use Rattle·moves·specs.specs.declared.spacing.Span.{Span}
-use Rattle·moves·specs.specs.declared.spacing.Stop.the-variants as stop-as
-use Rattle·moves·specs.specs.declared.spacing.Turn.{Turn}
+use Rattle.signals.specs.declared.counts.MarkCount.{MarkCount}
+use Rattle.moves.specs.Counting.{howMany}
+use Rattle.moves.specs.Seeking.{sought}
+use Rattle.moves.specs.Spacing.{markTurn, markTurnBy, skipTurn, spacedFrom, spacedFromUnder, spacedOn, stopped, turn_of}
+use Rattle.moves.specs.declared.seeking.Sought.{Sought}
+use Rattle.moves.specs.declared.spacing.Count.{Count}
+use Rattle.moves.specs.declared.spacing.Count.TheVariants as count-as
+use Rattle.moves.specs.declared.spacing.Rule.{Rule}
+use Rattle.moves.specs.declared.spacing.Spaced.{Spaced}
+use Rattle.moves.specs.declared.spacing.Span.{Span}
+use Rattle.moves.specs.declared.spacing.Stop.TheVariants as stop-as
+use Rattle.moves.specs.declared.spacing.Turn.{Turn}
 
 pub space-done : (turns : ℕ) (s : List ℕ) (r : Rule) (e : ℕ) (x : Span) → turns ≤ 0 → stopped stop-as.Count x ≡ spacedFrom turns s r e x
 unfolding spacedFromUnder
@@ -26,16 +26,16 @@ space-done turns s r e x h =
     rw z
 
 -- what the test of the count says, where it was made
-pub some-left : {none : Bool} (c : Count) → none ≡ eqb (howMany c) 0 → none ≡ false → 1 ≤ howMany c
-some-left c e w = omega (arith, eqb-false (howMany c) 0 (sym e ∙ w))
+pub some_left : {none : Bool} (c : Count) → none ≡ eqb (howMany c) 0 → none ≡ false → 1 ≤ howMany c
+some_left c e w = omega (arith, eqb-false (howMany c) 0 (sym e ∙ w))
 
-pub space-counted : (turns : ℕ) (s : List ℕ) (r : Rule) (e : ℕ) (x : Span) {none : Bool} → none ≡ eqb (howMany (x .left)) 0 → none ≡ true → stopped stop-as.Count x ≡ spacedFrom turns s r e x
+pub space-counted : (turns : ℕ) (s : List ℕ) (r : Rule) (e : ℕ) (x : Span) {none : Bool} → none ≡ eqb (howMany x.left) 0 → none ≡ true → stopped stop-as.Count x ≡ spacedFrom turns s r e x
 unfolding spacedFromUnder
 space-counted zero s r e x n w = refl
 space-counted (suc turns) s r e x n w = rw (← n, w)
 
-pub space-turn : (turns : ℕ) (s : List ℕ) (r : Rule) (e : ℕ) (x : Span) {none : Bool} {f : Sought} {t : Turn} {y : Spaced} → 0 < turns → none ≡ eqb (howMany (x .left)) 0 → none ≡ false
-    → f ≡ sought s (r .reverse) (x .position) e → t ≡ turnOf r x f → y ≡ spacedOn t (λ z. spacedFrom (turns - 1) s r e z) → y ≡ spacedFrom turns s r e x
+pub space-turn : (turns : ℕ) (s : List ℕ) (r : Rule) (e : ℕ) (x : Span) {none : Bool} {f : Sought} {t : Turn} {y : Spaced} → 0 < turns → none ≡ eqb (howMany x.left) 0 → none ≡ false
+    → f ≡ sought s r.reverse x.position e → t ≡ turn_of r x f → y ≡ spacedOn t (λ z. spacedFrom (turns - 1) s r e z) → y ≡ spacedFrom turns s r e x
 unfolding spacedFromUnder
 space-turn zero s r e x h n w f t l = absurd (omega arith)
 space-turn (suc turns) s r e x h n w f t l =
@@ -43,6 +43,6 @@ space-turn (suc turns) s r e x h n w f t l =
     rw (← n, w, ← f, ← t, ← z) l
 
 -- a mark where marks are counted
-pub mark-skips : (r : Rule) (x : Span) (q : ℕ) {n : MarkCount} {t : Turn} → x .left ≡ count-as.Marks n → t ≡ skipTurn r x n q → t ≡ markTurn r x q
+pub mark-skips : (r : Rule) (x : Span) (q : ℕ) {n : MarkCount} {t : Turn} → x.left ≡ count-as.Marks n → t ≡ skipTurn r x n q → t ≡ markTurn r x q
 unfolding markTurn markTurnBy
 mark-skips r x q e f = f ∙ ap (λ c. markTurnBy r x c q) (sym e)

@@ -1,29 +1,29 @@
 -- One turn of a space: what is said of it, the cases of a mark, and that it goes on counting what it counted.
-use mathlib.Core.Bool.{Bool, true, false, _&&_}
+use mathlib.Core.Bool.{Bool, true, false, ◌&&◌}
 use mathlib.Core.List.{List}
-use mathlib.Core.Path.{_≡_, refl, sym, ap, _∙_}
-use Prim.Native.Nat.{ℕ, _-_}
-use Rattle·lists.specs.Pick.{pick}
-use Rattle·signals.specs.declared.counts.MarkCount.{MarkCount}
-use Rattle·signals.specs.declared.counts.RecordCount.{RecordCount}
-use Rattle·moves·specs.specs.Counting.{marks, ofMarks}
-use Rattle·moves·specs.specs.Seeking.{sought}
-use Rattle·moves·specs.specs.Spacing.{markTurn, markTurnBy, recordTurn, skipTurn, span, stopped, turnOf}
-use Rattle·moves·specs.specs.declared.seeking.Sought.{Sought}
-use Rattle·moves·specs.specs.declared.seeking.Sought.the-variants as sought-as
-use Rattle·moves·specs.specs.declared.spacing.Count.{Count}
-use Rattle·moves·specs.specs.declared.spacing.Count.the-variants as count-as
-use Rattle·moves·specs.specs.declared.spacing.Rule.{Rule}
-use Rattle·moves·specs.specs.declared.spacing.Spaced.{Spaced}
-use Rattle·moves·specs.specs.declared.spacing.Span.{Span}
-use Rattle·moves·specs.specs.declared.spacing.Stop.the-variants as stop-as
-use Rattle·moves·specs.specs.declared.spacing.Turn.{Turn}
-use Rattle·moves·specs.specs.declared.spacing.Turn.the-variants as turn-as
-use Rattle·moves·proofs.proofs.Counting.{record-kind}
+use mathlib.Core.Path.{◌≡◌, refl, sym, ap, ◌∙◌}
+use Prim.Native.Nat.{ℕ, ◌-◌}
+use Rattle.lists.specs.Pick.{pick}
+use Rattle.signals.specs.declared.counts.MarkCount.{MarkCount}
+use Rattle.signals.specs.declared.counts.RecordCount.{RecordCount}
+use Rattle.moves.specs.Counting.{marks, ofMarks}
+use Rattle.moves.specs.Seeking.{sought}
+use Rattle.moves.specs.Spacing.{markTurn, markTurnBy, recordTurn, skipTurn, span, stopped, turn_of}
+use Rattle.moves.specs.declared.seeking.Sought.{Sought}
+use Rattle.moves.specs.declared.seeking.Sought.TheVariants as sought-as
+use Rattle.moves.specs.declared.spacing.Count.{Count}
+use Rattle.moves.specs.declared.spacing.Count.TheVariants as count-as
+use Rattle.moves.specs.declared.spacing.Rule.{Rule}
+use Rattle.moves.specs.declared.spacing.Spaced.{Spaced}
+use Rattle.moves.specs.declared.spacing.Span.{Span}
+use Rattle.moves.specs.declared.spacing.Stop.TheVariants as stop-as
+use Rattle.moves.specs.declared.spacing.Turn.{Turn}
+use Rattle.moves.specs.declared.spacing.Turn.TheVariants as turn-as
+use Rattle.moves.proofs.Counting.{record-kind}
 
 -- the turn that a space makes from y
 abbrev pub turnAt : List ℕ → Rule → ℕ → Span → Turn
-turnAt s r e y = turnOf r y (sought s (r .reverse) (y .position) e)
+turnAt s r e y = turn_of r y (sought s r.reverse y.position e)
 
 -- one thing of a turn that goes on, and one of the last
 abbrev pub TurnHas : (Span → Type 0) → (Spaced → Type 0) → Turn → Type 0
@@ -32,39 +32,39 @@ TurnHas P Q (turn-as.Over z) = Q z
 
 -- one thing of the span either way
 abbrev pub SpanHas : (Span → Type 0) → Turn → Type 0
-SpanHas P t = TurnHas P (λ z. P (z .span)) t
+SpanHas P t = TurnHas P (λ z. P z.span) t
 
-pub turn-more : (P P′ : Span → Type 0) (Q Q′ : Spaced → Type 0) → ((z : Span) → P z → P′ z) → ((z : Spaced) → Q z → Q′ z) → (t : Turn) → TurnHas P Q t → TurnHas P′ Q′ t
-turn-more P P′ Q Q′ f g (turn-as.On y) h = f y h
-turn-more P P′ Q Q′ f g (turn-as.Over z) h = g z h
+pub turn_more : (P P' : Span → Type 0) (Q Q' : Spaced → Type 0) → ((z : Span) → P z → P' z) → ((z : Spaced) → Q z → Q' z) → (t : Turn) → TurnHas P Q t → TurnHas P' Q' t
+turn_more P P' Q Q' f g (turn-as.On y) h = f y h
+turn_more P P' Q Q' f g (turn-as.Over z) h = g z h
 
 -- the three things that a mark can come to from the span x
 module _ (P : Turn → Type 0) (r : Rule) (x : Span) (q : ℕ)
-    (by-mark : (n : RecordCount) → x .left ≡ count-as.Records n → P (turn-as.Over (stopped stop-as.Mark (span q (count-as.Records n) true true))))
-    (at-end : (n : MarkCount) → x .left ≡ count-as.Marks n → (r .ess && x .«after_mark») ≡ true → P (turn-as.Over (stopped stop-as.LogicalEnd (span q (marks (n .0 - 1)) true true))))
-    (goes-on : (n : MarkCount) → x .left ≡ count-as.Marks n → (r .ess && x .«after_mark») ≡ false → P (turn-as.On (span q (marks (n .0 - 1)) true true))) where
-  skip-by : (n : MarkCount) → x .left ≡ count-as.Marks n → (b : Bool) → (r .ess && x .«after_mark») ≡ b
-      → P (pick b (turn-as.Over (stopped stop-as.LogicalEnd (span q (marks (n .0 - 1)) true true))) (turn-as.On (span q (marks (n .0 - 1)) true true)))
-  skip-by n e true w = at-end n e w
-  skip-by n e false w = goes-on n e w
+    (by-mark : (n : RecordCount) → x.left ≡ count-as.Records n → P (turn-as.Over (stopped stop-as.Mark (span q (count-as.Records n) true true))))
+    (at-end : (n : MarkCount) → x.left ≡ count-as.Marks n → (r.ess && x.after_mark) ≡ true → P (turn-as.Over (stopped stop-as.LogicalEnd (span q (marks (n.0 - 1)) true true))))
+    (goes_on : (n : MarkCount) → x.left ≡ count-as.Marks n → (r.ess && x.after_mark) ≡ false → P (turn-as.On (span q (marks (n.0 - 1)) true true))) where
+  skip_by : (n : MarkCount) → x.left ≡ count-as.Marks n → (b : Bool) → (r.ess && x.after_mark) ≡ b
+      → P (pick b (turn-as.Over (stopped stop-as.LogicalEnd (span q (marks (n.0 - 1)) true true))) (turn-as.On (span q (marks (n.0 - 1)) true true)))
+  skip_by n e true w = at-end n e w
+  skip_by n e false w = goes_on n e w
 
-  mark-by : (c : Count) → x .left ≡ c → P (markTurnBy r x c q)
+  mark-by : (c : Count) → x.left ≡ c → P (markTurnBy r x c q)
   unfolding markTurnBy skipTurn
   mark-by (count-as.Records n) e = by-mark n e
-  mark-by (count-as.Marks n) e = skip-by n e (r .ess && x .«after_mark») refl
+  mark-by (count-as.Marks n) e = skip_by n e (r.ess && x.after_mark) refl
 
   pub mark-turns : P (markTurn r x q)
   unfolding markTurn
-  mark-turns = mark-by (x .left) refl
+  mark-turns = mark-by x.left refl
 
 -- it counts marks, or records
 abbrev pub Counts : Bool → Span → Type 0
-Counts marks y = ofMarks (y .left) ≡ marks
+Counts marks y = ofMarks y.left ≡ marks
 
 -- a space over records never becomes a skip over marks, nor a skip a space
-pub turn-kind : (marks : Bool) (r : Rule) (y : Span) (f : Sought) → Counts marks y → SpanHas (Counts marks) (turnOf r y f)
-unfolding turnOf recordTurn
-turn-kind marks r y (sought-as.Record n q) k = record-kind (y .left) ∙ k
+pub turn-kind : (marks : Bool) (r : Rule) (y : Span) (f : Sought) → Counts marks y → SpanHas (Counts marks) (turn_of r y f)
+unfolding turn_of recordTurn
+turn-kind marks r y (sought-as.Record n q) k = record-kind y.left ∙ k
 turn-kind marks r y (sought-as.Mark q) k =
     mark-turns (SpanHas (Counts marks)) r y q (λ n e. ap ofMarks (sym e) ∙ k) (λ n e w. ap ofMarks (sym e) ∙ k) (λ n e w. ap ofMarks (sym e) ∙ k)
 turn-kind marks r y (sought-as.Nothing q) k = k

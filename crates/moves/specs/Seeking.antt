@@ -1,13 +1,11 @@
 -- "Gaps are passed over." (01, Commands): the next record or mark from position p, either way.
-use mathlib.Core.Bool.{Bool}
-use mathlib.Core.List.{List}
-use Prim.Native.Nat.{ℕ, suc}
-use Rattle·tape.specs.Numbers.{recordLimit}
-use Rattle·tape.specs.Pass.{passedUnder}
-use Rattle·tape.specs.declared.Met.{Met}
-use Rattle·tape.specs.declared.Met.the-variants as met
-use Rattle·moves·specs.specs.declared.seeking.Sought.{Sought}
-use Rattle·moves·specs.specs.declared.seeking.Sought.the-variants as sought-as
+use Rattle.std.specs.Prelude.{Bool, List, ℕ, suc}
+use Rattle.tape.specs.Numbers.{recordLimit}
+use Rattle.tape.specs.Pass.{passedUnder}
+use Rattle.tape.specs.declared.Met.{Met}
+use Rattle.tape.specs.declared.Met.TheVariants as met
+use Rattle.moves.specs.declared.seeking.Sought.{Sought}
+use Rattle.moves.specs.declared.seeking.Sought.TheVariants as sought-as
 
 -- what meeting an object at p says of the search; `onward` goes on behind a gap
 unfoldable pub soughtOn : Met → ℕ → (ℕ → Sought) → Sought

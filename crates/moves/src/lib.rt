@@ -2,13 +2,5 @@
 mod seeking;
 mod spacing;
 
-pub use seeking::Sought;
-pub use seeking::seek;
-pub use spacing::Count;
-pub use spacing::Rule;
-pub use spacing::Spaced;
-pub use spacing::Span;
-pub use spacing::Stop;
-pub use spacing::Turn;
-pub use spacing::none_left;
-pub use spacing::space;
+pub use seeking::{Sought, seek};
+pub use spacing::{Count, Rule, Spaced, Span, Stop, Turn, none_left, space};

@@ -1,10 +1,11 @@
 // Gaps are passed over: the next record or mark, either way.
-use tape::BlockFault;
-use tape::Met;
-ghost use mathlib.Core.Path.{_≡_};
-ghost use Rattle·moves·specs.specs.Seeking.{sought};
+ghost use Rattle.std.specs.Prelude.{◌≡◌};
+ghost use Rattle.moves.specs.Seeking.{sought};
+
+use tape::{BlockFault, Met};
 
 // What was found, and the position beyond it; where nothing is left, the position there.
+#[derive(Drop)]
 pub enum Sought {
     Record(usize, usize),
     Mark(usize),
@@ -14,7 +15,7 @@ pub enum Sought {
 
 // Each gap takes a block, so e turns are enough from a position up to e.
 pub fn seek(reel: &[u8], reverse: bool, p: usize, e: usize) -> Sought
-    ensures { λ r. ⌜ r ≡ sought (now (reel .entry)) reverse p e ⌝ }
+    ensures { result ≡ sought reel.now reverse p e }
 {
     let mut at = p;
     let mut turns = e;

@@ -1,28 +1,28 @@
 // Spacing over a count of records, or skipping a count of marks.
-use crate::seeking::Sought;
-use crate::seeking::seek;
-use signals::MarkCount;
-use signals::RecordCount;
+ghost use Rattle.std.specs.Prelude.{◌≡◌, ◌<◌, ◌≤◌, eqb};
+ghost use Rattle.moves.specs.Counting.{afterRecord, howMany};
+ghost use Rattle.moves.specs.Spacing.{markTurn, recordTurn, skipTurn, spaced, turn_of};
+
+use crate::seeking::{Sought, seek};
+use signals::{MarkCount, RecordCount};
 use tape::BlockFault;
-ghost use mathlib.Core.Path.{_≡_};
-ghost use Prim.Native.Nat.{_<_, _≤_};
-ghost use lib.Dec.{eqb};
-ghost use Rattle·moves·specs.specs.Counting.{afterRecord, howMany};
-ghost use Rattle·moves·specs.specs.Spacing.{markTurn, recordTurn, skipTurn, spaced, turnOf};
 
 // What a Position counts, and how many of it. A space over records never becomes a skip over marks on its way.
+#[derive(Drop)]
 pub enum Count {
     Records(RecordCount),
     Marks(MarkCount),
 }
 
 // Which way, and whether two marks in a row end it (ESS).
+#[derive(Drop)]
 pub struct Rule {
     pub reverse: bool,
     pub ess: bool,
 }
 
 // How far it came: the count that is left, whether a mark was passed, and whether the last object passed was a mark.
+#[derive(Drop)]
 pub struct Span {
     pub position: usize,
     pub left: Count,
@@ -31,6 +31,7 @@ pub struct Span {
 }
 
 // Why it stopped.
+#[derive(Drop)]
 pub enum Stop {
     Count,
     Mark,
@@ -39,11 +40,13 @@ pub enum Stop {
     Bad(BlockFault, usize),
 }
 
+#[derive(Drop)]
 pub struct Spaced {
     pub span: Span,
     pub stop: Stop,
 }
 
+#[derive(Drop)]
 pub enum Turn {
     On(Span),
     Over(Spaced),
@@ -51,7 +54,7 @@ pub enum Turn {
 
 // Is all of it done?
 pub fn none_left(c: Count) -> bool
-    ensures { λ r. ⌜ r ≡ eqb (howMany c) 0 ⌝ }
+    ensures { result ≡ eqb (howMany c) 0 }
 {
     match c {
         Count::Records(n) => n.0 == 0,
@@ -61,8 +64,8 @@ pub fn none_left(c: Count) -> bool
 
 // A record is counted, unless marks are.
 fn after_record(c: Count) -> Count
-    requires { ⌜ 1 ≤ howMany c ⌝ }
-    ensures { λ r. ⌜ r ≡ afterRecord c ⌝ }
+    requires { 1 ≤ howMany c }
+    ensures { result ≡ afterRecord c }
 {
     match c {
         Count::Records(n) => Count::Records(RecordCount(n.0 - 1)),
@@ -71,8 +74,8 @@ fn after_record(c: Count) -> Count
 }
 
 fn record_turn(s: Span, q: usize) -> Turn
-    requires { ⌜ 1 ≤ howMany (s .left) ⌝ }
-    ensures { λ t. ⌜ t ≡ recordTurn s q ⌝ }
+    requires { 1 ≤ howMany s.left }
+    ensures { result ≡ recordTurn s q }
 {
     let c = s.left;
     let left = after_record(c);
@@ -86,8 +89,8 @@ fn record_turn(s: Span, q: usize) -> Turn
 
 // Of marks a mark is counted, and ends the command where the one before was a mark too.
 fn skip_turn(r: Rule, s: Span, n: MarkCount, q: usize) -> Turn
-    requires { ⌜ 1 ≤ n .0 ⌝ }
-    ensures { λ t. ⌜ t ≡ skipTurn r s n q ⌝ }
+    requires { 1 ≤ n.0 }
+    ensures { result ≡ skipTurn r s n q }
 {
     let counted = Span {
         position: q,
@@ -106,8 +109,8 @@ fn skip_turn(r: Rule, s: Span, n: MarkCount, q: usize) -> Turn
 
 // A mark stops records and isn't counted.
 fn mark_turn(r: Rule, s: Span, q: usize) -> Turn
-    requires { ⌜ 1 ≤ howMany (s .left) ⌝ }
-    ensures { λ t. ⌜ t ≡ markTurn r s q ⌝ }
+    requires { 1 ≤ howMany s.left }
+    ensures { result ≡ markTurn r s q }
 {
     let c = s.left;
     match c {
@@ -125,8 +128,8 @@ fn mark_turn(r: Rule, s: Span, q: usize) -> Turn
 }
 
 fn turn_over(r: Rule, s: Span, f: Sought) -> Turn
-    requires { ⌜ 1 ≤ howMany (s .left) ⌝ }
-    ensures { λ t. ⌜ t ≡ turnOf r s f ⌝ }
+    requires { 1 ≤ howMany s.left }
+    ensures { result ≡ turn_of r s f }
 {
     match f {
         Sought::Record(_, q) => record_turn(s, q),
@@ -153,8 +156,8 @@ fn turn_over(r: Rule, s: Span, f: Sought) -> Turn
 
 // Each turn passes a block or more, so a turn for each block and one more are enough.
 pub fn space(reel: &[u8], r: Rule, e: usize, from: Span) -> Spaced
-    requires { ⌜ e < 18446744073709551615 ⌝ }
-    ensures { λ x. ⌜ x ≡ spaced (now (reel .entry)) r e from ⌝ }
+    requires { e < 18446744073709551615 }
+    ensures { result ≡ spaced reel.now r e from }
 {
     let mut s = from;
     let mut turns = e + 1;

@@ -1,26 +1,26 @@
 -- A transport and its record are one another's: the transport comes back from its record, and a record's numbers are those of the transport that it is read as.
-use mathlib.Core.Path.{_≡_, refl, sym, ap, _∙_}
-use mathlib.Core.Bool.{Bool, true, false, _&&_, not, true≢false}
-use mathlib.Core.List.{List, [], _∷_}
-use Prim.Native.Nat.{ℕ, zero, suc, _%_, _<_}
+use mathlib.Core.Path.{◌≡◌, refl, sym, ap, ◌∙◌}
+use mathlib.Core.Bool.{Bool, true, false, ◌&&◌, not, true≢false}
+use mathlib.Core.List.{List, [], ◌∷◌}
+use Prim.Native.Nat.{ℕ, zero, suc, ◌%◌, ◌<◌}
 use native.Mathlib.Omega.{arith}
 use borrow.Author.Tests.{ltb-true}
 use lib.Dec.{eqb, ltb}
-use lib.ListN.{getD, length}
-use Rattle·lists.specs.Fours.{numberLimit}
-use Rattle·entries.specs.Numbers.{bitOf, isSet, nth}
-use Rattle·worlds.specs.declared.Transport.{Transport}
-use Rattle·records·specs.specs.Records.{SmallTransport, isRecord, numbersOf, recordCount, transportIn}
+use lib.ListN.{get_or, length}
+use Rattle.lists.specs.Fours.{numberLimit}
+use Rattle.entries.specs.Numbers.{bit_of, is_set, nth}
+use Rattle.worlds.specs.declared.Transport.{Transport}
+use Rattle.records.specs.Records.{SmallTransport, isRecord, numbersOf, recordCount, transportIn}
 
 -- a number of four bytes, and a bit
 pub low : (x : ℕ) → x < numberLimit → x % numberLimit ≡ x
 low x h = omega arith
 
-told : (b : Bool) → not (eqb (bitOf b) 0) ≡ b
+told : (b : Bool) → not (eqb (bit_of b) 0) ≡ b
 told true = refl
 told false = refl
 
-a-flag : (b : Bool) → ltb (bitOf b) 2 ≡ true
+a-flag : (b : Bool) → ltb (bit_of b) 2 ≡ true
 a-flag true = refl
 a-flag false = refl
 
@@ -32,35 +32,35 @@ length-record t = refl
 pub transport-back : (t : Transport) → SmallTransport t → transportIn (numbersOf t) ≡ t
 unfolding numbersOf transportIn
 transport-back t h =
-    let r = t .registers in
-    let p = t .panel in
-    let a = t .attention in
-    let k = t .characteristics in
+    let r = t.registers in
+    let p = t.panel in
+    let a = t.attention in
+    let k = t.characteristics in
     rw (
-      low _ (h .position),
-      low _ (h .end),
-      low _ (h .pointer),
-      low _ (h .class),
-      told (r .rmr),
-      told (r .nxm),
-      told (r .nba),
-      told (r .ssr),
-      told (p .online),
-      told (p .locked),
-      told (p .vck),
-      told (a .«unit_owns»),
-      told (a .pending),
-      told (a .«release_ie»),
-      told (k .eai),
-      told (k .ess),
-      told (k .enb),
-      low _ (h .blocks),
-      low _ (h .objects),
+      low _ h.position,
+      low _ h.end,
+      low _ h.pointer,
+      low _ h.class,
+      told r.rmr,
+      told r.nxm,
+      told r.nba,
+      told r.ssr,
+      told p.online,
+      told p.locked,
+      told p.vck,
+      told a.unit_owns,
+      told a.pending,
+      told a.release_ie,
+      told k.eai,
+      told k.ess,
+      told k.enb,
+      low _ h.blocks,
+      low _ h.objects,
     )
 
-pub record-is : (t : Transport) → isRecord (numbersOf t) ≡ true
+pub record_is : (t : Transport) → isRecord (numbersOf t) ≡ true
 unfolding isRecord numbersOf
-record-is t = simp a-flag
+record_is t = simp a-flag
 
 -- what numbers of four bytes are read as has numbers of at most four bytes
 pub small-in : (n : List ℕ) → ((i : ℕ) → nth n i < numberLimit) → SmallTransport (transportIn n)
@@ -84,9 +84,9 @@ shifted : (g : ℕ → ℕ) (i k : ℕ) → elements g (suc i) k ≡ elements (�
 shifted g i zero = refl
 shifted g i (suc k) = ap (λ (x : List ℕ). g (suc i) ∷ x) (shifted g (suc i) k)
 
-pub all-elements : (n : List ℕ) → elements (λ i. getD n i 0) 0 (length n) ≡ n
+pub all-elements : (n : List ℕ) → elements (λ i. get_or n i 0) 0 (length n) ≡ n
 all-elements [] = refl
-all-elements (x ∷ n) = ap (λ (y : List ℕ). x ∷ y) (shifted (λ i. getD (x ∷ n) i 0) 0 (length n) ∙ all-elements n)
+all-elements (x ∷ n) = ap (λ (y : List ℕ). x ∷ y) (shifted (λ i. get_or (x ∷ n) i 0) 0 (length n) ∙ all-elements n)
 
 -- the tests of a record, each by itself
 both : (a b : Bool) → (a && b) ≡ true → (a ≡ true) × (b ≡ true)
@@ -96,8 +96,8 @@ both false b h = absurd (true≢false (sym h))
 three : (a b c : Bool) → (a && (b && c)) ≡ true → (a ≡ true) × (b ≡ true) × (c ≡ true)
 three a b c h =
     let p = both a (b && c) h in
-    let q = both b c (p .1) in
-    (p .0, q .0, q .1)
+    let q = both b c p.1 in
+    (p.0, q.0, q.1)
 
 abbrev Flag : List ℕ → ℕ → Type 0
 Flag n i = ltb (nth n i) 2 ≡ true
@@ -117,18 +117,18 @@ flags-told n h =
     let c : Bool = f 11 && (f 12 && f 13) in
     let d : Bool = f 16 && (f 17 && f 18) in
     let p = three a b (c && d) h in
-    let q = both c d (p .2) in
-    let s = both (f 4) (f 5 && (f 6 && f 7)) (p .0) in
-    let t = three (f 5) (f 6) (f 7) (s .1) in
+    let q = both c d p.2 in
+    let s = both (f 4) (f 5 && (f 6 && f 7)) p.0 in
+    let t = three (f 5) (f 6) (f 7) s.1 in
     record {
-      registers = (s .0, t .0, t .1, t .2);
-      panel = three (f 8) (f 9) (f 10) (p .1);
-      attention = three (f 11) (f 12) (f 13) (q .0);
-      characteristics = three (f 16) (f 17) (f 18) (q .1);
+      registers = (s.0, t.0, t.1, t.2);
+      panel = three (f 8) (f 9) (f 10) p.1;
+      attention = three (f 11) (f 12) (f 13) q.0;
+      characteristics = three (f 16) (f 17) (f 18) q.1;
     }
 
 -- a flag is 0 or 1
-flag-back : (n : ℕ) → ltb n 2 ≡ true → bitOf (not (eqb n 0)) ≡ n
+flag-back : (n : ℕ) → ltb n 2 ≡ true → bit_of (not (eqb n 0)) ≡ n
 flag-back zero t = refl
 flag-back (suc zero) t = refl
 flag-back (suc (suc n)) t = absurd (omega (arith, ltb-true (suc (suc n)) 2 t))
@@ -137,19 +137,19 @@ module _ (n : List ℕ) (small : (i : ℕ) → nth n i < numberLimit) where
   number : (k : ℕ) → nth n k % numberLimit ≡ nth n k
   number k = low (nth n k) (small k)
 
-  flag : (k : ℕ) → Flag n k → bitOf (isSet n k) ≡ nth n k
+  flag : (k : ℕ) → Flag n k → bit_of (is_set n k) ≡ nth n k
   flag k t = flag-back (nth n k) t
 
   each-own : Flags n → numbersOf (transportIn n) ≡ elements (nth n) 0 recordCount
   unfolding numbersOf transportIn
   each-own f =
-      let a = f .registers in
-      let b = f .panel in
-      let c = f .attention in
-      let d = f .characteristics in
-      λ i. number 0 i ∷ number 1 i ∷ number 2 i ∷ number 3 i ∷ flag 4 (a .0) i ∷ flag 5 (a .1) i ∷ flag 6 (a .2) i ∷ flag 7 (a .3) i
-      ∷ flag 8 (b .0) i ∷ flag 9 (b .1) i ∷ flag 10 (b .2) i ∷ flag 11 (c .0) i ∷ flag 12 (c .1) i ∷ flag 13 (c .2) i
-      ∷ nth n 14 ∷ nth n 15 ∷ flag 16 (d .0) i ∷ flag 17 (d .1) i ∷ flag 18 (d .2) i ∷ number 19 i ∷ number 20 i ∷ []
+      let a = f.registers in
+      let b = f.panel in
+      let c = f.attention in
+      let d = f.characteristics in
+      λ i. number 0 i ∷ number 1 i ∷ number 2 i ∷ number 3 i ∷ flag 4 a.0 i ∷ flag 5 a.1 i ∷ flag 6 a.2 i ∷ flag 7 a.3 i
+      ∷ flag 8 b.0 i ∷ flag 9 b.1 i ∷ flag 10 b.2 i ∷ flag 11 c.0 i ∷ flag 12 c.1 i ∷ flag 13 c.2 i
+      ∷ nth n 14 ∷ nth n 15 ∷ flag 16 d.0 i ∷ flag 17 d.1 i ∷ flag 18 d.2 i ∷ number 19 i ∷ number 20 i ∷ []
 
   -- a record's numbers are those of the transport that it is read as
   pub record-own : isRecord n ≡ true → length n ≡ recordCount → numbersOf (transportIn n) ≡ n

@@ -1,35 +1,32 @@
 -- A unit's record in the row: 21 numbers of four bytes, one for each field of a transport. (02, [9]: "A row of up to four unit records")
-use mathlib.Core.Bool.{Bool, _&&_}
-use mathlib.Core.List.{List, [], _∷_}
-use Prim.Native.Nat.{ℕ, _%_, _<_}
-use lib.Dec.{ltb}
-use Rattle·lists.specs.Fours.{numberLimit}
-use Rattle·entries.specs.Numbers.{bitOf, isSet, nth}
-use Rattle·worlds.specs.declared.Transport.{Transport}
+use Rattle.std.specs.Prelude.{Bool, ◌&&◌, List, [], ◌∷◌, ℕ, ◌%◌, ◌<◌, ltb}
+use Rattle.lists.specs.Fours.{numberLimit}
+use Rattle.entries.specs.Numbers.{bit_of, is_set, nth}
+use Rattle.worlds.specs.declared.Transport.{Transport}
 
 abbrev pub recordCount : ℕ
 recordCount = 21
 
 unfoldable pub numbersOf : Transport → List ℕ
 numbersOf t =
-    t .tape .position % numberLimit ∷ t .tape .end % numberLimit ∷ t .registers .pointer % numberLimit ∷ t .registers .class % numberLimit
-    ∷ bitOf (t .registers .rmr)
-    ∷ bitOf (t .registers .nxm)
-    ∷ bitOf (t .registers .nba)
-    ∷ bitOf (t .registers .ssr)
-    ∷ bitOf (t .panel .online)
-    ∷ bitOf (t .panel .locked)
-    ∷ bitOf (t .panel .vck)
-    ∷ bitOf (t .attention .«unit_owns»)
-    ∷ bitOf (t .attention .pending)
-    ∷ bitOf (t .attention .«release_ie»)
-    ∷ t .characteristics .address
-    ∷ t .characteristics .length
-    ∷ bitOf (t .characteristics .eai)
-    ∷ bitOf (t .characteristics .ess)
-    ∷ bitOf (t .characteristics .enb)
-    ∷ t .blocks % numberLimit
-    ∷ t .objects % numberLimit
+    t.tape.position % numberLimit ∷ t.tape.end % numberLimit ∷ t.registers.pointer % numberLimit ∷ t.registers.class % numberLimit
+    ∷ bit_of t.registers.rmr
+    ∷ bit_of t.registers.nxm
+    ∷ bit_of t.registers.nba
+    ∷ bit_of t.registers.ssr
+    ∷ bit_of t.panel.online
+    ∷ bit_of t.panel.locked
+    ∷ bit_of t.panel.vck
+    ∷ bit_of t.attention.unit_owns
+    ∷ bit_of t.attention.pending
+    ∷ bit_of t.attention.release_ie
+    ∷ t.characteristics.address
+    ∷ t.characteristics.length
+    ∷ bit_of t.characteristics.eai
+    ∷ bit_of t.characteristics.ess
+    ∷ bit_of t.characteristics.enb
+    ∷ t.blocks % numberLimit
+    ∷ t.objects % numberLimit
     ∷ []
 
 -- the transport that a record is read as, whatever its numbers
@@ -41,15 +38,15 @@ transportIn n =
           record {
             pointer = nth n 2;
             class = nth n 3;
-            rmr = isSet n 4;
-            nxm = isSet n 5;
-            nba = isSet n 6;
-            ssr = isSet n 7;
+            rmr = is_set n 4;
+            nxm = is_set n 5;
+            nba = is_set n 6;
+            ssr = is_set n 7;
           };
-      panel = record { online = isSet n 8; locked = isSet n 9; vck = isSet n 10 };
-      attention = record { «unit_owns» = isSet n 11; pending = isSet n 12; «release_ie» = isSet n 13 };
+      panel = record { online = is_set n 8; locked = is_set n 9; vck = is_set n 10 };
+      attention = record { unit_owns = is_set n 11; pending = is_set n 12; release_ie = is_set n 13 };
       characteristics =
-          record { address = nth n 14; length = nth n 15; eai = isSet n 16; ess = isSet n 17; enb = isSet n 18 };
+          record { address = nth n 14; length = nth n 15; eai = is_set n 16; ess = is_set n 17; enb = is_set n 18 };
       blocks = nth n 19;
       objects = nth n 20;
     }
@@ -57,7 +54,7 @@ transportIn n =
 abbrev flag : List ℕ → ℕ → Bool
 flag n i = ltb (nth n i) 2
 
--- the numbers are some transport's record: the laws `record-own` and `record-is` say that this is so exactly when they are the record of what they are read as
+-- the numbers are some transport's record: the laws `record-own` and `record_is` say that this is so exactly when they are the record of what they are read as
 unfoldable pub isRecord : List ℕ → Bool
 isRecord n =
     (flag n 4 && (flag n 5 && (flag n 6 && flag n 7)))
@@ -66,9 +63,9 @@ isRecord n =
 
 -- every number of the transport that its type lets be larger has at most four bytes
 pub record SmallTransport (t : Transport) : Type 0 where
-  pub position : t .tape .position < numberLimit
-  pub end : t .tape .end < numberLimit
-  pub pointer : t .registers .pointer < numberLimit
-  pub class : t .registers .class < numberLimit
-  pub blocks : t .blocks < numberLimit
-  pub objects : t .objects < numberLimit
+  pub position : t.tape.position < numberLimit
+  pub end : t.tape.end < numberLimit
+  pub pointer : t.registers.pointer < numberLimit
+  pub class : t.registers.class < numberLimit
+  pub blocks : t.blocks < numberLimit
+  pub objects : t.objects < numberLimit

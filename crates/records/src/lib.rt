@@ -2,9 +2,5 @@
 mod records;
 mod shares;
 
-pub use records::UnitRecord;
-pub use records::record_of;
-pub use records::record_right;
-pub use records::transport_in;
-pub use shares::coupler_in;
-pub use shares::put_coupler;
+pub use records::{UnitRecord, record_of, record_right, transport_in};
+pub use shares::{coupler_in, put_coupler};

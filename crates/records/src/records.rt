@@ -1,34 +1,31 @@
 // A unit's record: 21 numbers, one for each field of a transport. A transport has one record, and a record whose flags are not 0 or 1 is no transport's.
-use state::Attention;
-use state::Characteristics;
-use state::Panel;
-use state::Registers;
-use state::Tape;
+ghost use Rattle.std.specs.Prelude.{◌≡◌, ◌%◌};
+ghost use Rattle.entries.specs.Numbers.{bit_of};
+ghost use Rattle.records.specs.Records.{isRecord, numbersOf, transportIn};
+
+use state::{Attention, Characteristics, Panel, Registers, Tape};
 use worlds::Transport;
-ghost use mathlib.Core.Path.{_≡_};
-ghost use Prim.Native.Nat.{_%_};
-ghost use Rattle·entries.specs.Numbers.{bitOf};
-ghost use Rattle·records·specs.specs.Records.{isRecord, numbersOf, transportIn};
 
 #[repr(C)]
+#[derive(Drop)]
 pub struct UnitRecord {
     pub numbers: [u32; 21],
 }
 
 fn low(x: usize) -> u32
-    ensures { λ r. ⌜ r ≡ x % 4294967296 ⌝ }
+    ensures { result ≡ x % 4294967296 }
 {
     (x % 4294967296) as u32
 }
 
 fn bit_of(b: bool) -> u32
-    ensures { λ r. ⌜ r ≡ bitOf b ⌝ }
+    ensures { result ≡ bit_of b }
 {
     if b { 1 } else { 0 }
 }
 
 pub fn record_of(t: Transport) -> UnitRecord
-    ensures { λ r. ⌜ r .numbers ≡ numbersOf t ⌝ }
+    ensures { result.numbers ≡ numbersOf t }
 {
     let numbers = [
         low(t.tape.position),
@@ -58,7 +55,7 @@ pub fn record_of(t: Transport) -> UnitRecord
 
 // What a record is read as; every record is read as some transport.
 pub fn transport_in(r: UnitRecord) -> Transport
-    ensures { λ x. ⌜ x ≡ transportIn (r .numbers) ⌝ }
+    ensures { result ≡ transportIn r.numbers }
 {
     let n = r.numbers;
     let tape = Tape {
@@ -103,7 +100,7 @@ pub fn transport_in(r: UnitRecord) -> Transport
 
 // Whether the flags are 0 or 1: then the numbers are the record of what they are read as.
 pub fn record_right(r: UnitRecord) -> bool
-    ensures { λ x. ⌜ x ≡ isRecord (r .numbers) ⌝ }
+    ensures { result ≡ isRecord r.numbers }
 {
     let n = r.numbers;
     let registers = (n[4] < 2) & ((n[5] < 2) & ((n[6] < 2) & (n[7] < 2)));

@@ -1,18 +1,18 @@
 // What the units share: three numbers, the used journal and the last mount's lengths of memory and journal.
+ghost use Rattle.std.specs.Prelude.{◌≡◌, ◌%◌};
+ghost use Rattle.records.specs.Shares.{couplerIn, shares_of};
+
 use worlds::Coupler;
-ghost use mathlib.Core.Path.{_≡_};
-ghost use Prim.Native.Nat.{_%_};
-ghost use Rattle·records·specs.specs.Shares.{couplerIn, sharesOf};
 
 fn low(x: usize) -> u32
-    ensures { λ r. ⌜ r ≡ x % 4294967296 ⌝ }
+    ensures { result ≡ x % 4294967296 }
 {
     (x % 4294967296) as u32
 }
 
 // The elements of an array by value are known to be of their type; of one behind a reference they are not.
 fn coupler_by(n: [u32; 3]) -> Coupler
-    ensures { λ r. ⌜ r ≡ couplerIn n ⌝ }
+    ensures { result ≡ couplerIn n }
 {
     Coupler {
         used: n[0] as usize,
@@ -22,13 +22,13 @@ fn coupler_by(n: [u32; 3]) -> Coupler
 }
 
 pub fn coupler_in(shared: &[u32; 3]) -> Coupler
-    ensures { λ r. ⌜ r ≡ couplerIn (now (shared .entry)) ⌝ }
+    ensures { result ≡ couplerIn shared.now }
 {
     coupler_by(*shared)
 }
 
 pub fn put_coupler(shared: &mut [u32; 3], c: Coupler)
-    ensures { λ _. ⌜ now (shared .exit) ≡ sharesOf c ⌝ }
+    ensures { shared.new ≡ shares_of c }
 {
     *shared = [low(c.used), low(c.memory), low(c.journal)];
 }

@@ -1,13 +1,13 @@
 -- A block that is read as a piece is a piece of a record with one block or more.
 use mathlib.Core.List.{List}
-use mathlib.Core.Path.{_≡_, sym, _∙_}
-use Prim.Native.Nat.{ℕ, _≤_}
+use mathlib.Core.Path.{◌≡◌, sym, ◌∙◌}
+use Prim.Native.Nat.{ℕ, ◌≤◌}
 use native.Mathlib.Omega.{arith}
-use Rattle·tape.proofs.ReadBlocks.{piece-read}
-use Rattle·tape.specs.Numbers.{piecesOf}
-use Rattle·tape.specs.Reading.{classAt}
-use Rattle·tape.specs.declared.Block.{Block}
-use Rattle·tape.specs.declared.Block.the-variants as block
+use Rattle.tape.proofs.ReadBlocks.{piece-read}
+use Rattle.tape.specs.Numbers.{pieces_of}
+use Rattle.tape.specs.Reading.{class_at}
+use Rattle.tape.specs.declared.Block.{Block}
+use Rattle.tape.specs.declared.Block.TheVariants as block
 
-pub piece-counts : (s : List ℕ) (k n i : ℕ) {b : Block} → b ≡ classAt s k → b ≡ block.Piece n i → 1 ≤ piecesOf n
+pub piece-counts : (s : List ℕ) (k n i : ℕ) {b : Block} → b ≡ class_at s k → b ≡ block.Piece n i → 1 ≤ pieces_of n
 piece-counts s k n i h q = omega (arith, piece-read s k n i (sym h ∙ q))

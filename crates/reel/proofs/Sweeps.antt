@@ -1,14 +1,14 @@
 -- One turn of the sweep: what the object at p says of it.
 use mathlib.Core.Bool.{false}
 use mathlib.Core.List.{List}
-use mathlib.Core.Path.{_≡_}
-use Prim.Native.Nat.{ℕ, zero, suc, _-_, _<_, _≤_}
+use mathlib.Core.Path.{◌≡◌}
+use Prim.Native.Nat.{ℕ, zero, suc, ◌-◌, ◌<◌, ◌≤◌}
 use native.Mathlib.Omega.{arith}
-use Rattle·tape.specs.Pass.{passed}
-use Rattle·tape.specs.Sweep.{sweptFrom, sweptFromUnder, sweptOn}
-use Rattle·tape.specs.declared.Met.{Met}
-use Rattle·tape.specs.declared.Swept.{Swept}
-use Rattle·tape.specs.declared.Swept.the-variants as swept
+use Rattle.tape.specs.Pass.{passed}
+use Rattle.tape.specs.Sweep.{sweptFrom, sweptFromUnder, sweptOn}
+use Rattle.tape.specs.declared.Met.{Met}
+use Rattle.tape.specs.declared.Swept.{Swept}
+use Rattle.tape.specs.declared.Swept.TheVariants as swept
 
 pub sweep-turn : (turns : ℕ) (s : List ℕ) (p e : ℕ) {m : Met} {r : Swept} → 0 < turns → m ≡ passed s false p e → r ≡ sweptOn m (λ q. sweptFrom (turns - 1) s q e) → r ≡ sweptFrom turns s p e
 unfolding sweptFromUnder

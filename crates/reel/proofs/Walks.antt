@@ -1,35 +1,35 @@
 -- The walk over a record's pieces, one turn at a time: a piece that is due, one that is not, and no more of them.
 use mathlib.Core.Bool.{Bool, true, false}
 use mathlib.Core.List.{List}
-use mathlib.Core.Path.{_≡_, _∙_}
-use Prim.Native.Nat.{ℕ, suc, _+_, _-_, _≤_, _<_}
+use mathlib.Core.Path.{◌≡◌, ◌∙◌}
+use Prim.Native.Nat.{ℕ, suc, ◌+◌, ◌-◌, ◌≤◌, ◌<◌}
 use native.Mathlib.Numerals.{add-one}
 use native.Mathlib.Omega.{arith}
-use Rattle·lists.specs.Pick.{pick}
-use Rattle·tape.specs.Pass.{badAt, faultOf, isPiece, orderMet, piecesMet, piecesMetUnder}
-use Rattle·tape.specs.Reading.{classAt}
-use Rattle·tape.specs.declared.BlockFault.{BlockFault}
-use Rattle·tape.specs.declared.Block.{Block}
-use Rattle·tape.specs.declared.Met.{Met}
-use Rattle·tape.specs.declared.Met.the-variants as met
+use Rattle.lists.specs.Pick.{pick}
+use Rattle.tape.specs.Pass.{badAt, faultOf, isPiece, orderMet, piecesMet, piecesMetUnder}
+use Rattle.tape.specs.Reading.{class_at}
+use Rattle.tape.specs.declared.BlockFault.{BlockFault}
+use Rattle.tape.specs.declared.Block.{Block}
+use Rattle.tape.specs.declared.Met.{Met}
+use Rattle.tape.specs.declared.Met.TheVariants as met
 
 module _ (s : List ℕ) (reverse : Bool) (n p m j : ℕ) (whole : Met) where
-  pub pieces-end : m ≤ j → whole ≡ piecesMet s reverse n p m j (m - j) whole
+  pub pieces_end : m ≤ j → whole ≡ piecesMet s reverse n p m j (m - j) whole
   unfolding piecesMetUnder
-  pieces-end h =
+  pieces_end h =
       let e : m - j ≡ 0 = omega arith in
       rw e
 
-  pub pieces-step : j < m → piecesMet s reverse n p m j (m - j) whole ≡ pick (isPiece (classAt s (p + orderMet reverse m j)) n (orderMet reverse m j)) (piecesMet s reverse n p m (j + 1) (m - (j + 1)) whole) (badAt s (p + orderMet reverse m j))
+  pub pieces_step : j < m → piecesMet s reverse n p m j (m - j) whole ≡ pick (isPiece (class_at s (p + orderMet reverse m j)) n (orderMet reverse m j)) (piecesMet s reverse n p m (j + 1) (m - (j + 1)) whole) (badAt s (p + orderMet reverse m j))
   unfolding piecesMetUnder
-  pieces-step h =
+  pieces_step h =
       let e : m - j ≡ suc (m - (j + 1)) = omega arith in
       rw (e, add-one j)
 
 -- the same, of what the code has in hand: the piece i that is due, and the block b that stands there
-module _ (s : List ℕ) (reverse : Bool) (n p m j : ℕ) (whole : Met) {i : ℕ} {b : Block} (h : j < m) (due : i ≡ orderMet reverse m j) (read : b ≡ classAt s (p + i)) where
+module _ (s : List ℕ) (reverse : Bool) (n p m j : ℕ) (whole : Met) {i : ℕ} {b : Block} (h : j < m) (due : i ≡ orderMet reverse m j) (read : b ≡ class_at s (p + i)) where
   pub pieces-pass : isPiece b n i ≡ true → piecesMet s reverse n p m j (m - j) whole ≡ piecesMet s reverse n p m (j + 1) (m - (j + 1)) whole
-  pieces-pass t = pieces-step s reverse n p m j whole h ∙ rw (← due, ← read, t)
+  pieces-pass t = pieces_step s reverse n p m j whole h ∙ rw (← due, ← read, t)
 
   pub pieces-stop : {f : BlockFault} → isPiece b n i ≡ false → f ≡ faultOf b → met.Bad f (p + i) ≡ piecesMet s reverse n p m j (m - j) whole
-  pieces-stop t w = rw (pieces-step s reverse n p m j whole h, ← due, ← read, t, w)
+  pieces-stop t w = rw (pieces_step s reverse n p m j whole h, ← due, ← read, t, w)

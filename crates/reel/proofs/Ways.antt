@@ -1,11 +1,11 @@
 -- What holds of both ways of passing: where the blocks lie that are met.
-use mathlib.Core.Bool.{Bool, true, false, _&&_, and-eq-true-iff}
-use mathlib.Core.Path.{_≡_}
-use Prim.Native.Nat.{ℕ, _+_, _≤_, _<_}
+use mathlib.Core.Bool.{Bool, true, false, ◌&&◌, and-eq-true_iff}
+use mathlib.Core.Path.{◌≡◌}
+use Prim.Native.Nat.{ℕ, ◌+◌, ◌≤◌, ◌<◌}
 use native.Mathlib.Omega.{arith}
 use borrow.Author.Tests.{leb-true}
 use lib.Dec.{leb}
-use Rattle·tape.specs.Pass.{ahead, lowest, orderMet}
+use Rattle.tape.specs.Pass.{ahead, lowest, orderMet}
 
 -- each number of the order met is a piece of the record
 pub order-in : (reverse : Bool) (m j : ℕ) → j < m → orderMet reverse m j < m
@@ -19,4 +19,4 @@ lowest-room false p e m bound h k l r = omega arith
 
 -- a record that is due lies ahead whole
 pub due-ahead : (t reverse : Bool) (p e m : ℕ) {a : ℕ} → a ≡ ahead reverse p e → (t && leb m a) ≡ true → m ≤ ahead reverse p e
-due-ahead t reverse p e m {a} h k = rw (← h) (leb-true m a (and-eq-true-iff t (leb m a) .0 k .1))
+due-ahead t reverse p e m {a} h k = rw (← h) (leb-true m a ((and-eq-true_iff t (leb m a)).0 k).1)

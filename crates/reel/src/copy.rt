@@ -1,13 +1,11 @@
 // Moving a record's bytes to places in memory.
-use lists::least;
-use lists::scatter;
+ghost use Rattle.std.specs.Prelude.{◌≡◌, ◌+◌, ◌*◌, ◌≤◌, ◌%◌, length, take, drop};
+ghost use Rattle.lists.specs.Places.{placed};
+ghost use Rattle.tape.specs.Numbers.{blockBytes, pieces_of};
+ghost use Rattle.tape.specs.Bytes.{readInto, recordBytes};
+
+use lists::{least, scatter};
 use tape::Geometry;
-ghost use mathlib.Core.Path.{_≡_};
-ghost use Prim.Native.Nat.{_+_, _*_, _≤_, _%_};
-ghost use lib.ListN.{length, take, drop};
-ghost use Rattle·lists.specs.Places.{placed};
-ghost use Rattle·tape.specs.Numbers.{blockBytes, piecesOf};
-ghost use Rattle·tape.specs.Bytes.{readInto, recordBytes};
 
 // Bytes `from` to `from + count` of the record of n bytes at block p go to the places from address a on, a piece at a time.
 fn copy_out(
@@ -20,8 +18,8 @@ fn copy_out(
     a: usize,
     swb: bool,
 )
-    requires { ⌜ (blockBytes * (p + piecesOf n) ≤ length (now reel)) × (from + count ≤ n) × (a + count ≤ length (now mem)) × (length (now mem) % 2 ≡ 0) ⌝ }
-    ensures { λ _. ⌜ now (mem .exit) ≡ placed swb (now (mem .entry)) a (take count (drop from (recordBytes (now (reel .entry)) p n))) ⌝ }
+    requires { (blockBytes * (p + pieces_of n) ≤ length reel.now) × (from + count ≤ n) × (a + count ≤ length mem.old) × (length mem.old % 2 ≡ 0) }
+    ensures { mem.new ≡ placed swb mem.old a (take count (drop from (recordBytes reel.now p n))) }
 {
     let mut done: usize = 0;
     while done < count {
@@ -46,8 +44,8 @@ pub fn read_record(
     count: usize,
     swb: bool,
 )
-    requires { ⌜ (blockBytes * (p + piecesOf n) ≤ length (now reel)) × (pointer + count ≤ length (now mem)) × (length (now mem) % 2 ≡ 0) ⌝ }
-    ensures { λ _. ⌜ now (mem .exit) ≡ readInto reverse swb (now (mem .entry)) pointer count (recordBytes (now (reel .entry)) p n) ⌝ }
+    requires { (blockBytes * (p + pieces_of n) ≤ length reel.now) × (pointer + count ≤ length mem.old) × (length mem.old % 2 ≡ 0) }
+    ensures { mem.new ≡ readInto reverse swb mem.old pointer count (recordBytes reel.now p n) }
 {
     let moved = least(n, count);
     if reverse {

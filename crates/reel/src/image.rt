@@ -1,12 +1,11 @@
 // What the listing says of an image before any line.
-use tape::Geometry;
-use tape::Image;
-use tape::Swept;
-ghost use mathlib.Core.Path.{_≡_};
-ghost use Rattle·tape.specs.Listing.{examined};
+ghost use Rattle.std.specs.Prelude.{◌≡◌};
+ghost use Rattle.tape.specs.Listing.{examined};
+
+use tape::{Geometry, Image, Swept};
 
 pub fn examine(image: &[u8]) -> Image
-    ensures { λ r. ⌜ r ≡ examined (now (image .entry)) ⌝ }
+    ensures { result ≡ examined image.now }
 {
     if Geometry::IMAGE_LIMIT < image.len() {
         return Image::TooLong;

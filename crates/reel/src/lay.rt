@@ -1,22 +1,20 @@
 // Laying objects: only the new object's blocks change.
+ghost use Rattle.std.specs.Prelude.{◌≡◌, ◌+◌, ◌*◌, ◌≤◌, ◌<◌, ◌%◌, [], length};
+ghost use Rattle.std.proofs.lemmas.List.Edits.{sets};
+ghost use Rattle.lists.specs.Places.{gathered};
+ghost use Rattle.lists.specs.Words.{wordLimit};
+ghost use Rattle.tape.specs.Numbers.{blockBytes, dataBytes, pieces_of};
+ghost use Rattle.tape.specs.Layout.{block_of};
+ghost use Rattle.tape.specs.Objects.{Object, image_of, piece_of};
+
 use block::lay_block;
 use lists::least;
 use tape::Geometry;
-ghost use mathlib.Core.Path.{_≡_};
-ghost use Prim.Native.Nat.{_+_, _*_, _≤_, _<_, _%_};
-ghost use mathlib.Core.List.{[]};
-ghost use lib.ListN.{length};
-ghost use lib.Seq.{sets};
-ghost use Rattle·lists.specs.Places.{gathered};
-ghost use Rattle·lists.specs.Words.{wordLimit};
-ghost use Rattle·tape.specs.Numbers.{blockBytes, dataBytes, piecesOf};
-ghost use Rattle·tape.specs.Layout.{blockOf};
-ghost use Rattle·tape.specs.Objects.{Object, imageOf, pieceOf};
 
 // A block with no data: a mark or a gap.
 fn lay_bare(reel: &mut [u8], p: usize, k: usize)
-    requires { ⌜ (blockBytes * (p + 1) ≤ length (now reel)) × (k < wordLimit) ⌝ }
-    ensures { λ _. ⌜ now (reel .exit) ≡ sets (now (reel .entry)) (blockBytes * p) (blockOf k 0 0 []) ⌝ }
+    requires { (blockBytes * (p + 1) ≤ length reel.old) × (k < wordLimit) }
+    ensures { reel.new ≡ sets reel.old (blockBytes * p) (block_of k 0 0 []) }
 {
     let at = Geometry::BLOCK * p;
     let end = at + Geometry::BLOCK;
@@ -24,23 +22,23 @@ fn lay_bare(reel: &mut [u8], p: usize, k: usize)
 }
 
 pub fn lay_mark(reel: &mut [u8], p: usize)
-    requires { ⌜ blockBytes * (p + 1) ≤ length (now reel) ⌝ }
-    ensures { λ _. ⌜ now (reel .exit) ≡ sets (now (reel .entry)) (blockBytes * p) (imageOf Object.mark) ⌝ }
+    requires { blockBytes * (p + 1) ≤ length reel.old }
+    ensures { reel.new ≡ sets reel.old (blockBytes * p) (image_of Object.mark) }
 {
     lay_bare(reel, p, tape::MARK_KIND);
 }
 
 pub fn lay_gap(reel: &mut [u8], p: usize)
-    requires { ⌜ blockBytes * (p + 1) ≤ length (now reel) ⌝ }
-    ensures { λ _. ⌜ now (reel .exit) ≡ sets (now (reel .entry)) (blockBytes * p) (imageOf Object.gap) ⌝ }
+    requires { blockBytes * (p + 1) ≤ length reel.old }
+    ensures { reel.new ≡ sets reel.old (blockBytes * p) (image_of Object.gap) }
 {
     lay_bare(reel, p, tape::GAP_KIND);
 }
 
 // Piece i of the record of n bytes at the places from address a on, for which there is room at block p: it goes to block p + i.
 fn lay_piece(reel: &mut [u8], p: usize, n: usize, i: usize, mem: &[u8], a: usize, swb: bool)
-    requires { ⌜ (blockBytes * (p + piecesOf n) ≤ length (now reel)) × (dataBytes * i < n) × (n < wordLimit) × (a + n ≤ length (now mem)) × (length (now mem) % 2 ≡ 0) ⌝ }
-    ensures { λ _. ⌜ now (reel .exit) ≡ sets (now (reel .entry)) (blockBytes * (p + i)) (pieceOf (gathered swb (now (mem .entry)) a n) i) ⌝ }
+    requires { (blockBytes * (p + pieces_of n) ≤ length reel.old) × (dataBytes * i < n) × (n < wordLimit) × (a + n ≤ length mem.now) × (length mem.now % 2 ≡ 0) }
+    ensures { reel.new ≡ sets reel.old (blockBytes * (p + i)) (piece_of (gathered swb mem.now a n) i) }
 {
     let at = Geometry::BLOCK * (p + i);
     let end = at + Geometry::BLOCK;
@@ -60,8 +58,8 @@ fn lay_piece(reel: &mut [u8], p: usize, n: usize, i: usize, mem: &[u8], a: usize
 
 // The record of the n bytes at the places from address a on, laid at block p.
 pub fn lay_record(reel: &mut [u8], p: usize, mem: &[u8], a: usize, n: usize, swb: bool)
-    requires { ⌜ (blockBytes * (p + piecesOf n) ≤ length (now reel)) × (n < wordLimit) × (a + n ≤ length (now mem)) × (length (now mem) % 2 ≡ 0) ⌝ }
-    ensures { λ _. ⌜ now (reel .exit) ≡ sets (now (reel .entry)) (blockBytes * p) (imageOf (Object.record-of (gathered swb (now (mem .entry)) a n))) ⌝ }
+    requires { (blockBytes * (p + pieces_of n) ≤ length reel.old) × (n < wordLimit) × (a + n ≤ length mem.now) × (length mem.now % 2 ≡ 0) }
+    ensures { reel.new ≡ sets reel.old (blockBytes * p) (image_of (Object.record_of (gathered swb mem.now a n))) }
 {
     let m = tape::pieces(n);
     let mut i: usize = 0;

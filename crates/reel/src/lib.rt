@@ -7,8 +7,6 @@ mod sweeping;
 
 pub use copy::read_record;
 pub use image::examine;
-pub use lay::lay_gap;
-pub use lay::lay_mark;
-pub use lay::lay_record;
+pub use lay::{lay_gap, lay_mark, lay_record};
 pub use passing::pass;
 pub use sweeping::sweep;

@@ -1,16 +1,14 @@
 // Passing one object, forward or in reverse: one walk for both, since only the order of the pieces differs.
+ghost use Rattle.std.specs.Prelude.{◌≡◌, ◌+◌, ◌-◌, ◌≤◌, ◌<◌};
+ghost use Rattle.tape.specs.Numbers.{pieces_of};
+ghost use Rattle.tape.specs.Pass.{ahead, beyond, faultOf, firstMet, isPiece, lowest, orderMet, passed, piecesMet, recordMet};
+
 use block::read_block;
-use tape::Block;
-use tape::BlockFault;
-use tape::Met;
-ghost use mathlib.Core.Path.{_≡_};
-ghost use Prim.Native.Nat.{_+_, _-_, _≤_, _<_};
-ghost use Rattle·tape.specs.Numbers.{piecesOf};
-ghost use Rattle·tape.specs.Pass.{ahead, beyond, faultOf, firstMet, isPiece, lowest, orderMet, passed, piecesMet, recordMet};
+use tape::{Block, BlockFault, Met};
 
 // How many blocks lie ahead: up to the recorded end, or down to block 0.
 fn ahead_of(reverse: bool, p: usize, e: usize) -> usize
-    ensures { λ r. ⌜ r ≡ ahead reverse p e ⌝ }
+    ensures { result ≡ ahead reverse p e }
 {
     if reverse {
         return p;
@@ -19,35 +17,35 @@ fn ahead_of(reverse: bool, p: usize, e: usize) -> usize
 }
 
 fn first_met(reverse: bool, p: usize, e: usize) -> usize
-    requires { ⌜ 1 ≤ ahead reverse p e ⌝ }
-    ensures { λ r. ⌜ r ≡ firstMet reverse p ⌝ }
+    requires { 1 ≤ ahead reverse p e }
+    ensures { result ≡ firstMet reverse p }
 {
     if reverse { p - 1 } else { p }
 }
 
 fn beyond_of(reverse: bool, p: usize, e: usize, m: usize) -> usize
-    requires { ⌜ m ≤ ahead reverse p e ⌝ }
-    ensures { λ r. ⌜ r ≡ beyond reverse p m ⌝ }
+    requires { m ≤ ahead reverse p e }
+    ensures { result ≡ beyond reverse p m }
 {
     if reverse { p - m } else { p + m }
 }
 
 fn lowest_of(reverse: bool, p: usize, e: usize, m: usize) -> usize
-    requires { ⌜ m ≤ ahead reverse p e ⌝ }
-    ensures { λ r. ⌜ r ≡ lowest reverse p m ⌝ }
+    requires { m ≤ ahead reverse p e }
+    ensures { result ≡ lowest reverse p m }
 {
     if reverse { p - m } else { p }
 }
 
 fn order_met(reverse: bool, m: usize, j: usize) -> usize
-    requires { ⌜ j < m ⌝ }
-    ensures { λ r. ⌜ r ≡ orderMet reverse m j ⌝ }
+    requires { j < m }
+    ensures { result ≡ orderMet reverse m j }
 {
     if reverse { m - 1 - j } else { j }
 }
 
 fn is_piece(b: Block, n: usize, i: usize) -> bool
-    ensures { λ r. ⌜ r ≡ isPiece b n i ⌝ }
+    ensures { result ≡ isPiece b n i }
 {
     match b {
         Block::Piece(n2, i2) => (n2 == n) & (i2 == i),
@@ -59,7 +57,7 @@ fn is_piece(b: Block, n: usize, i: usize) -> bool
 
 // What is wrong with a block that can't be taken: its own fault, and if it has none, its place.
 fn fault_of(b: Block) -> BlockFault
-    ensures { λ r. ⌜ r ≡ faultOf b ⌝ }
+    ensures { result ≡ faultOf b }
 {
     match b {
         Block::Damaged(f) => f,
@@ -71,8 +69,8 @@ fn fault_of(b: Block) -> BlockFault
 
 // The pieces due after the first, in the order met: the first at fault, else what was met.
 fn pieces_met(reel: &[u8], reverse: bool, n: usize, p: usize, m: usize, whole: Met) -> Met
-    requires { ⌜ (1 ≤ m) × (p + m < 18446744073709551616) ⌝ }
-    ensures { λ r. ⌜ r ≡ piecesMet (now (reel .entry)) reverse n p m 1 (m - 1) whole ⌝ }
+    requires { (1 ≤ m) × (p + m < 18446744073709551616) }
+    ensures { result ≡ piecesMet reel.now reverse n p m 1 (m - 1) whole }
 {
     let mut j: usize = 1;
     while j < m {
@@ -89,8 +87,8 @@ fn pieces_met(reel: &[u8], reverse: bool, n: usize, p: usize, m: usize, whole: M
 
 // A record of n bytes, met at piece i.
 fn record_met(reel: &[u8], reverse: bool, p: usize, e: usize, n: usize, i: usize) -> Met
-    requires { ⌜ (1 ≤ ahead reverse p e) × (1 ≤ piecesOf n) ⌝ }
-    ensures { λ r. ⌜ r ≡ recordMet (now (reel .entry)) reverse p e n i ⌝ }
+    requires { (1 ≤ ahead reverse p e) × (1 ≤ pieces_of n) }
+    ensures { result ≡ recordMet reel.now reverse p e n i }
 {
     let m = tape::pieces(n);
     let due = (i == order_met(reverse, m, 0)) & (m <= ahead_of(reverse, p, e));
@@ -103,7 +101,7 @@ fn record_met(reel: &[u8], reverse: bool, p: usize, e: usize, n: usize, i: usize
 
 // What passing one object from position p meets, on a reel recorded up to e.
 pub fn pass(reel: &[u8], reverse: bool, p: usize, e: usize) -> Met
-    ensures { λ r. ⌜ r ≡ passed (now (reel .entry)) reverse p e ⌝ }
+    ensures { result ≡ passed reel.now reverse p e }
 {
     if ahead_of(reverse, p, e) == 0 {
         return Met::Nothing;

@@ -1,12 +1,12 @@
 // The mount's reading of every block below the end.
-use tape::Met;
-use tape::Swept;
-ghost use mathlib.Core.Path.{_≡_};
-ghost use Rattle·tape.specs.Sweep.{sweptBelow};
+ghost use Rattle.std.specs.Prelude.{◌≡◌};
+ghost use Rattle.tape.specs.Sweep.{sweptBelow};
+
+use tape::{Met, Swept};
 
 // Each object takes a block or more, so `e` turns are enough.
 pub fn sweep(reel: &[u8], e: usize) -> Swept
-    ensures { λ r. ⌜ r ≡ sweptBelow (now (reel .entry)) e ⌝ }
+    ensures { result ≡ sweptBelow reel.now e }
 {
     let mut p: usize = 0;
     let mut turns = e;

@@ -1,21 +1,21 @@
 -- Laws of what a step tells.
-use mathlib.Core.Path.{_≡_, ap, _∙_}
-use Prim.Native.Nat.{ℕ, _-_, min}
+use mathlib.Core.Path.{◌≡◌, ap, ◌∙◌}
+use Prim.Native.Nat.{ℕ, ◌-◌, min}
 use native.Mathlib.Omega.{arith}
-use Rattle·results.specs.declared.Also.{Also}
-use Rattle·results.specs.declared.Also.the-variants as also
-use Rattle·results.specs.declared.Told.{Told}
-use Rattle·worlds.specs.declared.Outcome.{Outcome}
-use Rattle·worlds.specs.declared.Session.{Session}
-use Rattle·replayer·specs.specs.Tells.{stepAlso, stepTold, toldAs}
-use Rattle·replayer·specs.specs.declared.asks.Deed.{Deed}
+use Rattle.results.specs.declared.Also.{Also}
+use Rattle.results.specs.declared.Also.TheVariants as also
+use Rattle.results.specs.declared.Told.{Told}
+use Rattle.worlds.specs.declared.Outcome.{Outcome}
+use Rattle.worlds.specs.declared.Session.{Session}
+use Rattle.replayer.specs.Tells.{stepAlso, stepTold, toldAs}
+use Rattle.replayer.specs.declared.asks.Deed.{Deed}
 
 pub longer : (a b l : ℕ) → l ≡ min a b → b - l ≡ b - a
 longer a b l e = omega arith
 
-pub step-told : (s : Session) (o : Outcome) (a : Deed) (l : ℕ) (x : Also) (t : Told) → l ≡ min (s .used) (o .session .used) → x ≡ stepAlso a (o .session .used - l) → t ≡ toldAs o x → t ≡ stepTold s a o
+pub step-told : (s : Session) (o : Outcome) (a : Deed) (l : ℕ) (x : Also) (t : Told) → l ≡ min s.used o.session.used → x ≡ stepAlso a (o.session.used - l) → t ≡ toldAs o x → t ≡ stepTold s a o
 unfolding stepTold
-step-told s o a l x t e f h = h ∙ ap (toldAs o) (f ∙ ap (stepAlso a) (longer (s .used) (o .session .used) l e))
+step-told s o a l x t e f h = h ∙ ap (toldAs o) (f ∙ ap (stepAlso a) (longer s.used o.session.used l e))
 
 -- of a host store
 pub entry-told : (a b l : ℕ) → l ≡ min a b → also.Entry (b - l) ≡ also.Entry (b - a)

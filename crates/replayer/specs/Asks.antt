@@ -1,15 +1,15 @@
 -- Whose a call is, and the step that a unit is asked for.
-use Rattle·lines.specs.declared.Ask.{Ask}
-use Rattle·lines.specs.declared.Ask.the-variants as ask
-use Rattle·lines.specs.declared.Call.{Call}
-use Rattle·lines.specs.declared.Call.the-variants as call
-use Rattle·unit.specs.Asks as unit
-use Rattle·unit.specs.declared.registers.Register.the-variants as register
-use Rattle·replayer·specs.specs.declared.asks.Deed.{Deed}
-use Rattle·replayer·specs.specs.declared.asks.Deed.the-variants as deed
-use Rattle·replayer·specs.specs.declared.asks.Own.the-variants as own
-use Rattle·replayer·specs.specs.declared.asks.Whose.{Whose}
-use Rattle·replayer·specs.specs.declared.asks.Whose.the-variants as whose
+use Rattle.lines.specs.declared.Ask.{Ask}
+use Rattle.lines.specs.declared.Ask.TheVariants as ask
+use Rattle.lines.specs.declared.Call.{Call}
+use Rattle.lines.specs.declared.Call.TheVariants as call
+use Rattle.unit.specs.Asks as unit
+use Rattle.unit.specs.declared.registers.Register.TheVariants as register
+use Rattle.replayer.specs.declared.asks.Deed.{Deed}
+use Rattle.replayer.specs.declared.asks.Deed.TheVariants as deed
+use Rattle.replayer.specs.declared.asks.Own.TheVariants as own
+use Rattle.replayer.specs.declared.asks.Whose.{Whose}
+use Rattle.replayer.specs.declared.asks.Whose.TheVariants as whose
 
 unfoldable pub askOf : Deed → unit.Ask
 askOf (deed.WriteTsdb w) = unit.Ask.write-tsdb w

@@ -1,30 +1,26 @@
 -- What is done for unit k, as a function of all that it is handed: its answer, and the world after it.
-use mathlib.Core.Bool.{Bool, false}
-use mathlib.Core.List.{List}
-use mathlib.Core.Path.{_≡_}
-use Prim.Native.Nat.{ℕ}
-use lib.ListN.{length}
-use Rattle·tape.specs.Afresh.{objectsIn}
-use Rattle·commands.specs.Answers.{isStep}
-use Rattle·commands.specs.declared.plans.Answer.{Answer}
-use Rattle·steps.specs.Readiness.{Undoable}
-use Rattle·worlds.specs.Worlds.{Answered, answered, worldOf}
-use Rattle·worlds.specs.Calls.{mountOn, registerOn, stepOn, tableMounted, undoOn}
-use Rattle·worlds.specs.declared.Session.{Session}
-use Rattle·worlds.specs.declared.Outcome.{Outcome}
-use Rattle·replayer·specs.specs.Asks.{askOf}
-use Rattle·replayer·specs.specs.declared.asks.Own.{Own}
-use Rattle·replayer·specs.specs.declared.asks.Own.the-variants as own
-use Rattle·replayer·specs.specs.declared.asks.Task.{Task}
-use Rattle·replayer·specs.specs.declared.asks.Task.the-variants as task
+use Rattle.std.specs.Prelude.{Bool, false, List, ◌≡◌, ℕ, length}
+use Rattle.tape.specs.Afresh.{objectsIn}
+use Rattle.commands.specs.Answers.{isStep}
+use Rattle.commands.specs.declared.plans.Answer.{Answer}
+use Rattle.steps.specs.Readiness.{Undoable}
+use Rattle.worlds.specs.Worlds.{Answered, answered, worldOf}
+use Rattle.worlds.specs.Calls.{mountOn, registerOn, stepOn, tableMounted, undoOn}
+use Rattle.worlds.specs.declared.Session.{Session}
+use Rattle.worlds.specs.declared.Outcome.{Outcome}
+use Rattle.replayer.specs.Asks.{askOf}
+use Rattle.replayer.specs.declared.asks.Own.{Own}
+use Rattle.replayer.specs.declared.asks.Own.TheVariants as own
+use Rattle.replayer.specs.declared.asks.Task.{Task}
+use Rattle.replayer.specs.declared.asks.Task.TheVariants as task
 
 -- what a mount with this outcome leaves: the table filled, if it is accepted, and every other byte
 abbrev pub mounted : ℕ → Outcome → ℕ → List ℕ → List ℕ → List ℕ → List ℕ → Answered
-mounted k o e m r tb j = answered (o .answer) (worldOf k (o .session) m r (tableMounted tb (objectsIn r e) (o .answer)) j)
+mounted k o e m r tb j = answered o.answer (worldOf k o.session m r (tableMounted tb (objectsIn r e) o.answer) j)
 
 unfoldable pub ownOn : Own → ℕ → Session → List ℕ → List ℕ → List ℕ → List ℕ → Answered
 ownOn (own.Mount e online locked) k s m r tb j = mounted k (mountOn s (length m) r (length tb) (length j) e online locked) e m r tb j
-ownOn (own.Read x) k s m r tb j = answered (registerOn s x .answer) (worldOf k s m r tb j)
+ownOn (own.Read x) k s m r tb j = answered (registerOn s x).answer (worldOf k s m r tb j)
 ownOn (own.Step a) k s m r tb j = stepOn (worldOf k s m r tb j) (length j) (askOf a)
 
 unfoldable pub callOn : Task → ℕ → Session → List ℕ → List ℕ → List ℕ → List ℕ → Answered

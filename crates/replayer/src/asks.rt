@@ -1,23 +1,21 @@
 // The calls of one unit.
-use lines::Ask;
-use lines::Call;
+ghost use Rattle.std.specs.Prelude.{◌≡◌, length};
+ghost use Rattle.worlds.specs.Worlds.{Leaves, worldOf};
+ghost use Rattle.worlds.specs.Calls.{stepOn};
+ghost use Rattle.replayer.specs.Asks.{askOf, ownStep, whoseAsk, whoseOf};
+ghost use Rattle.replayer.specs.Calls.{Fitting, callOn, entered, ownEntered, ownOn};
+ghost use Rattle.replayer.specs.Journals.{JournalLeft};
+ghost use Rattle.replayer.specs.Tells.{ownTold, readTold, stepAlso, stepTold, toldAs, toldOn};
+
+use lines::{Ask, Call};
 use lists::least;
-use results::Also;
-use results::Told;
+use results::{Also, Told};
 use state::Act;
 use unit::Register;
-use worlds::Outcome;
-use worlds::Session;
-ghost use mathlib.Core.Path.{_≡_};
-ghost use lib.ListN.{length};
-ghost use Rattle·worlds.specs.Worlds.{Leaves, worldOf};
-ghost use Rattle·worlds.specs.Calls.{stepOn};
-ghost use Rattle·replayer·specs.specs.Asks.{askOf, ownStep, whoseAsk, whoseOf};
-ghost use Rattle·replayer·specs.specs.Calls.{Fitting, callOn, entered, ownEntered, ownOn};
-ghost use Rattle·replayer·specs.specs.Journals.{JournalLeft};
-ghost use Rattle·replayer·specs.specs.Tells.{ownTold, readTold, stepAlso, stepTold, toldAs, toldOn};
+use worlds::{Outcome, Session};
 
 // A step that is a unit's.
+#[derive(Drop)]
 pub enum Deed {
     WriteTsdb(u16),
     WriteTssr,
@@ -26,6 +24,7 @@ pub enum Deed {
 }
 
 // A call that is a unit's.
+#[derive(Drop)]
 pub enum Own {
     Mount(usize, bool, bool),
     Read(Register),
@@ -33,12 +32,14 @@ pub enum Own {
 }
 
 // What is done for one unit: a call of its own, or its newest step undone.
+#[derive(Drop)]
 pub enum Task {
     Makes(Own),
     Undoes,
 }
 
 // Whose a call is: a unit's own, or of none, a host store at a place or a step back.
+#[derive(Drop)]
 pub enum Whose {
     Unit(Own),
     Store(usize),
@@ -46,13 +47,13 @@ pub enum Whose {
 }
 
 fn own_step(d: Deed) -> Whose
-    ensures { λ r. ⌜ r ≡ ownStep d ⌝ }
+    ensures { result ≡ ownStep d }
 {
     Whose::Unit(Own::Step(d))
 }
 
 fn whose_ask(a: Ask) -> Whose
-    ensures { λ r. ⌜ r ≡ whoseAsk a ⌝ }
+    ensures { result ≡ whoseAsk a }
 {
     match a {
         Ask::WriteTsdb(w) => own_step(Deed::WriteTsdb(w)),
@@ -64,7 +65,7 @@ fn whose_ask(a: Ask) -> Whose
 }
 
 pub fn owner_of(c: Call) -> Whose
-    ensures { λ r. ⌜ r ≡ whoseOf c ⌝ }
+    ensures { result ≡ whoseOf c }
 {
     match c {
         Call::Mount(e, online, locked) => Whose::Unit(Own::Mount(e, online, locked)),
@@ -85,7 +86,7 @@ fn ask(
     table: &mut [u8],
     jrnl: &mut [u8],
 ) -> Outcome
-    ensures { λ r. ⌜ Leaves (stepOn (worldOf k s (now (mem .entry)) (now (reel .entry)) (now (table .entry)) (now (jrnl .entry))) (length (now (jrnl .entry))) (askOf a)) (now (jrnl .entry)) r (now (mem .exit)) (now (reel .exit)) (now (table .exit)) (now (jrnl .exit)) ⌝ }
+    ensures { Leaves (stepOn (worldOf k s mem.old reel.old table.old jrnl.old) (length jrnl.old) (askOf a)) jrnl.old result mem.new reel.new table.new jrnl.new }
 {
     match a {
         Deed::WriteTsdb(w) => journal::write_tsdb(s, k, mem, reel, table, jrnl, w),
@@ -96,7 +97,7 @@ fn ask(
 }
 
 fn told(o: Outcome, also: Also) -> Told
-    ensures { λ r. ⌜ r ≡ toldAs o also ⌝ }
+    ensures { result ≡ toldAs o also }
 {
     let answer = o.answer;
     let session = o.session;
@@ -108,7 +109,7 @@ fn told(o: Outcome, also: Also) -> Told
 }
 
 fn also(a: Deed, n: usize) -> Also
-    ensures { λ r. ⌜ r ≡ stepAlso a n ⌝ }
+    ensures { result ≡ stepAlso a n }
 {
     match a {
         Deed::WriteTsdb(_) => Also::Entry(n),
@@ -120,7 +121,7 @@ fn also(a: Deed, n: usize) -> Also
 
 // A step tells how much longer the used journal is, and an advance whether it interrupts.
 fn step(s: Session, a: Deed, o: Outcome) -> Told
-    ensures { λ r. ⌜ r ≡ stepTold s a o ⌝ }
+    ensures { result ≡ stepTold s a o }
 {
     let used = o.session.used;
     let x = also(a, used - least(s.used, used));
@@ -128,7 +129,7 @@ fn step(s: Session, a: Deed, o: Outcome) -> Told
 }
 
 fn read(s: Session, register: Register) -> Told
-    ensures { λ r. ⌜ r ≡ readTold s register ⌝ }
+    ensures { result ≡ readTold s register }
 {
     let r = journal::read_register(s, register);
     let answer = r.answer;
@@ -150,11 +151,11 @@ fn make(
     table: &mut [u8],
     jrnl: &mut [u8],
 ) -> Told
-    ensures told { λ r. ⌜ r ≡ ownTold c k s (now (mem .entry)) (now (reel .entry)) (now (table .entry)) (now (jrnl .entry)) ⌝ }
-    ensures memory { λ _. ⌜ now (mem .exit) ≡ ownOn c k s (now (mem .entry)) (now (reel .entry)) (now (table .entry)) (now (jrnl .entry)) .world .core .memory ⌝ }
-    ensures reel { λ _. ⌜ now (reel .exit) ≡ ownOn c k s (now (mem .entry)) (now (reel .entry)) (now (table .entry)) (now (jrnl .entry)) .world .core .reel ⌝ }
-    ensures table { λ _. ⌜ now (table .exit) ≡ ownOn c k s (now (mem .entry)) (now (reel .entry)) (now (table .entry)) (now (jrnl .entry)) .world .core .table ⌝ }
-    ensures journal { λ _. ⌜ JournalLeft (ownEntered c (ownOn c k s (now (mem .entry)) (now (reel .entry)) (now (table .entry)) (now (jrnl .entry)) .answer)) (ownOn c k s (now (mem .entry)) (now (reel .entry)) (now (table .entry)) (now (jrnl .entry))) (now (jrnl .entry)) (now (jrnl .exit)) ⌝ }
+    ensures told { result ≡ ownTold c k s mem.old reel.old table.old jrnl.old }
+    ensures memory { mem.new ≡ (ownOn c k s mem.old reel.old table.old jrnl.old).world.core.memory }
+    ensures reel { reel.new ≡ (ownOn c k s mem.old reel.old table.old jrnl.old).world.core.reel }
+    ensures table { table.new ≡ (ownOn c k s mem.old reel.old table.old jrnl.old).world.core.table }
+    ensures journal { JournalLeft (ownEntered c (ownOn c k s mem.old reel.old table.old jrnl.old).answer) (ownOn c k s mem.old reel.old table.old jrnl.old) jrnl.old jrnl.new }
 {
     match c {
         Own::Mount(e, online, locked) => told(
@@ -176,12 +177,12 @@ pub fn call(
     table: &mut [u8],
     jrnl: &mut [u8],
 ) -> Told
-    requires { ⌜ Fitting c s (length (now mem)) (length (now reel)) (length (now jrnl)) ⌝ }
-    ensures told { λ r. ⌜ r ≡ toldOn c k s (now (mem .entry)) (now (reel .entry)) (now (table .entry)) (now (jrnl .entry)) ⌝ }
-    ensures memory { λ _. ⌜ now (mem .exit) ≡ callOn c k s (now (mem .entry)) (now (reel .entry)) (now (table .entry)) (now (jrnl .entry)) .world .core .memory ⌝ }
-    ensures reel { λ _. ⌜ now (reel .exit) ≡ callOn c k s (now (mem .entry)) (now (reel .entry)) (now (table .entry)) (now (jrnl .entry)) .world .core .reel ⌝ }
-    ensures table { λ _. ⌜ now (table .exit) ≡ callOn c k s (now (mem .entry)) (now (reel .entry)) (now (table .entry)) (now (jrnl .entry)) .world .core .table ⌝ }
-    ensures journal { λ _. ⌜ JournalLeft (entered c (callOn c k s (now (mem .entry)) (now (reel .entry)) (now (table .entry)) (now (jrnl .entry)) .answer)) (callOn c k s (now (mem .entry)) (now (reel .entry)) (now (table .entry)) (now (jrnl .entry))) (now (jrnl .entry)) (now (jrnl .exit)) ⌝ }
+    requires { Fitting c s (length mem.old) (length reel.old) (length jrnl.old) }
+    ensures told { result ≡ toldOn c k s mem.old reel.old table.old jrnl.old }
+    ensures memory { mem.new ≡ (callOn c k s mem.old reel.old table.old jrnl.old).world.core.memory }
+    ensures reel { reel.new ≡ (callOn c k s mem.old reel.old table.old jrnl.old).world.core.reel }
+    ensures table { table.new ≡ (callOn c k s mem.old reel.old table.old jrnl.old).world.core.table }
+    ensures journal { JournalLeft (entered c (callOn c k s mem.old reel.old table.old jrnl.old).answer) (callOn c k s mem.old reel.old table.old jrnl.old) jrnl.old jrnl.new }
 {
     match c {
         Task::Makes(x) => make(s, k, x, mem, reel, table, jrnl),

@@ -1,13 +1,12 @@
 // A task of one unit over its own buffers, as much of them as it is handed.
-use crate::asks::Task;
-use crate::asks::call;
-use desk::Desk;
-use desk::trim;
+ghost use Rattle.std.specs.Prelude.{◌≡◌};
+ghost use Rattle.std.proofs.lemmas.List.Edits.{sets};
+ghost use Rattle.replayer.specs.Hands.{FitOn, JournalFor, JournalOf, handOn, handTold, memoryKept, reelKept, tableKept};
+
+use crate::asks::{Task, call};
+use desk::{Desk, trim};
 use lists::least;
 use results::Told;
-ghost use mathlib.Core.Path.{_≡_};
-ghost use lib.Seq.{sets};
-ghost use Rattle·replayer·specs.specs.Hands.{FitOn, JournalFor, JournalOf, handOn, handTold, memoryKept, reelKept, tableKept};
 
 // The task over what it is handed.
 fn hand(
@@ -19,12 +18,12 @@ fn hand(
     table: &mut [u8],
     jrnl: &mut [u8],
 ) -> Told
-    requires { ⌜ FitOn d c (now mem) (now reel) (now jrnl) ⌝ }
-    ensures told { λ r. ⌜ r ≡ handTold d k c (now (mem .entry)) (now (reel .entry)) (now (table .entry)) (now (jrnl .entry)) ⌝ }
-    ensures memory { λ _. ⌜ now (mem .exit) ≡ sets (now (mem .entry)) 0 (handOn d k c (now (mem .entry)) (now (reel .entry)) (now (table .entry)) (now (jrnl .entry)) .world .core .memory) ⌝ }
-    ensures reel { λ _. ⌜ now (reel .exit) ≡ sets (now (reel .entry)) 0 (handOn d k c (now (mem .entry)) (now (reel .entry)) (now (table .entry)) (now (jrnl .entry)) .world .core .reel) ⌝ }
-    ensures table { λ _. ⌜ now (table .exit) ≡ sets (now (table .entry)) 0 (handOn d k c (now (mem .entry)) (now (reel .entry)) (now (table .entry)) (now (jrnl .entry)) .world .core .table) ⌝ }
-    ensures journal { λ _. ⌜ JournalOf d k c (now (mem .entry)) (now (reel .entry)) (now (table .entry)) (now (jrnl .entry)) (now (jrnl .exit)) ⌝ }
+    requires { FitOn d c mem.old reel.old jrnl.old }
+    ensures told { result ≡ handTold d k c mem.old reel.old table.old jrnl.old }
+    ensures memory { mem.new ≡ sets mem.old 0 (handOn d k c mem.old reel.old table.old jrnl.old).world.core.memory }
+    ensures reel { reel.new ≡ sets reel.old 0 (handOn d k c mem.old reel.old table.old jrnl.old).world.core.reel }
+    ensures table { table.new ≡ sets table.old 0 (handOn d k c mem.old reel.old table.old jrnl.old).world.core.table }
+    ensures journal { JournalOf d k c mem.old reel.old table.old jrnl.old jrnl.new }
 {
     let h = d.handed;
     let m = least(h.memory, mem.len());
@@ -53,12 +52,12 @@ pub fn carry(
     table: &mut [u8],
     jrnl: &mut [u8],
 ) -> Told
-    requires { ⌜ FitOn d c (now mem) (now reel) (now jrnl) ⌝ }
-    ensures told { λ r. ⌜ r ≡ handTold d k c (now (mem .entry)) (now (reel .entry)) (now (table .entry)) (now (jrnl .entry)) ⌝ }
-    ensures memory { λ _. ⌜ now (mem .exit) ≡ memoryKept d k c (now (mem .entry)) (now (reel .entry)) (now (table .entry)) (now (jrnl .entry)) ⌝ }
-    ensures reel { λ _. ⌜ now (reel .exit) ≡ reelKept d k c (now (mem .entry)) (now (reel .entry)) (now (table .entry)) (now (jrnl .entry)) ⌝ }
-    ensures table { λ _. ⌜ now (table .exit) ≡ tableKept d k c (now (mem .entry)) (now (reel .entry)) (now (table .entry)) (now (jrnl .entry)) ⌝ }
-    ensures journal { λ _. ⌜ JournalFor d k c (now (mem .entry)) (now (reel .entry)) (now (table .entry)) (now (jrnl .entry)) (now (jrnl .exit)) ⌝ }
+    requires { FitOn d c mem.old reel.old jrnl.old }
+    ensures told { result ≡ handTold d k c mem.old reel.old table.old jrnl.old }
+    ensures memory { mem.new ≡ memoryKept d k c mem.old reel.old table.old jrnl.old }
+    ensures reel { reel.new ≡ reelKept d k c mem.old reel.old table.old jrnl.old }
+    ensures table { table.new ≡ tableKept d k c mem.old reel.old table.old jrnl.old }
+    ensures journal { JournalFor d k c mem.old reel.old table.old jrnl.old jrnl.new }
 {
     let t = hand(d, k, c, mem, reel, table, jrnl);
     let sizes = d.sizes;

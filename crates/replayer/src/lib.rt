@@ -7,11 +7,11 @@ mod reading;
 mod shares;
 mod turns;
 
+ghost use Rattle.std.specs.Prelude.{◌≡◌, length};
+
 use desk::fresh_at;
 use reading::read_all;
 use script::crc_table;
-ghost use mathlib.Core.Path.{_≡_};
-ghost use lib.ListN.{length};
 
 fn memory() -> [u8; 262146] {
     [0u8; 262146]
@@ -36,7 +36,7 @@ fn data_space() -> [u8; 131072] {
 }
 
 fn line_space() -> [u8; 4096]
-    ensures { λ r. ⌜ 4096 ≡ length r ⌝ }
+    ensures { 4096 ≡ length result }
 {
     [0u8; 4096]
 }

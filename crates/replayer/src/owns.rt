@@ -1,35 +1,23 @@
 // A unit's own lines over all the buffers: it has its part of the reels and of the tables.
-use crate::asks::Own;
-use crate::asks::Task;
+ghost use Rattle.std.specs.Prelude.{◌≡◌, ◌<◌, ◌≤◌, length, take};
+ghost use Rattle.replayer.specs.Owns.{OwnJournal, UnitFits, UnitJournal, lackingAlso, ownMemory, ownReels, ownRound, ownTables, tellRound, unitMemory, unitReels, unitTables, unitTold};
+ghost use Rattle.replayer.specs.Turns.{buildMemory, buildReels, buildRound, tableRound, tableTables};
+
+use crate::asks::{Own, Task};
 use crate::hands::carry;
 use commands::Answer;
-use desk::Bench;
-use desk::REEL_ROOM;
-use desk::Round;
-use desk::STATIONS;
-use desk::TABLE_ROOM;
-use desk::build;
-use desk::put_turn;
-use desk::refused;
-use desk::tabled;
-use desk::told_at;
-use desk::view;
-use desk::with_session;
-use lines::Build;
-use lines::Table;
-use results::Also;
-use results::Told;
+use desk::{
+    Bench, REEL_ROOM, Round, STATIONS, TABLE_ROOM, build, put_turn, refused, tabled, told_at, view,
+    with_session,
+};
+use lines::{Build, Table};
+use results::{Also, Told};
 use worlds::absent;
-ghost use mathlib.Core.Path.{_≡_};
-ghost use Prim.Native.Nat.{_<_, _≤_};
-ghost use lib.ListN.{length, take};
-ghost use Rattle·replayer·specs.specs.Owns.{OwnJournal, UnitFits, UnitJournal, lackingAlso, ownMemory, ownReels, ownRound, ownTables, tellRound, unitMemory, unitReels, unitTables, unitTold};
-ghost use Rattle·replayer·specs.specs.Turns.{buildMemory, buildReels, buildRound, tableRound, tableTables};
 
 // Unit k's task told: its session is kept, and unit u's fields are printed.
 pub fn tell(b: Bench, k: usize, t: Told, u: usize) -> Round
-    requires { ⌜ k < 5 ⌝ }
-    ensures { λ r. ⌜ r ≡ tellRound b k t u ⌝ }
+    requires { k < 5 }
+    ensures { result ≡ tellRound b k t u }
 {
     let session = t.session;
     let answer = t.answer;
@@ -47,14 +35,14 @@ pub fn carry_for(
     tables: &mut [u8],
     jrnl: &mut [u8],
 ) -> Told
-    requires unit { ⌜ k < 5 ⌝ }
-    requires room { ⌜ (655360 ≤ length (now reels)) × (20480 ≤ length (now tables)) ⌝ }
-    requires fits { ⌜ UnitFits b k c (now mem) (now reels) (now tables) (now jrnl) ⌝ }
-    ensures told { λ r. ⌜ r ≡ unitTold b k c (now (mem .entry)) (now (reels .entry)) (now (tables .entry)) (now (jrnl .entry)) ⌝ }
-    ensures memory { λ _. ⌜ now (mem .exit) ≡ unitMemory b k c (now (mem .entry)) (now (reels .entry)) (now (tables .entry)) (now (jrnl .entry)) ⌝ }
-    ensures reels { λ _. ⌜ now (reels .exit) ≡ unitReels b k c (now (mem .entry)) (now (reels .entry)) (now (tables .entry)) (now (jrnl .entry)) ⌝ }
-    ensures tables { λ _. ⌜ now (tables .exit) ≡ unitTables b k c (now (mem .entry)) (now (reels .entry)) (now (tables .entry)) (now (jrnl .entry)) ⌝ }
-    ensures journal { λ _. ⌜ UnitJournal b k c (now (mem .entry)) (now (reels .entry)) (now (tables .entry)) (now (jrnl .entry)) (now (jrnl .exit)) ⌝ }
+    requires unit { k < 5 }
+    requires room { (655360 ≤ length reels.old) × (20480 ≤ length tables.old) }
+    requires fits { UnitFits b k c mem.old reels.old tables.old jrnl.old }
+    ensures told { result ≡ unitTold b k c mem.old reels.old tables.old jrnl.old }
+    ensures memory { mem.new ≡ unitMemory b k c mem.old reels.old tables.old jrnl.old }
+    ensures reels { reels.new ≡ unitReels b k c mem.old reels.old tables.old jrnl.old }
+    ensures tables { tables.new ≡ unitTables b k c mem.old reels.old tables.old jrnl.old }
+    ensures journal { UnitJournal b k c mem.old reels.old tables.old jrnl.old jrnl.new }
 {
     let r = REEL_ROOM * k;
     let t = TABLE_ROOM * k;
@@ -72,7 +60,7 @@ pub fn carry_for(
 
 // "Reading a register .. refusal 1 and word 0": of a unit not present 12 and word 0.
 fn lacking(c: Own) -> Also
-    ensures { λ r. ⌜ r ≡ lackingAlso c ⌝ }
+    ensures { result ≡ lackingAlso c }
 {
     match c {
         Own::Mount(_, _, _) => Also::Nothing,
@@ -91,12 +79,12 @@ pub fn own(
     tables: &mut [u8],
     jrnl: &mut [u8],
 ) -> Round
-    requires { ⌜ (655360 ≤ length (now reels)) × (20480 ≤ length (now tables)) ⌝ }
-    ensures round { λ r. ⌜ r ≡ ownRound b u c (now (mem .entry)) (now (reels .entry)) (now (tables .entry)) (now (jrnl .entry)) ⌝ }
-    ensures memory { λ _. ⌜ now (mem .exit) ≡ ownMemory b u c (now (mem .entry)) (now (reels .entry)) (now (tables .entry)) (now (jrnl .entry)) ⌝ }
-    ensures reels { λ _. ⌜ now (reels .exit) ≡ ownReels b u c (now (mem .entry)) (now (reels .entry)) (now (tables .entry)) (now (jrnl .entry)) ⌝ }
-    ensures tables { λ _. ⌜ now (tables .exit) ≡ ownTables b u c (now (mem .entry)) (now (reels .entry)) (now (tables .entry)) (now (jrnl .entry)) ⌝ }
-    ensures journal { λ _. ⌜ OwnJournal b u c (now (mem .entry)) (now (reels .entry)) (now (tables .entry)) (now (jrnl .entry)) (now (jrnl .exit)) ⌝ }
+    requires { (655360 ≤ length reels.old) × (20480 ≤ length tables.old) }
+    ensures round { result ≡ ownRound b u c mem.old reels.old tables.old jrnl.old }
+    ensures memory { mem.new ≡ ownMemory b u c mem.old reels.old tables.old jrnl.old }
+    ensures reels { reels.new ≡ ownReels b u c mem.old reels.old tables.old jrnl.old }
+    ensures tables { tables.new ≡ ownTables b u c mem.old reels.old tables.old jrnl.old }
+    ensures journal { OwnJournal b u c mem.old reels.old tables.old jrnl.old jrnl.new }
 {
     if absent(b.units, u) {
         return told_at(b, u, Answer::Refused(12), lacking(c));
@@ -114,10 +102,10 @@ pub fn build_for(
     mem: &mut [u8],
     reels: &mut [u8],
 ) -> Round
-    requires { ⌜ (n ≤ length (now «data»)) × (655360 ≤ length (now reels)) ⌝ }
-    ensures round { λ r. ⌜ r ≡ buildRound b u k (now («data» .entry)) n (now (mem .entry)) (now (reels .entry)) ⌝ }
-    ensures memory { λ _. ⌜ now (mem .exit) ≡ buildMemory b u k (now («data» .entry)) n (now (mem .entry)) (now (reels .entry)) ⌝ }
-    ensures reels { λ _. ⌜ now (reels .exit) ≡ buildReels b u k (now («data» .entry)) n (now (mem .entry)) (now (reels .entry)) ⌝ }
+    requires { (n ≤ length «data».now) × (655360 ≤ length reels.old) }
+    ensures round { result ≡ buildRound b u k «data».now n mem.old reels.old }
+    ensures memory { mem.new ≡ buildMemory b u k «data».now n mem.old reels.old }
+    ensures reels { reels.new ≡ buildReels b u k «data».now n mem.old reels.old }
 {
     if STATIONS <= u {
         return refused(b);
@@ -129,9 +117,9 @@ pub fn build_for(
 }
 
 pub fn table_for(b: Bench, u: usize, t: Table, data: &[u8], n: usize, tables: &mut [u8]) -> Round
-    requires { ⌜ (n ≤ length (now «data»)) × (20480 ≤ length (now tables)) ⌝ }
-    ensures round { λ r. ⌜ r ≡ tableRound b u t (take n (now («data» .entry))) (now (tables .entry)) ⌝ }
-    ensures tables { λ _. ⌜ now (tables .exit) ≡ tableTables b u t (take n (now («data» .entry))) (now (tables .entry)) ⌝ }
+    requires { (n ≤ length «data».now) × (20480 ≤ length tables.old) }
+    ensures round { result ≡ tableRound b u t (take n «data».now) tables.old }
+    ensures tables { tables.new ≡ tableTables b u t (take n «data».now) tables.old }
 {
     if STATIONS <= u {
         return refused(b);

@@ -1,23 +1,11 @@
 // What a line prints. No contract here can say more: the C library's write promises nothing of what is written.
-use desk::Bench;
-use desk::REEL_ROOM;
-use desk::Said;
-use desk::TABLE_ROOM;
+ghost use Rattle.std.specs.Prelude.{◌≡◌, ◌*◌, min, length};
+
+use desk::{Bench, REEL_ROOM, Said, TABLE_ROOM};
 use libc::STDOUT_FILENO;
 use lists::least;
-use results::Told;
-use results::put_absent;
-use results::put_complaint;
-use results::put_misplaced;
-use results::put_result;
-use script::Fault;
-use script::crc;
-use script::last;
-use script::nth;
-use script::write_out;
-ghost use mathlib.Core.Path.{_≡_};
-ghost use Prim.Native.Nat.{_*_, min};
-ghost use lib.ListN.{length};
+use results::{Told, put_absent, put_complaint, put_misplaced, put_result};
+use script::{Fault, crc, last, nth, write_out};
 
 // A line with no blanks around it.
 fn print_line(text: &[u8]) {
@@ -32,7 +20,7 @@ fn print_line(text: &[u8]) {
 
 // More than any line that is printed.
 fn line_space() -> [u8; 1000]
-    ensures { λ r. ⌜ 1000 ≡ length r ⌝ }
+    ensures { 1000 ≡ length result }
 {
     [0u8; 1000]
 }
@@ -58,7 +46,7 @@ fn crc_of(b: &[u8], at: usize, n: usize, sums: &[usize; 256]) -> usize {
 
 // The used part of a table of n bytes: eight for each object, or all of it.
 fn used_bytes(objects: usize, n: usize) -> usize
-    ensures { λ r. ⌜ r ≡ min (8 * objects) n ⌝ }
+    ensures { result ≡ min (8 * objects) n }
 {
     if n / 8 < objects {
         return n;

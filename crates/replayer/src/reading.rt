@@ -1,29 +1,19 @@
 // The script in chunks, its lines out of them, and each line run. No contract here can say more: the C library's read promises nothing of
 // what is read.
+ghost use Rattle.std.specs.Prelude.{◌≤◌, ◌<◌, length};
+
 use crate::prints::print;
 use crate::turns::carry_out;
-use desk::Bench;
-use desk::Said;
-use desk::cursor_at;
-use desk::next_line;
-use lines::Does;
-use lines::Given;
-use lines::Line;
-use lines::fill;
-use lines::line_of;
-use lines::prefix_of;
+use desk::{Bench, Said, cursor_at, next_line};
+use lines::{Does, Given, Line, fill, line_of, prefix_of};
 use lists::least;
-use script::Fault;
-use script::Value;
-use script::append;
-use script::find;
-ghost use Prim.Native.Nat.{_≤_, _<_};
-ghost use lib.ListN.{length};
+use script::{Fault, Value, append, find};
 
 // More than any line holds.
 const LONG: usize = 1000000;
 
 // Where the reading of a line is.
+#[derive(Drop)]
 struct Reader {
     // The next byte of the chunk, and how many the chunk has.
     at: usize,
@@ -52,7 +42,7 @@ fn begun(r: Reader) -> usize {
 
 // The place beyond a line end, or the chunk's end.
 fn onward(end: usize, n: usize) -> usize
-    requires { ⌜ end ≤ n ⌝ }
+    requires { end ≤ n }
 {
     if end < n { end + 1 } else { n }
 }
@@ -106,7 +96,7 @@ fn take_more(r: Reader, fd: i32, chunk: &mut [u8], line: &mut [u8]) -> Reader {
 
 // How many bytes stand before a comment; 0 of a line that is too long.
 fn text_length(line: &[u8], filled: usize) -> usize
-    ensures { λ r. ⌜ r ≤ length (now (line .entry)) ⌝ }
+    ensures { result ≤ length line.now }
 {
     if line.len() < filled {
         return 0;
@@ -122,7 +112,7 @@ fn too_long() -> Line {
 
 // The line proper as a value: from the end of its prefix to byte n.
 fn line_in(line: &[u8], filled: usize, from: usize, n: usize, cursor: usize) -> Line
-    requires { ⌜ (from ≤ n) × (n ≤ length (now line)) ⌝ }
+    requires { (from ≤ n) × (n ≤ length line.now) }
 {
     if line.len() < filled {
         return too_long();
@@ -132,7 +122,7 @@ fn line_in(line: &[u8], filled: usize, from: usize, n: usize, cursor: usize) -> 
 
 // How many bytes a line gave.
 fn held(v: Value, room: usize) -> usize
-    ensures { λ r. ⌜ r ≤ room ⌝ }
+    ensures { result ≤ room }
 {
     match v {
         Value::Is(n) => least(n, room),

@@ -1,39 +1,28 @@
 // Calls of no unit: "Host stores belong to no unit", and "step back undoes the newest step of any unit".
+ghost use Rattle.std.specs.Prelude.{◌≡◌, ◌<◌, ◌≤◌, length};
+ghost use Rattle.std.proofs.lemmas.List.Edits.{sets};
+ghost use Rattle.commands.specs.Answers.{isStep};
+ghost use Rattle.desk.specs.Benches.{handedAt};
+ghost use Rattle.entries.specs.Entries.{entryBare};
+ghost use Rattle.steps.specs.Readiness.{NoneUndoable};
+ghost use Rattle.replayer.specs.Journals.{JournalHanded};
+ghost use Rattle.replayer.specs.Shares.{BackJournal, StoreJournal, backMemory, backReels, backRefused, backRound, backTables, entryAlso, journalHanded, keptRound, memoryHanded, memoryKeptOf, newestAt, noneOn, seatAt, sharedOf, storeMemory, storeOn, storeRound};
+
 use crate::asks::Task;
-use crate::owns::carry_for;
-use crate::owns::tell;
+use crate::owns::{carry_for, tell};
 use commands::Answer;
-use coupler::back_refusal;
-use coupler::host_store;
-use coupler::named;
-use desk::Bench;
-use desk::REEL_ROOM;
-use desk::Round;
-use desk::handed_at;
-use desk::told_at;
-use desk::with_coupler;
+use coupler::{back_refusal, host_store, named};
+use desk::{Bench, REEL_ROOM, Round, handed_at, told_at, with_coupler};
 use entries::TRANSPORTS;
 use lists::least;
 use results::Also;
 use script::wipe;
 use steps::undo_none;
-use worlds::Coupler;
-use worlds::Seat;
-use worlds::Shared;
-ghost use mathlib.Core.Path.{_≡_};
-ghost use Prim.Native.Nat.{_<_, _≤_};
-ghost use lib.ListN.{length};
-ghost use lib.Seq.{sets};
-ghost use Rattle·commands.specs.Answers.{isStep};
-ghost use Rattle·desk.specs.Benches.{handedAt};
-ghost use Rattle·entries.specs.Entries.{entryBare};
-ghost use Rattle·steps.specs.Readiness.{NoneUndoable};
-ghost use Rattle·replayer·specs.specs.Journals.{JournalHanded};
-ghost use Rattle·replayer·specs.specs.Shares.{BackJournal, StoreJournal, backMemory, backReels, backRefused, backRound, backTables, entryAlso, journalHanded, keptRound, memoryHanded, memoryKeptOf, newestAt, noneOn, seatAt, sharedOf, storeMemory, storeOn, storeRound};
+use worlds::{Coupler, Seat, Shared};
 
 // What the units share is kept.
 fn keep(b: Bench, u: usize, x: Shared, also: Also) -> Round
-    ensures { λ r. ⌜ r ≡ keptRound b u x also ⌝ }
+    ensures { result ≡ keptRound b u x also }
 {
     let answer = x.answer;
     let c = x.coupler;
@@ -42,7 +31,7 @@ fn keep(b: Bench, u: usize, x: Shared, also: Also) -> Round
 
 // How much longer the used journal is.
 fn entry(c: Coupler, x: Shared) -> Also
-    ensures { λ r. ⌜ r ≡ entryAlso c x ⌝ }
+    ensures { result ≡ entryAlso c x }
 {
     let used = x.coupler.used;
     Also::Entry(used - least(c.used, used))
@@ -50,9 +39,9 @@ fn entry(c: Coupler, x: Shared) -> Also
 
 // The host's bytes to a place, over what is handed.
 fn hand_store(b: Bench, at: usize, bytes: &[u8], mem: &mut [u8], jrnl: &mut [u8]) -> Shared
-    ensures shared { λ r. ⌜ r ≡ sharedOf (storeOn b at (now (bytes .entry)) (now (mem .entry)) (now (jrnl .entry))) ⌝ }
-    ensures memory { λ _. ⌜ now (mem .exit) ≡ sets (now (mem .entry)) 0 (storeOn b at (now (bytes .entry)) (now (mem .entry)) (now (jrnl .entry)) .world .core .memory) ⌝ }
-    ensures journal { λ _. ⌜ JournalHanded (handedAt b 0 .journal) (isStep (storeOn b at (now (bytes .entry)) (now (mem .entry)) (now (jrnl .entry)) .answer)) (storeOn b at (now (bytes .entry)) (now (mem .entry)) (now (jrnl .entry))) (now (jrnl .entry)) (now (jrnl .exit)) ⌝ }
+    ensures shared { result ≡ sharedOf (storeOn b at bytes.now mem.old jrnl.old) }
+    ensures memory { mem.new ≡ sets mem.old 0 (storeOn b at bytes.now mem.old jrnl.old).world.core.memory }
+    ensures journal { JournalHanded (handedAt b 0).journal (isStep (storeOn b at bytes.now mem.old jrnl.old).answer) (storeOn b at bytes.now mem.old jrnl.old) jrnl.old jrnl.new }
 {
     let h = handed_at(b, 0);
     let m = least(h.memory, mem.len());
@@ -62,9 +51,9 @@ fn hand_store(b: Bench, at: usize, bytes: &[u8], mem: &mut [u8], jrnl: &mut [u8]
 }
 
 pub fn store(b: Bench, u: usize, at: usize, bytes: &[u8], mem: &mut [u8], jrnl: &mut [u8]) -> Round
-    ensures round { λ r. ⌜ r ≡ storeRound b u at (now (bytes .entry)) (now (mem .entry)) (now (jrnl .entry)) ⌝ }
-    ensures memory { λ _. ⌜ now (mem .exit) ≡ storeMemory b at (now (bytes .entry)) (now (mem .entry)) (now (jrnl .entry)) ⌝ }
-    ensures journal { λ _. ⌜ StoreJournal b at (now (bytes .entry)) (now (mem .entry)) (now (jrnl .entry)) (now (jrnl .exit)) ⌝ }
+    ensures round { result ≡ storeRound b u at bytes.now mem.old jrnl.old }
+    ensures memory { mem.new ≡ storeMemory b at bytes.now mem.old jrnl.old }
+    ensures journal { StoreJournal b at bytes.now mem.old jrnl.old jrnl.new }
 {
     let x = hand_store(b, at, bytes, mem, jrnl);
     let h = handed_at(b, 0);
@@ -76,8 +65,8 @@ pub fn store(b: Bench, u: usize, at: usize, bytes: &[u8], mem: &mut [u8], jrnl: 
 
 // The unit's record, and how much of its reel a step back is handed.
 fn seat(b: Bench, k: usize) -> Seat
-    requires { ⌜ k < 5 ⌝ }
-    ensures { λ r. ⌜ r ≡ seatAt b k ⌝ }
+    requires { k < 5 }
+    ensures { result ≡ seatAt b k }
 {
     let s = b.stations[k];
     let transport = s.transport;
@@ -90,7 +79,7 @@ fn seat(b: Bench, k: usize) -> Seat
 
 // Refusals 1 to 4, 6 and 8 of a step back over what is handed, or 0.
 fn refusal(b: Bench, mem: &[u8], jrnl: &[u8]) -> usize
-    ensures { λ r. ⌜ r ≡ backRefused b (now (mem .entry)) (now (jrnl .entry)) ⌝ }
+    ensures { result ≡ backRefused b mem.now jrnl.now }
 {
     let h = handed_at(b, 0);
     let m = least(h.memory, mem.len());
@@ -110,8 +99,8 @@ fn refusal(b: Bench, mem: &[u8], jrnl: &[u8]) -> usize
 
 // The unit that the newest entry names.
 fn newest(b: Bench, jrnl: &[u8]) -> usize
-    requires { ⌜ (entryBare ≤ b .coupler .used) × (b .coupler .used ≤ length (journalHanded b (now jrnl))) ⌝ }
-    ensures { λ r. ⌜ r ≡ newestAt b (now (jrnl .entry)) ⌝ }
+    requires { (entryBare ≤ b.coupler.used) × (b.coupler.used ≤ length (journalHanded b jrnl.now)) }
+    ensures { result ≡ newestAt b jrnl.now }
 {
     let h = handed_at(b, 0);
     let j = least(h.journal, jrnl.len());
@@ -121,9 +110,9 @@ fn newest(b: Bench, jrnl: &[u8]) -> usize
 
 // A host store undone, over what is handed.
 fn hand_undo(b: Bench, mem: &mut [u8], jrnl: &[u8]) -> Shared
-    requires { ⌜ NoneUndoable (b .coupler) (length (memoryHanded b (now mem))) (length (journalHanded b (now jrnl))) ⌝ }
-    ensures shared { λ r. ⌜ r ≡ sharedOf (noneOn b (now (mem .entry)) (now (jrnl .entry))) ⌝ }
-    ensures memory { λ _. ⌜ now (mem .exit) ≡ sets (now (mem .entry)) 0 (noneOn b (now (mem .entry)) (now (jrnl .entry)) .world .core .memory) ⌝ }
+    requires { NoneUndoable b.coupler (length (memoryHanded b mem.old)) (length (journalHanded b jrnl.now)) }
+    ensures shared { result ≡ sharedOf (noneOn b mem.old jrnl.now) }
+    ensures memory { mem.new ≡ sets mem.old 0 (noneOn b mem.old jrnl.now).world.core.memory }
 {
     let h = handed_at(b, 0);
     let m = least(h.memory, mem.len());
@@ -133,9 +122,9 @@ fn hand_undo(b: Bench, mem: &mut [u8], jrnl: &[u8]) -> Shared
 }
 
 fn back_none(b: Bench, u: usize, mem: &mut [u8], jrnl: &[u8]) -> Round
-    requires { ⌜ NoneUndoable (b .coupler) (length (memoryHanded b (now mem))) (length (journalHanded b (now jrnl))) ⌝ }
-    ensures round { λ r. ⌜ r ≡ keptRound b u (sharedOf (noneOn b (now (mem .entry)) (now (jrnl .entry)))) Also.Nothing ⌝ }
-    ensures memory { λ _. ⌜ now (mem .exit) ≡ memoryKeptOf b (noneOn b (now (mem .entry)) (now (jrnl .entry))) (now (mem .entry)) ⌝ }
+    requires { NoneUndoable b.coupler (length (memoryHanded b mem.old)) (length (journalHanded b jrnl.now)) }
+    ensures round { result ≡ keptRound b u (sharedOf (noneOn b mem.old jrnl.now)) Also.Nothing }
+    ensures memory { mem.new ≡ memoryKeptOf b (noneOn b mem.old jrnl.now) mem.old }
 {
     let x = hand_undo(b, mem, jrnl);
     let h = handed_at(b, 0);
@@ -152,12 +141,12 @@ pub fn back(
     tables: &mut [u8],
     jrnl: &mut [u8],
 ) -> Round
-    requires { ⌜ (655360 ≤ length (now reels)) × (20480 ≤ length (now tables)) ⌝ }
-    ensures round { λ r. ⌜ r ≡ backRound b (now (mem .entry)) (now (reels .entry)) (now (tables .entry)) (now (jrnl .entry)) u ⌝ }
-    ensures memory { λ _. ⌜ now (mem .exit) ≡ backMemory b (now (mem .entry)) (now (reels .entry)) (now (tables .entry)) (now (jrnl .entry)) ⌝ }
-    ensures reels { λ _. ⌜ now (reels .exit) ≡ backReels b (now (mem .entry)) (now (reels .entry)) (now (tables .entry)) (now (jrnl .entry)) ⌝ }
-    ensures tables { λ _. ⌜ now (tables .exit) ≡ backTables b (now (mem .entry)) (now (reels .entry)) (now (tables .entry)) (now (jrnl .entry)) ⌝ }
-    ensures journal { λ _. ⌜ BackJournal b (now (mem .entry)) (now (reels .entry)) (now (tables .entry)) (now (jrnl .entry)) (now (jrnl .exit)) ⌝ }
+    requires { (655360 ≤ length reels.old) × (20480 ≤ length tables.old) }
+    ensures round { result ≡ backRound b mem.old reels.old tables.old jrnl.old u }
+    ensures memory { mem.new ≡ backMemory b mem.old reels.old tables.old jrnl.old }
+    ensures reels { reels.new ≡ backReels b mem.old reels.old tables.old jrnl.old }
+    ensures tables { tables.new ≡ backTables b mem.old reels.old tables.old jrnl.old }
+    ensures journal { BackJournal b mem.old reels.old tables.old jrnl.old jrnl.new }
 {
     let n = refusal(b, mem, jrnl);
     if n != 0 {

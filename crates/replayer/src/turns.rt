@@ -1,32 +1,24 @@
 // One line of the script carried out.
-use crate::asks::Whose;
-use crate::asks::owner_of;
-use crate::owns::build_for;
-use crate::owns::own;
-use crate::owns::table_for;
-use crate::shares::back;
-use crate::shares::store;
-use desk::Bench;
-use desk::Round;
-use desk::Said;
-use desk::arrange;
+ghost use Rattle.std.specs.Prelude.{◌≡◌, ◌≤◌, length};
+ghost use Rattle.desk.specs.Benches.{round, still};
+ghost use Rattle.replayer.specs.Turns.{CallJournal, JournalOn, callMemory, callReels, callRound, callTables, memoryOn, reelsOn, roundOn, tablesOn};
+
+use crate::asks::{Whose, owner_of};
+use crate::owns::{build_for, own, table_for};
+use crate::shares::{back, store};
+use desk::{Bench, Round, Said, arrange};
 use lines::Does;
 use script::Fault;
-ghost use mathlib.Core.Path.{_≡_};
-ghost use Prim.Native.Nat.{_≤_};
-ghost use lib.ListN.{length};
-ghost use Rattle·desk.specs.Benches.{round, still};
-ghost use Rattle·replayer·specs.specs.Turns.{CallJournal, JournalOn, callMemory, callReels, callRound, callTables, memoryOn, reelsOn, roundOn, tablesOn};
 
 fn nothing(bench: Bench) -> Round
-    ensures { λ r. ⌜ r ≡ still bench ⌝ }
+    ensures { result ≡ still bench }
 {
     let said = Said::Nothing;
     Round { bench, said }
 }
 
 fn wrong(bench: Bench, f: Fault) -> Round
-    ensures { λ r. ⌜ r ≡ round bench (Said.Wrong f) ⌝ }
+    ensures { result ≡ round bench (Said.Wrong f) }
 {
     let said = Said::Wrong(f);
     Round { bench, said }
@@ -43,12 +35,12 @@ fn make_call(
     tables: &mut [u8],
     jrnl: &mut [u8],
 ) -> Round
-    requires { ⌜ (655360 ≤ length (now reels)) × (20480 ≤ length (now tables)) ⌝ }
-    ensures round { λ r. ⌜ r ≡ callRound b u w (now (bytes .entry)) (now (mem .entry)) (now (reels .entry)) (now (tables .entry)) (now (jrnl .entry)) ⌝ }
-    ensures memory { λ _. ⌜ now (mem .exit) ≡ callMemory b u w (now (bytes .entry)) (now (mem .entry)) (now (reels .entry)) (now (tables .entry)) (now (jrnl .entry)) ⌝ }
-    ensures reels { λ _. ⌜ now (reels .exit) ≡ callReels b u w (now (bytes .entry)) (now (mem .entry)) (now (reels .entry)) (now (tables .entry)) (now (jrnl .entry)) ⌝ }
-    ensures tables { λ _. ⌜ now (tables .exit) ≡ callTables b u w (now (bytes .entry)) (now (mem .entry)) (now (reels .entry)) (now (tables .entry)) (now (jrnl .entry)) ⌝ }
-    ensures journal { λ _. ⌜ CallJournal b u w (now (bytes .entry)) (now (mem .entry)) (now (reels .entry)) (now (tables .entry)) (now (jrnl .entry)) (now (jrnl .exit)) ⌝ }
+    requires { (655360 ≤ length reels.old) × (20480 ≤ length tables.old) }
+    ensures round { result ≡ callRound b u w bytes.now mem.old reels.old tables.old jrnl.old }
+    ensures memory { mem.new ≡ callMemory b u w bytes.now mem.old reels.old tables.old jrnl.old }
+    ensures reels { reels.new ≡ callReels b u w bytes.now mem.old reels.old tables.old jrnl.old }
+    ensures tables { tables.new ≡ callTables b u w bytes.now mem.old reels.old tables.old jrnl.old }
+    ensures journal { CallJournal b u w bytes.now mem.old reels.old tables.old jrnl.old jrnl.new }
 {
     match w {
         Whose::Unit(c) => own(b, u, c, mem, reels, tables, jrnl),
@@ -69,12 +61,12 @@ pub fn carry_out(
     tables: &mut [u8; 20480],
     jrnl: &mut [u8; 1048576],
 ) -> Round
-    requires { ⌜ n ≤ length (now «data») ⌝ }
-    ensures round { λ r. ⌜ r ≡ roundOn b u does (now («data» .entry)) n (now (mem .entry)) (now (reels .entry)) (now (tables .entry)) (now (jrnl .entry)) ⌝ }
-    ensures memory { λ _. ⌜ now (mem .exit) ≡ memoryOn b u does (now («data» .entry)) n (now (mem .entry)) (now (reels .entry)) (now (tables .entry)) (now (jrnl .entry)) ⌝ }
-    ensures reels { λ _. ⌜ now (reels .exit) ≡ reelsOn b u does (now («data» .entry)) n (now (mem .entry)) (now (reels .entry)) (now (tables .entry)) (now (jrnl .entry)) ⌝ }
-    ensures tables { λ _. ⌜ now (tables .exit) ≡ tablesOn b u does (now («data» .entry)) n (now (mem .entry)) (now (reels .entry)) (now (tables .entry)) (now (jrnl .entry)) ⌝ }
-    ensures journal { λ _. ⌜ JournalOn b u does (now («data» .entry)) n (now (mem .entry)) (now (reels .entry)) (now (tables .entry)) (now (jrnl .entry)) (now (jrnl .exit)) ⌝ }
+    requires { n ≤ length «data».now }
+    ensures round { result ≡ roundOn b u does «data».now n mem.old reels.old tables.old jrnl.old }
+    ensures memory { mem.new ≡ memoryOn b u does «data».now n mem.old reels.old tables.old jrnl.old }
+    ensures reels { reels.new ≡ reelsOn b u does «data».now n mem.old reels.old tables.old jrnl.old }
+    ensures tables { tables.new ≡ tablesOn b u does «data».now n mem.old reels.old tables.old jrnl.old }
+    ensures journal { JournalOn b u does «data».now n mem.old reels.old tables.old jrnl.old jrnl.new }
 {
     match does {
         Does::Nothing => nothing(b),

@@ -1,40 +1,40 @@
 -- A session comes back from its numbers, whole: setting one of them leaves the others.
-use mathlib.Core.Path.{_≡_, refl}
+use mathlib.Core.Path.{◌≡◌, refl}
 use mathlib.Core.Bool.{Bool, true, false, not}
-use Prim.Native.Nat.{ℕ, _<_}
+use Prim.Native.Nat.{ℕ, ◌<◌}
 use native.Mathlib.Omega.{arith}
 use lib.Dec.{eqb}
-use Rattle·worlds.specs.declared.Session.{Session}
-use Rattle·results·specs.specs.Fields.{bitOf, fieldsOf, lowOf, sessionWith, unitWith}
+use Rattle.worlds.specs.declared.Session.{Session}
+use Rattle.results.specs.Fields.{bit_of, fields_of, low_of, sessionWith, unitWith}
 
-low : (x : ℕ) → x < 4294967296 → lowOf x ≡ x
+low : (x : ℕ) → x < 4294967296 → low_of x ≡ x
 low x h = omega arith
 
-told : (b : Bool) → not (eqb (bitOf b) 0) ≡ b
+told : (b : Bool) → not (eqb (bit_of b) 0) ≡ b
 told true = refl
 told false = refl
 
-pub session-back : (s : Session) → s .unit .characteristics .address < 4294967296 → s .unit .characteristics .length < 4294967296 → sessionWith (fieldsOf s) ≡ s
-unfolding fieldsOf sessionWith unitWith
+pub session-back : (s : Session) → s.unit.characteristics.address < 4294967296 → s.unit.characteristics.length < 4294967296 → sessionWith (fields_of s) ≡ s
+unfolding fields_of sessionWith unitWith
 session-back s h g =
-    let r = s .unit .registers in
-    let p = s .unit .panel in
-    let a = s .unit .attention in
-    let k = s .unit .characteristics in
+    let r = s.unit.registers in
+    let p = s.unit.panel in
+    let a = s.unit.attention in
+    let k = s.unit.characteristics in
     rw (
-      low (k .address) h,
-      low (k .length) g,
-      told (r .rmr),
-      told (r .nxm),
-      told (r .nba),
-      told (r .ssr),
-      told (p .online),
-      told (p .locked),
-      told (p .vck),
-      told (a .«unit_owns»),
-      told (a .pending),
-      told (a .«release_ie»),
-      told (k .eai),
-      told (k .ess),
-      told (k .enb),
+      low k.address h,
+      low k.length g,
+      told r.rmr,
+      told r.nxm,
+      told r.nba,
+      told r.ssr,
+      told p.online,
+      told p.locked,
+      told p.vck,
+      told a.unit_owns,
+      told a.pending,
+      told a.release_ie,
+      told k.eai,
+      told k.ess,
+      told k.enb,
     )

@@ -1,10 +1,9 @@
 -- The line that says which line of the script can't be taken, and why.
-use mathlib.Core.List.{List, [], _∷_, _++_}
-use Prim.Native.Nat.{ℕ}
-use Rattle·lines.specs.Rules.{ownRules}
-use Rattle·script.specs.Spelling.{spelling}
-use Rattle·script.specs.declared.Fault.{Fault}
-use Rattle·script.specs.declared.Fault.the-variants as fault
+use Rattle.std.specs.Prelude.{List, [], ◌∷◌, ◌++◌, ℕ}
+use Rattle.lines.specs.Rules.{ownRules}
+use Rattle.script.specs.Spelling.{spelling}
+use Rattle.script.specs.declared.Fault.{Fault}
+use Rattle.script.specs.declared.Fault.TheVariants as fault
 
 unfoldable pub reasonText : Fault → List ℕ
 -- ": unknown word"

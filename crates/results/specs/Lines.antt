@@ -1,17 +1,14 @@
 -- The result line of a call.
-use mathlib.Core.Bool.{Bool}
-use mathlib.Core.List.{List, [], _∷_, _++_}
-use Prim.Native.Nat.{ℕ}
-use lib.ListN.{take}
-use Rattle·tape.specs.Letters.{letterOf}
-use Rattle·tape.specs.declared.BlockFault.{BlockFault}
-use Rattle·commands.specs.declared.plans.Answer.{Answer}
-use Rattle·commands.specs.declared.plans.Answer.the-variants as answer
-use Rattle·worlds.specs.declared.Session.{Session}
-use Rattle·script.specs.Spelling.{spelling}
-use Rattle·results·specs.specs.declared.Also.{Also}
-use Rattle·results·specs.specs.declared.Also.the-variants as also
-use Rattle·results·specs.specs.Fields.{bitOf, fieldsOf, printedFields}
+use Rattle.std.specs.Prelude.{Bool, List, [], ◌∷◌, ◌++◌, ℕ, take}
+use Rattle.tape.specs.Letters.{letterOf}
+use Rattle.tape.specs.declared.BlockFault.{BlockFault}
+use Rattle.commands.specs.declared.plans.Answer.{Answer}
+use Rattle.commands.specs.declared.plans.Answer.TheVariants as answer
+use Rattle.worlds.specs.declared.Session.{Session}
+use Rattle.script.specs.Spelling.{spelling}
+use Rattle.results.specs.declared.Also.{Also}
+use Rattle.results.specs.declared.Also.TheVariants as also
+use Rattle.results.specs.Fields.{bit_of, fields_of, printedFields}
 
 -- a number in decimal, and in hexadecimal with no fewer digits than so many
 abbrev pub decimal : ℕ → List ℕ
@@ -22,7 +19,7 @@ hexadecimal least n = spelling 16 least n
 
 -- " int=" and " entry="
 abbrev pub interruptText : Bool → List ℕ
-interruptText i = (32 ∷ 105 ∷ 110 ∷ 116 ∷ 61 ∷ []) ++ decimal (bitOf i)
+interruptText i = (32 ∷ 105 ∷ 110 ∷ 116 ∷ 61 ∷ []) ++ decimal (bit_of i)
 
 abbrev pub entryText : ℕ → List ℕ
 entryText n = (32 ∷ 101 ∷ 110 ∷ 116 ∷ 114 ∷ 121 ∷ 61 ∷ []) ++ decimal n
@@ -71,7 +68,7 @@ sumsText m r tb = (32 ∷ 124 ∷ 32 ∷ []) ++ (hexadecimal 8 m ++ ((32 ∷ [])
 -- the answer and what it tells, the word read, the session after the call, the check sums of memory, reel and table
 unfoldable pub resultLine : Answer → Also → Session → ℕ → ℕ → ℕ → List ℕ
 resultLine a x s m r tb =
-    answerText a x ++ (wordText x ++ ((32 ∷ 124 ∷ []) ++ (numbersText (take printedFields (fieldsOf s)) ++ sumsText m r tb)))
+    answerText a x ++ (wordText x ++ ((32 ∷ 124 ∷ []) ++ (numbersText (take printedFields (fields_of s)) ++ sumsText m r tb)))
 
 -- "A unit not present: `ANS [extra] | - | memcrc`"
 unfoldable pub absentLine : Answer → Also → ℕ → List ℕ

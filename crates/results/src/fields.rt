@@ -1,23 +1,15 @@
 // The state's fields in the order in which they are printed, and three more that can be set.
-use script::flag;
-use script::put_labelled;
-use state::Attention;
-use state::Characteristics;
-use state::Lengths;
-use state::Panel;
-use state::Registers;
-use state::Tape;
-use state::Unit;
+ghost use Rattle.std.specs.Prelude.{◌≡◌, ◌<◌, set, take};
+ghost use Rattle.script.specs.Prints.{Put};
+ghost use Rattle.results.specs.Fields.{fields_of, low_of, printedFields, sessionWith, unitWith};
+ghost use Rattle.results.specs.Lines.{numbersText};
+
+use script::{flag, put_labelled};
+use state::{Attention, Characteristics, Lengths, Panel, Registers, Tape, Unit};
 use worlds::Session;
-ghost use mathlib.Core.Path.{_≡_};
-ghost use Prim.Native.Nat.{_<_};
-ghost use lib.ListN.{set, take};
-ghost use Rattle·script.specs.Prints.{Put};
-ghost use Rattle·results·specs.specs.Fields.{fieldsOf, lowOf, printedFields, sessionWith, unitWith};
-ghost use Rattle·results·specs.specs.Lines.{numbersText};
 
 fn fields(s: Session) -> [usize; 24]
-    ensures { λ r. ⌜ r ≡ fieldsOf s ⌝ }
+    ensures { result ≡ fields_of s }
 {
     [
         s.unit.tape.position,
@@ -49,13 +41,13 @@ fn fields(s: Session) -> [usize; 24]
 
 // Of a number that the state holds in 32 bits.
 fn low(x: usize) -> u32
-    ensures { λ r. ⌜ r ≡ lowOf x ⌝ }
+    ensures { result ≡ low_of x }
 {
     (x % 4294967296) as u32
 }
 
 fn unit_of(f: [usize; 24]) -> Unit
-    ensures { λ r. ⌜ r ≡ unitWith f ⌝ }
+    ensures { result ≡ unitWith f }
 {
     Unit {
         tape: Tape {
@@ -95,7 +87,7 @@ fn unit_of(f: [usize; 24]) -> Unit
 }
 
 fn session_of(f: [usize; 24]) -> Session
-    ensures { λ r. ⌜ r ≡ sessionWith f ⌝ }
+    ensures { result ≡ sessionWith f }
 {
     Session {
         unit: unit_of(f),
@@ -107,8 +99,8 @@ fn session_of(f: [usize; 24]) -> Session
 
 // The session with field k made up.
 pub fn with_field(s: Session, k: usize, v: usize) -> Session
-    requires { ⌜ k < 24 ⌝ }
-    ensures { λ r. ⌜ r ≡ sessionWith (set (fieldsOf s) k v) ⌝ }
+    requires { k < 24 }
+    ensures { result ≡ sessionWith (set (fields_of s) k v) }
 {
     let mut f = fields(s);
     f[k] = v;
@@ -116,7 +108,7 @@ pub fn with_field(s: Session, k: usize, v: usize) -> Session
 }
 
 fn put_all(out: &mut [u8], at: usize, f: [usize; 24]) -> usize
-    ensures { λ r. ⌜ Put (now (out .entry)) at (numbersText (take printedFields f)) (now (out .exit)) r ⌝ }
+    ensures { Put out.old at (numbersText (take printedFields f)) out.new result }
 {
     let mut next = at;
     let mut i: usize = 0;
@@ -128,7 +120,7 @@ fn put_all(out: &mut [u8], at: usize, f: [usize; 24]) -> usize
 }
 
 pub fn put_fields(out: &mut [u8], at: usize, s: Session) -> usize
-    ensures { λ r. ⌜ Put (now (out .entry)) at (numbersText (take printedFields (fieldsOf s))) (now (out .exit)) r ⌝ }
+    ensures { Put out.old at (numbersText (take printedFields (fields_of s))) out.new result }
 {
     let f = fields(s);
     put_all(out, at, f)

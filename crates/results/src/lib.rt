@@ -4,13 +4,11 @@ mod puts;
 
 use commands::Answer;
 pub use fields::with_field;
-pub use puts::put_absent;
-pub use puts::put_complaint;
-pub use puts::put_misplaced;
-pub use puts::put_result;
+pub use puts::{put_absent, put_complaint, put_misplaced, put_result};
 use worlds::Session;
 
 // What a call's line tells besides its answer: the length of the entry that it added, with the interrupt of an advance; or the word read.
+#[derive(Drop)]
 pub enum Also {
     Nothing,
     Entry(usize),
@@ -19,6 +17,7 @@ pub enum Also {
 }
 
 // What a call came to.
+#[derive(Drop)]
 pub struct Told {
     pub answer: Answer,
     pub also: Also,

@@ -1,30 +1,24 @@
 // The lines that are printed.
-use crate::Also;
-use crate::Told;
+ghost use Rattle.std.specs.Prelude.{◌++◌};
+ghost use Rattle.script.specs.Prints.{Put};
+ghost use Rattle.results.specs.Complaints.{complaintLine, misplacedLine, reasonText};
+ghost use Rattle.results.specs.Lines.{absentLine, alsoText, answerText, badText, doneText, entryText, interruptText, readText, resultLine, sumsText, wordText};
+
 use crate::fields::put_fields;
+use crate::{Also, Told};
 use commands::Answer;
-use script::Fault;
-use script::flag;
-use script::put_byte;
-use script::put_bytes;
-use script::put_decimal;
-use script::put_hex;
-use script::put_labelled;
+use script::{Fault, flag, put_byte, put_bytes, put_decimal, put_hex, put_labelled};
 use tape::BlockFault;
-ghost use mathlib.Core.List.{_++_};
-ghost use Rattle·script.specs.Prints.{Put};
-ghost use Rattle·results·specs.specs.Complaints.{complaintLine, misplacedLine, reasonText};
-ghost use Rattle·results·specs.specs.Lines.{absentLine, alsoText, answerText, badText, doneText, entryText, interruptText, readText, resultLine, sumsText, wordText};
 
 fn put_interrupt(out: &mut [u8], at: usize, interrupt: bool, entry: usize) -> usize
-    ensures { λ r. ⌜ Put (now (out .entry)) at (interruptText interrupt ++ entryText entry) (now (out .exit)) r ⌝ }
+    ensures { Put out.old at (interruptText interrupt ++ entryText entry) out.new result }
 {
     let next = put_labelled(out, at, b" int=", flag(interrupt));
     put_labelled(out, next, b" entry=", entry)
 }
 
 fn put_also(out: &mut [u8], at: usize, also: Also, interrupt: bool) -> usize
-    ensures { λ r. ⌜ Put (now (out .entry)) at (alsoText interrupt also) (now (out .exit)) r ⌝ }
+    ensures { Put out.old at (alsoText interrupt also) out.new result }
 {
     match also {
         Also::Nothing => at,
@@ -35,7 +29,7 @@ fn put_also(out: &mut [u8], at: usize, also: Also, interrupt: bool) -> usize
 }
 
 fn put_done(out: &mut [u8], also: Also, interrupt: bool) -> usize
-    ensures { λ r. ⌜ Put (now (out .entry)) 0 (doneText interrupt also) (now (out .exit)) r ⌝ }
+    ensures { Put out.old 0 (doneText interrupt also) out.new result }
 {
     let at = put_bytes(out, 0, b"0");
     put_also(out, at, also, interrupt)
@@ -43,7 +37,7 @@ fn put_done(out: &mut [u8], also: Also, interrupt: bool) -> usize
 
 // Refusal 7: the block, and the letter of what is wrong with it.
 fn put_bad(out: &mut [u8], fault: BlockFault, k: usize) -> usize
-    ensures { λ r. ⌜ Put (now (out .entry)) 0 (badText fault k) (now (out .exit)) r ⌝ }
+    ensures { Put out.old 0 (badText fault k) out.new result }
 {
     let at1 = put_labelled(out, 0, b"7 block=", k);
     let at2 = put_bytes(out, at1, b" fault=");
@@ -51,7 +45,7 @@ fn put_bad(out: &mut [u8], fault: BlockFault, k: usize) -> usize
 }
 
 fn put_answer(out: &mut [u8], answer: Answer, also: Also) -> usize
-    ensures { λ r. ⌜ Put (now (out .entry)) 0 (answerText answer also) (now (out .exit)) r ⌝ }
+    ensures { Put out.old 0 (answerText answer also) out.new result }
 {
     match answer {
         Answer::Done(interrupt) => put_done(out, also, interrupt),
@@ -62,14 +56,14 @@ fn put_answer(out: &mut [u8], answer: Answer, also: Also) -> usize
 }
 
 fn put_read(out: &mut [u8], at: usize, w: usize) -> usize
-    ensures { λ r. ⌜ Put (now (out .entry)) at (readText w) (now (out .exit)) r ⌝ }
+    ensures { Put out.old at (readText w) out.new result }
 {
     let next = put_bytes(out, at, b" word=");
     put_hex(out, next, w, 4)
 }
 
 fn put_word_read(out: &mut [u8], at: usize, also: Also) -> usize
-    ensures { λ r. ⌜ Put (now (out .entry)) at (wordText also) (now (out .exit)) r ⌝ }
+    ensures { Put out.old at (wordText also) out.new result }
 {
     match also {
         Also::Nothing => at,
@@ -80,7 +74,7 @@ fn put_word_read(out: &mut [u8], at: usize, also: Also) -> usize
 }
 
 fn put_sums(out: &mut [u8], at: usize, memory: usize, reel: usize, table: usize) -> usize
-    ensures { λ r. ⌜ Put (now (out .entry)) at (sumsText memory reel table) (now (out .exit)) r ⌝ }
+    ensures { Put out.old at (sumsText memory reel table) out.new result }
 {
     let at1 = put_bytes(out, at, b" | ");
     let at2 = put_hex(out, at1, memory, 8);
@@ -93,7 +87,7 @@ fn put_sums(out: &mut [u8], at: usize, memory: usize, reel: usize, table: usize)
 
 // The result line of a call, with the check sums of memory, reel and the table's used part.
 pub fn put_result(out: &mut [u8], t: Told, memory: usize, reel: usize, table: usize) -> usize
-    ensures { λ r. ⌜ Put (now (out .entry)) 0 (resultLine (t .answer) (t .also) (t .session) memory reel table) (now (out .exit)) r ⌝ }
+    ensures { Put out.old 0 (resultLine t.answer t.also t.session memory reel table) out.new result }
 {
     let answer = t.answer;
     let also = t.also;
@@ -107,7 +101,7 @@ pub fn put_result(out: &mut [u8], t: Told, memory: usize, reel: usize, table: us
 
 // The result line of a call where the line's unit is not in the row: with the check sum of memory alone.
 pub fn put_absent(out: &mut [u8], t: Told, memory: usize) -> usize
-    ensures { λ r. ⌜ Put (now (out .entry)) 0 (absentLine (t .answer) (t .also) memory) (now (out .exit)) r ⌝ }
+    ensures { Put out.old 0 (absentLine t.answer t.also memory) out.new result }
 {
     let answer = t.answer;
     let also = t.also;
@@ -119,7 +113,7 @@ pub fn put_absent(out: &mut [u8], t: Told, memory: usize) -> usize
 }
 
 fn put_reason(out: &mut [u8], at: usize, f: Fault) -> usize
-    ensures { λ r. ⌜ Put (now (out .entry)) at (reasonText f) (now (out .exit)) r ⌝ }
+    ensures { Put out.old at (reasonText f) out.new result }
 {
     match f {
         Fault::UnknownWord => put_bytes(out, at, b": unknown word\n"),
@@ -145,7 +139,7 @@ fn put_reason(out: &mut [u8], at: usize, f: Fault) -> usize
 
 // The line that says which line can't be read, and why.
 pub fn put_complaint(out: &mut [u8], line: usize, f: Fault) -> usize
-    ensures { λ r. ⌜ Put (now (out .entry)) 0 (complaintLine line f) (now (out .exit)) r ⌝ }
+    ensures { Put out.old 0 (complaintLine line f) out.new result }
 {
     let at = put_labelled(out, 0, b"line ", line);
     put_reason(out, at, f)
@@ -153,7 +147,7 @@ pub fn put_complaint(out: &mut [u8], line: usize, f: Fault) -> usize
 
 // The line that says which line has a prefix and takes none.
 pub fn put_misplaced(out: &mut [u8], line: usize) -> usize
-    ensures { λ r. ⌜ Put (now (out .entry)) 0 (misplacedLine line) (now (out .exit)) r ⌝ }
+    ensures { Put out.old 0 (misplacedLine line) out.new result }
 {
     let at = put_labelled(out, 0, b"line ", line);
     put_bytes(out, at, b": not a line of one unit\n")

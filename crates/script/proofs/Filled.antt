@@ -1,34 +1,34 @@
 -- Laws of the bytes that are put into a lent slice.
-use mathlib.Core.Path.{_≡_, refl, ap, _∙_}
-use mathlib.Core.Bool.{Bool, true, false, _&&_}
-use mathlib.Core.List.{List, [], _∷_, _++_, append-nil}
-use Prim.Native.Nat.{ℕ, zero, suc, _+_, _-_, _*_, _/_, _%_, _≤_, _<_, min}
+use mathlib.Core.Path.{◌≡◌, refl, ap, ◌∙◌}
+use mathlib.Core.Bool.{Bool, true, false, ◌&&◌}
+use mathlib.Core.List.{List, [], ◌∷◌, ◌++◌, append-nil}
+use Prim.Native.Nat.{ℕ, zero, suc, ◌+◌, ◌-◌, ◌*◌, ◌/◌, ◌%◌, ◌≤◌, ◌<◌, min}
 use native.Mathlib.Nat.{zero-add, zero-min, min-zero, suc-min-suc}
 use native.Mathlib.Numerals.{add-one}
 use native.Mathlib.Omega.{arith}
 use borrow.Author.Tests.{le-leb, lt-leb}
-use borrow.Rule.Slice.PartMut.{putMid}
+use borrow.Rule.Slice.PartMut.{put_mid}
 use lib.Dec.{leb}
-use lib.ListN.{take-append-drop, length, take, drop, getD, set, replicate, length-append, length-take, length-drop, length-replicate}
-use lib.Seq.{sets-eq, drop-drop, drop-length, length-take-le, length-sets, sets, take-all, take-suc}
-use Rattle·lists.specs.Pick.{pick}
-use Rattle·lists.proofs.Stores.{drop-sets, filled, put-sets, sets-at, sets-more, sets-whole}
-use Rattle·script·specs.specs.Fills.{appended, copied, generated, holds, made, wiped}
+use lib.ListN.{take-append-drop, length, take, drop, get_or, set, replicate, length-append, length-take, length-drop, length-replicate}
+use lib.Seq.{sets-eq, drop-drop, drop-length, length-take-le, length-sets, sets, take_all, take-suc}
+use Rattle.lists.specs.Pick.{pick}
+use Rattle.lists.proofs.Stores.{drop-sets, filled, put-sets, sets-at, sets_more, sets-whole}
+use Rattle.script.specs.Fills.{appended, copied, generated, holds, made, wiped}
 
 -- one more byte of a run
-pub store-more : (l d : List ℕ) (i : ℕ) → i < length d → set (sets l 0 (take i d)) i (getD d i 0) ≡ sets l 0 (take (i + 1) d)
-store-more l d i h = rw (add-one i, take-suc d i 0 h) (sets-at (take i d) (getD d i 0 ∷ []) l 0 i (rw (zero-add, length-take-le i d (omega arith))))
+pub store-more : (l d : List ℕ) (i : ℕ) → i < length d → set (sets l 0 (take i d)) i (get_or d i 0) ≡ sets l 0 (take (i + 1) d)
+store-more l d i h = rw (add-one i, take-suc d i 0 h) (sets-at (take i d) (get_or d i 0 ∷ []) l 0 i (rw (zero-add, length-take-le i d (omega arith))))
 
-take-min : (n : ℕ) (l : List ℕ) → take (min n (length l)) l ≡ take n l
-take-min zero l = rw (zero-min (length l))
-take-min (suc n) [] = rw (min-zero (suc n))
-take-min (suc n) (x ∷ l) = rw (suc-min-suc n (length l)) (ap (λ (t : List ℕ). x ∷ t) (take-min n l))
+take_min : (n : ℕ) (l : List ℕ) → take (min n (length l)) l ≡ take n l
+take_min zero l = rw (zero-min (length l))
+take_min (suc n) [] = rw (min-zero (suc n))
+take_min (suc n) (x ∷ l) = rw (suc-min-suc n (length l)) (ap (λ (t : List ℕ). x ∷ t) (take_min n l))
 
 -- all that there is room for is copied
 pub copy-end : (b d : List ℕ) (n i : ℕ) → n ≡ min (length b) (length d) → i ≤ n → n ≤ i → sets b 0 (take i d) ≡ copied b d
 copy-end b d n i e h k =
     let f : i ≡ min (length b) (length d) = omega (arith, e) in
-    rw (f, take-min (length b) d)
+    rw (f, take_min (length b) d)
 
 -- a list stored over itself
 sets-self : (l : List ℕ) (k : ℕ) → k ≤ length l → sets l k (drop k l) ≡ l
@@ -42,14 +42,14 @@ sets-rest l v n h =
     let k : length v ≤ length (drop n l) = omega (arith, length-drop n l) in
     let x : sets (drop n l) 0 v ≡ v ++ drop (n + length v) l = sets-eq v (drop n l) 0 (rw zero-add k) ∙ rw (zero-add (length v), drop-drop (length v) n l) in
     let y : drop (n + length v) (sets l n v) ≡ drop (n + length v) l = drop-sets v l n (n + length v) (omega arith) in
-    rw (x, ← sets-more v (drop (n + length v) l) l n, ← y) (sets-self (sets l n v) (n + length v) (rw (length-sets l n v) h))
+    rw (x, ← sets_more v (drop (n + length v) l) l n, ← y) (sets-self (sets l n v) (n + length v) (rw (length-sets l n v) h))
 
 -- d copied into the part of a line from n on
 module _ (l d g : List ℕ) (n : ℕ) (h : n ≤ length l) where
-  pub copied-part : g ≡ copied (take (length l - n) (drop n l)) d → putMid n (length l - n) l g ≡ sets l n (take (length l - n) d)
+  pub copied-part : g ≡ copied (take (length l - n) (drop n l)) d → put_mid n (length l - n) l g ≡ sets l n (take (length l - n) d)
   copied-part e =
       let m : length (drop n l) ≡ length l - n = length-drop n l in
-      let q : take (length l - n) (drop n l) ≡ drop n l = take-all (length l - n) (drop n l) (omega arith) in
+      let q : take (length l - n) (drop n l) ≡ drop n l = take_all (length l - n) (drop n l) (omega arith) in
       let f : g ≡ sets (drop n l) 0 (take (length l - n) d) = e ∙ rw (q, m) in
       let k : length g ≡ length l - n = ap length f ∙ length-sets (drop n l) 0 (take (length l - n) d) ∙ m in
       put-sets n (length l - n) l g k (omega arith)
@@ -61,17 +61,17 @@ module _ (l d : List ℕ) (n long : ℕ) where
   pub append-long : length l < n + length d → long ≡ pick (holds l n d) (n + length d) long
   append-long h = rw (lt-leb (n + length d) (length l) h)
 
-  pub append-left : length l < n + length d → l ≡ appended l n d
+  pub append_left : length l < n + length d → l ≡ appended l n d
   unfolding appended
-  append-left h = rw (lt-leb (n + length d) (length l) h)
+  append_left h = rw (lt-leb (n + length d) (length l) h)
 
   pub append-count : n + length d ≤ length l → n + length d ≡ pick (holds l n d) (n + length d) long
   append-count h = rw (le-leb (n + length d) (length l) h)
 
-  pub append-put : (g : List ℕ) → n + length d ≤ length l → g ≡ copied (take (length l - n) (drop n l)) d → putMid n (length l - n) l g ≡ appended l n d
+  pub append-put : (g : List ℕ) → n + length d ≤ length l → g ≡ copied (take (length l - n) (drop n l)) d → put_mid n (length l - n) l g ≡ appended l n d
   unfolding appended
   append-put g h e =
-      let t : take (length l - n) d ≡ d = take-all (length l - n) d (omega arith) in
+      let t : take (length l - n) d ≡ d = take_all (length l - n) d (omega arith) in
       rw (le-leb (n + length d) (length l) h) (copied-part l d g n (omega arith) e ∙ ap (sets l n) t)
 
 -- what `wipe` leaves
@@ -88,7 +88,7 @@ module _ (b : List ℕ) (from to : ℕ) where
   unfolding wiped
   wipe-crossed h = rw (lt-leb from to h)
 
-  pub wipe-zeros : (g : List ℕ) → from ≤ to → to ≤ length b → g ≡ replicate (length (take (to - from) (drop from b))) 0 → putMid from (to - from) b g ≡ wiped b from to
+  pub wipe-zeros : (g : List ℕ) → from ≤ to → to ≤ length b → g ≡ replicate (length (take (to - from) (drop from b))) 0 → put_mid from (to - from) b g ≡ wiped b from to
   unfolding wiped
   wipe-zeros g h k e = rw (le-leb from to h, le-leb to (length b) k) (filled (λ m. replicate m 0) (λ m. length-replicate m 0) b g from to h k e)
 
@@ -98,11 +98,11 @@ unfolding generated
 length-generated seed zero = refl
 length-generated seed (suc n) = omega (arith, length-append (generated seed n) (made seed n ∷ []), length-generated seed n)
 
-same-byte : (a b k : ℕ) → b ≡ a + 256 * k → a % 256 ≡ b % 256
-same-byte a b k e = omega arith
+same_byte : (a b k : ℕ) → b ≡ a + 256 * k → a % 256 ≡ b % 256
+same_byte a b k e = omega arith
 
 made-is : (seed i : ℕ) → (seed % 256 + i % 256 * 7 + i / 256 % 256 * 13) % 256 ≡ made seed i
-made-is seed i = same-byte (seed % 256 + i % 256 * 7 + i / 256 % 256 * 13) (seed + i * 7 + i / 256 * 13) (seed / 256 + i / 256 * 7 + i / 256 / 256 * 13) (omega arith)
+made-is seed i = same_byte (seed % 256 + i % 256 * 7 + i / 256 % 256 * 13) (seed + i * 7 + i / 256 * 13) (seed / 256 + i / 256 * 7 + i / 256 / 256 * 13) (omega arith)
 
 pub generate-more : (b m : List ℕ) (seed i : ℕ) → m ≡ sets b 0 (generated seed i) → set m i ((seed % 256 + i % 256 * 7 + i / 256 % 256 * 13) % 256) ≡ sets b 0 (generated seed (i + 1))
 unfolding generated

@@ -1,46 +1,46 @@
--- Laws of `lastEnd`, `eqs` and `placeFrom`.
-use mathlib.Core.Path.{_≡_, refl, sym, ap, _∙_}
-use mathlib.Core.Bool.{Bool, true, false, _&&_}
-use mathlib.Core.List.{List, [], _∷_, _++_}
-use Prim.Native.Nat.{ℕ, suc, _+_, _-_, _≤_, _<_}
+-- Laws of `last_end`, `eqs` and `placeFrom`.
+use mathlib.Core.Path.{◌≡◌, refl, sym, ap, ◌∙◌}
+use mathlib.Core.Bool.{Bool, true, false, ◌&&◌}
+use mathlib.Core.List.{List, [], ◌∷◌, ◌++◌}
+use Prim.Native.Nat.{ℕ, suc, ◌+◌, ◌-◌, ◌≤◌, ◌<◌}
 use native.Mathlib.Numerals.{add-one}
 use native.Mathlib.Omega.{arith}
-use borrow.Author.Tests.{eq-eqb, ne-eqb, eqb-true, lt-ltb, le-ltb}
+use borrow.Author.Tests.{eq-eqb, ne_eqb, eqb-true, lt-ltb, le-ltb}
 use lib.Dec.{eqb}
-use lib.ListN.{length, take, drop, getD}
+use lib.ListN.{length, take, drop, get_or}
 use lib.Seq.{drop-cons, drop-length, length-take-le, take-suc}
-use Rattle·script·specs.specs.Words.{lastEnd, eqs, part, placeFrom, wordFrom}
+use Rattle.script.specs.Words.{last_end, eqs, part, placeFrom, wordFrom}
 
-clash : {A : Type 0} → _≡_ {A = ℕ} 0 1 → A
+clash : {A : Type 0} → ◌≡◌ {A = ℕ} 0 1 → A
 clash e = absurd (omega arith)
 
 -- a text that ends in a word, and one that ends in a blank
-end-word : (l : List ℕ) (x : ℕ) → 32 < x → lastEnd (l ++ (x ∷ [])) ≡ suc (length l)
-unfolding lastEnd
+end-word : (l : List ℕ) (x : ℕ) → 32 < x → last_end (l ++ (x ∷ [])) ≡ suc (length l)
+unfolding last_end
 end-word [] x h = rw (le-ltb x 33 (omega arith))
-end-word (y ∷ l) x h = rw (end-word l x h, ne-eqb (suc (length l)) 0 (λ (e : suc (length l) ≡ 0). omega arith))
+end-word (y ∷ l) x h = rw (end-word l x h, ne_eqb (suc (length l)) 0 (λ (e : suc (length l) ≡ 0). omega arith))
 
-end-blank : (l : List ℕ) (x : ℕ) → x ≤ 32 → lastEnd (l ++ (x ∷ [])) ≡ lastEnd l
-unfolding lastEnd
+end-blank : (l : List ℕ) (x : ℕ) → x ≤ 32 → last_end (l ++ (x ∷ [])) ≡ last_end l
+unfolding last_end
 end-blank [] x h = rw (lt-ltb x 33 (omega arith))
 end-blank (y ∷ l) x h = rw (end-blank l x h)
 
 -- the walk of `last` down from the end
 module _ (t : List ℕ) (i : ℕ) (h : 0 < i) (k : i ≤ length t) where
-  cut : take i t ≡ take (i - 1) t ++ (getD t (i - 1) 0 ∷ [])
+  cut : take i t ≡ take (i - 1) t ++ (get_or t (i - 1) 0 ∷ [])
   cut =
       let e : i ≡ suc (i - 1) = omega arith in
       ap (λ (n : ℕ). take n t) e ∙ take-suc t (i - 1) 0 (omega arith)
 
-  pub last-stop : 32 < getD t (i - 1) 0 → lastEnd (take i t) ≡ i
-  last-stop w = rw cut (end-word (take (i - 1) t) (getD t (i - 1) 0) w ∙ rw (length-take-le (i - 1) t (omega arith)) (omega arith))
+  pub last-stop : 32 < get_or t (i - 1) 0 → last_end (take i t) ≡ i
+  last-stop w = rw cut (end-word (take (i - 1) t) (get_or t (i - 1) 0) w ∙ rw (length-take-le (i - 1) t (omega arith)) (omega arith))
 
-  pub last-on : getD t (i - 1) 0 ≤ 32 → lastEnd (take i t) ≡ lastEnd (take (i - 1) t)
-  last-on w = rw cut (end-blank (take (i - 1) t) (getD t (i - 1) 0) w)
+  pub last_on : get_or t (i - 1) 0 ≤ 32 → last_end (take i t) ≡ last_end (take (i - 1) t)
+  last_on w = rw cut (end-blank (take (i - 1) t) (get_or t (i - 1) 0) w)
 
-pub last-none : (t : List ℕ) (i : ℕ) → i ≤ 0 → lastEnd (take i t) ≡ 0
-unfolding lastEnd
-last-none t i h =
+pub last_none : (t : List ℕ) (i : ℕ) → i ≤ 0 → last_end (take i t) ≡ 0
+unfolding last_end
+last_none t i h =
     let e : i ≡ 0 = omega arith in
     rw e
 
@@ -58,13 +58,13 @@ eqs-long (x ∷ a) (y ∷ b) h = rw (eqs-long a b (λ (e : length a ≡ length b
 
 -- the walk of `same`
 module _ (a b : List ℕ) (i : ℕ) (h : i < length a) (k : i < length b) where
-  pub eqs-on : getD a i 0 ≡ getD b i 0 → eqs (drop i a) (drop i b) ≡ eqs (drop (i + 1) a) (drop (i + 1) b)
+  pub eqs-on : get_or a i 0 ≡ get_or b i 0 → eqs (drop i a) (drop i b) ≡ eqs (drop (i + 1) a) (drop (i + 1) b)
   unfolding eqs
   eqs-on e = rw (add-one i, drop-cons a i 0 h, drop-cons b i 0 k, eq-eqb _ _ e)
 
-  pub eqs-stop : (getD a i 0 ≡ getD b i 0 → ⊥) → eqs (drop i a) (drop i b) ≡ false
+  pub eqs-stop : (get_or a i 0 ≡ get_or b i 0 → ⊥) → eqs (drop i a) (drop i b) ≡ false
   unfolding eqs
-  eqs-stop e = rw (drop-cons a i 0 h, drop-cons b i 0 k, ne-eqb _ _ e)
+  eqs-stop e = rw (drop-cons a i 0 h, drop-cons b i 0 k, ne_eqb _ _ e)
 
 pub eqs-end : (a b : List ℕ) (i : ℕ) → i ≡ length a → length a ≡ length b → eqs (drop i a) (drop i b) ≡ true
 unfolding eqs
@@ -74,10 +74,10 @@ eqs-end a b i e f =
     let q : drop i b ≡ [] = ap (λ (n : ℕ). drop n b) g ∙ drop-length b in
     rw (p, q)
 
-and-both : (p q : Bool) → (p && q) ≡ true → (p ≡ true) × (q ≡ true)
-and-both true true e = (refl, refl)
-and-both true false e = clash (cc)
-and-both false q e = clash (cc)
+and_both : (p q : Bool) → (p && q) ≡ true → (p ≡ true) × (q ≡ true)
+and_both true true e = (refl, refl)
+and_both true false e = clash (cc)
+and_both false q e = clash (cc)
 
 -- `eqs` decides whether two texts are the same
 pub eqs-same : (a : List ℕ) → eqs a a ≡ true
@@ -91,8 +91,8 @@ same-eqs [] [] e = refl
 same-eqs [] (y ∷ b) e = clash (cc)
 same-eqs (x ∷ a) [] e = clash (cc)
 same-eqs (x ∷ a) (y ∷ b) e =
-    let f = and-both (eqb x y) (eqs a b) e in
-    cc (eqb-true x y (f .0), same-eqs a b (f .1))
+    let f = and_both (eqb x y) (eqs a b) e in
+    cc (eqb-true x y f.0, same-eqs a b f.1)
 
 -- the walk of `place_in`: word k, from s to e, is w, or the words behind it are looked at
 module _ (l w : List ℕ) (k n s e : ℕ) (r : Bool) (h : k < n) (p : part l s e ≡ wordFrom l k) (q : r ≡ eqs (part l s e) w) where
@@ -110,8 +110,8 @@ module _ (l w : List ℕ) (k n s e : ℕ) (r : Bool) (h : k < n) (p : part l s e
   unfolding placeFrom
   place-on f = rw (left, test, f, add-one k)
 
-pub place-end : (l w : List ℕ) (k n : ℕ) → n ≤ k → placeFrom l w k (n - k) ≡ k
+pub place_end : (l w : List ℕ) (k n : ℕ) → n ≤ k → placeFrom l w k (n - k) ≡ k
 unfolding placeFrom
-place-end l w k n h =
+place_end l w k n h =
     let f : n - k ≡ 0 = omega arith in
     rw f

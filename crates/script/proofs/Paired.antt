@@ -1,25 +1,25 @@
 -- Laws of the bytes that pairs of digits give.
-use mathlib.Core.Path.{_≡_, refl, ap, _∙_}
-use mathlib.Core.List.{List, [], _∷_}
-use Prim.Native.Nat.{ℕ, zero, suc, _+_, _*_, _/_, _%_, _≤_, _<_}
+use mathlib.Core.Path.{◌≡◌, refl, ap, ◌∙◌}
+use mathlib.Core.List.{List, [], ◌∷◌}
+use Prim.Native.Nat.{ℕ, zero, suc, ◌+◌, ◌*◌, ◌/◌, ◌%◌, ◌≤◌, ◌<◌}
 use native.Mathlib.Numerals.{add-one}
 use native.Mathlib.Omega.{arith}
-use borrow.Author.Tests.{eq-eqb, ne-eqb, lt-ltb, le-ltb}
-use lib.ListN.{length, take, drop, getD, set, length-drop}
-use lib.Seq.{drop-cons, drop-length, sets, take-all}
-use Rattle·script·specs.specs.declared.Fault.the-variants as fault
-use Rattle·script·specs.specs.declared.Value.the-variants as value
-use Rattle·script·specs.specs.Numbers.{digitOf}
-use Rattle·script·specs.specs.Fills.{hexAnswer, hexFilled, pairs}
-use Rattle·script·proofs.proofs.Filled.{store-more}
+use borrow.Author.Tests.{eq-eqb, ne_eqb, lt-ltb, le-ltb}
+use lib.ListN.{length, take, drop, get_or, set, length-drop}
+use lib.Seq.{drop-cons, drop-length, sets, take_all}
+use Rattle.script.specs.declared.Fault.TheVariants as fault
+use Rattle.script.specs.declared.Value.TheVariants as value
+use Rattle.script.specs.Numbers.{digitOf}
+use Rattle.script.specs.Fills.{hexAnswer, hexFilled, pairs}
+use Rattle.script.proofs.Filled.{store-more}
 
-clash : {A : Type 0} → _≡_ {A = ℕ} 0 1 → A
+clash : {A : Type 0} → ◌≡◌ {A = ℕ} 0 1 → A
 clash e = absurd (omega arith)
 
 -- what stands at i, and behind it, where the list from i on is known
 record Next (l : List ℕ) (i x : ℕ) (r : List ℕ) : Type 0 where
   there : i < length l
-  is : getD l i 0 ≡ x
+  is : get_or l i 0 ≡ x
   rest : drop (suc i) l ≡ r
 
 next : (l : List ℕ) (i x : ℕ) (r : List ℕ) → drop i l ≡ x ∷ r → Next l i x r
@@ -28,19 +28,19 @@ next [] (suc i) x r e = clash (cc)
 next (a ∷ l) zero x r e = record { there = omega arith; is = cc; rest = cc }
 next (a ∷ l) (suc i) x r e =
     let n = next l i x r e in
-    record { there = omega (arith, n .there); is = n .is; rest = n .rest }
+    record { there = omega (arith, n.there); is = n.is; rest = n.rest }
 
 none : (l : List ℕ) (i : ℕ) → drop i l ≡ [] → length l ≤ i
 none l i e = omega (arith, length-drop i l, ap length e)
 
 -- one pair of a text
 module _ (t : List ℕ) (i : ℕ) (h : 2 * i + 1 < length t) where
-  two : drop (2 * i) t ≡ getD t (2 * i) 0 ∷ (getD t (2 * i + 1) 0 ∷ drop (2 * (i + 1)) t)
+  two : drop (2 * i) t ≡ get_or t (2 * i) 0 ∷ (get_or t (2 * i + 1) 0 ∷ drop (2 * (i + 1)) t)
   two =
       let e : 2 * (i + 1) ≡ suc (2 * i + 1) = omega arith in
-      drop-cons t (2 * i) 0 (omega arith) ∙ ap (λ (l : List ℕ). getD t (2 * i) 0 ∷ l) (rw (← add-one (2 * i), e) (drop-cons t (2 * i + 1) 0 h))
+      drop-cons t (2 * i) 0 (omega arith) ∙ ap (λ (l : List ℕ). get_or t (2 * i) 0 ∷ l) (rw (← add-one (2 * i), e) (drop-cons t (2 * i + 1) 0 h))
 
-  module _ (hi lo : ℕ) (p : hi ≡ digitOf (getD t (2 * i) 0)) (q : lo ≡ digitOf (getD t (2 * i + 1) 0)) where
+  module _ (hi lo : ℕ) (p : hi ≡ digitOf (get_or t (2 * i) 0)) (q : lo ≡ digitOf (get_or t (2 * i + 1) 0)) where
     pair : hi < 16 → lo < 16 → pairs (drop (2 * i) t) ≡ (16 * hi + lo) ∷ pairs (drop (2 * (i + 1)) t)
     unfolding pairs
     pair a b = rw (two, ← p, ← q, lt-ltb hi 16 a, lt-ltb lo 16 b)
@@ -59,47 +59,47 @@ pub record Read (t b m : List ℕ) (i : ℕ) : Type 0 where
   pub low : i ≤ length (pairs t)
   pub stored : m ≡ sets b 0 (take i (pairs t))
 
-pub read-none : (t b : List ℕ) → Read t b b 0
-read-none t b = record { ahead = refl; low = omega arith; stored = refl }
+pub read_none : (t b : List ℕ) → Read t b b 0
+read_none t b = record { ahead = refl; low = omega arith; stored = refl }
 
 module _ (t b m : List ℕ) (i : ℕ) (w : Read t b m i) where
-  pub read-more : (hi lo : ℕ) (g : List ℕ) → 2 * i + 1 < length t → hi ≡ digitOf (getD t (2 * i) 0) → lo ≡ digitOf (getD t (2 * i + 1) 0) → hi < 16 → lo < 16 → g ≡ set m i (16 * hi + lo) → Read t b g (i + 1)
-  read-more hi lo g h p q x y e =
-      let n = next (pairs t) i _ _ (w .ahead ∙ pair t i h hi lo p q x y) in
+  pub read_more : (hi lo : ℕ) (g : List ℕ) → 2 * i + 1 < length t → hi ≡ digitOf (get_or t (2 * i) 0) → lo ≡ digitOf (get_or t (2 * i + 1) 0) → hi < 16 → lo < 16 → g ≡ set m i (16 * hi + lo) → Read t b g (i + 1)
+  read_more hi lo g h p q x y e =
+      let n = next (pairs t) i _ _ (w.ahead ∙ pair t i h hi lo p q x y) in
       record {
-        ahead = ap (λ (k : ℕ). drop k (pairs t)) (add-one i) ∙ n .rest;
-        low = omega (arith, n .there);
-        stored = e ∙ rw (w .stored, ← n .is) (store-more b (pairs t) i (n .there));
+        ahead = ap (λ (k : ℕ). drop k (pairs t)) (add-one i) ∙ n.rest;
+        low = omega (arith, n.there);
+        stored = e ∙ rw (w.stored, ← n.is) (store-more b (pairs t) i n.there);
       }
 
   stop : pairs (drop (2 * i) t) ≡ [] → length (pairs t) ≡ i
-  stop e = omega (arith, w .low, none (pairs t) i (w .ahead ∙ e))
+  stop e = omega (arith, w.low, none (pairs t) i (w.ahead ∙ e))
 
   whole : length (pairs t) ≡ i → m ≡ sets b 0 (pairs t)
-  whole e = w .stored ∙ ap (sets b 0) (take-all i (pairs t) (omega arith))
+  whole e = w.stored ∙ ap (sets b 0) (take_all i (pairs t) (omega arith))
 
   module _ (odd : length t % 2 ≡ 1 → ⊥) (room : length t / 2 ≤ length b) where
-    filled-is : length (pairs t) ≡ i → m ≡ hexFilled t b
+    filled_is : length (pairs t) ≡ i → m ≡ hexFilled t b
     unfolding hexFilled
-    filled-is e = rw (ne-eqb (length t % 2) 1 odd, le-ltb (length b) (length t / 2) room) (whole e)
+    filled_is e = rw (ne_eqb (length t % 2) 1 odd, le-ltb (length b) (length t / 2) room) (whole e)
 
     wrong-is : length (pairs t) ≡ i → i < length t / 2 → value.Wrong fault.HexWrong ≡ hexAnswer t (length b)
     unfolding hexAnswer
-    wrong-is e h = rw (ne-eqb (length t % 2) 1 odd, le-ltb (length b) (length t / 2) room, ne-eqb (length (pairs t)) (length t / 2) (λ (z : length (pairs t) ≡ length t / 2). omega arith))
+    wrong-is e h = rw (ne_eqb (length t % 2) 1 odd, le-ltb (length b) (length t / 2) room, ne_eqb (length (pairs t)) (length t / 2) (λ (z : length (pairs t) ≡ length t / 2). omega arith))
 
     all-is : length (pairs t) ≡ length t / 2 → value.Is (length t / 2) ≡ hexAnswer t (length b)
     unfolding hexAnswer
-    all-is e = rw (ne-eqb (length t % 2) 1 odd, le-ltb (length b) (length t / 2) room, eq-eqb (length (pairs t)) (length t / 2) e)
+    all-is e = rw (ne_eqb (length t % 2) 1 odd, le-ltb (length b) (length t / 2) room, eq-eqb (length (pairs t)) (length t / 2) e)
 
-    pub read-high : (hi : ℕ) → i < length t / 2 → hi ≡ digitOf (getD t (2 * i) 0) → 15 < hi → (value.Wrong fault.HexWrong ≡ hexAnswer t (length b)) × (m ≡ hexFilled t b)
+    pub read-high : (hi : ℕ) → i < length t / 2 → hi ≡ digitOf (get_or t (2 * i) 0) → 15 < hi → (value.Wrong fault.HexWrong ≡ hexAnswer t (length b)) × (m ≡ hexFilled t b)
     read-high hi h p x =
-        let e = stop (high-none t i (omega arith) hi (digitOf (getD t (2 * i + 1) 0)) p refl x) in
-        (wrong-is e h, filled-is e)
+        let e = stop (high-none t i (omega arith) hi (digitOf (get_or t (2 * i + 1) 0)) p refl x) in
+        (wrong-is e h, filled_is e)
 
-    pub read-low : (hi lo : ℕ) → i < length t / 2 → hi ≡ digitOf (getD t (2 * i) 0) → lo ≡ digitOf (getD t (2 * i + 1) 0) → hi < 16 → 15 < lo → (value.Wrong fault.HexWrong ≡ hexAnswer t (length b)) × (m ≡ hexFilled t b)
-    read-low hi lo h p q x y =
+    pub read_low : (hi lo : ℕ) → i < length t / 2 → hi ≡ digitOf (get_or t (2 * i) 0) → lo ≡ digitOf (get_or t (2 * i + 1) 0) → hi < 16 → 15 < lo → (value.Wrong fault.HexWrong ≡ hexAnswer t (length b)) × (m ≡ hexFilled t b)
+    read_low hi lo h p q x y =
         let e = stop (low-none t i (omega arith) hi lo p q x y) in
-        (wrong-is e h, filled-is e)
+        (wrong-is e h, filled_is e)
 
     at-end : i ≡ length t / 2 → pairs (drop (2 * i) t) ≡ []
     unfolding pairs
@@ -117,11 +117,11 @@ module _ (t b m : List ℕ) (i : ℕ) (w : Read t b m i) where
             by (suc zero) h o = absurd (o refl)
             by (suc (suc r)) h o = absurd (omega arith)
 
-    pub read-all : i ≤ length t / 2 → length t / 2 ≤ i → (value.Is (length t / 2) ≡ hexAnswer t (length b)) × (m ≡ hexFilled t b)
-    read-all h k =
+    pub read_all : i ≤ length t / 2 → length t / 2 ≤ i → (value.Is (length t / 2) ≡ hexAnswer t (length b)) × (m ≡ hexFilled t b)
+    read_all h k =
         let f : i ≡ length t / 2 = omega arith in
         let e = stop (at-end f) in
-        (all-is (e ∙ f), filled-is e)
+        (all-is (e ∙ f), filled_is e)
 
 module _ (t b : List ℕ) where
   pub read-odd : length t % 2 ≡ 1 → (value.Wrong fault.HexWrong ≡ hexAnswer t (length b)) × (b ≡ hexFilled t b)
@@ -130,4 +130,4 @@ module _ (t b : List ℕ) where
 
   pub read-full : (length t % 2 ≡ 1 → ⊥) → length b < length t / 2 → (value.Wrong fault.BeyondBuffers ≡ hexAnswer t (length b)) × (b ≡ hexFilled t b)
   unfolding hexAnswer hexFilled
-  read-full o h = (rw (ne-eqb (length t % 2) 1 o, lt-ltb (length b) (length t / 2) h), rw (ne-eqb (length t % 2) 1 o, lt-ltb (length b) (length t / 2) h))
+  read-full o h = (rw (ne_eqb (length t % 2) 1 o, lt-ltb (length b) (length t / 2) h), rw (ne_eqb (length t % 2) 1 o, lt-ltb (length b) (length t / 2) h))

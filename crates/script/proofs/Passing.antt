@@ -1,16 +1,16 @@
 -- Laws of `spanned` and `before`: a byte that is spanned, one that is not, and the text's end.
-use mathlib.Core.Path.{_≡_}
-use mathlib.Core.Bool.{Bool, true, false, not, Bool·beq}
-use mathlib.Core.List.{List, [], _∷_}
-use Prim.Native.Nat.{ℕ, suc, _+_, _≤_, _<_}
+use mathlib.Core.Path.{◌≡◌}
+use mathlib.Core.Bool.{Bool, true, false, not, beq}
+use mathlib.Core.List.{List, [], ◌∷◌}
+use Prim.Native.Nat.{ℕ, suc, ◌+◌, ◌≤◌, ◌<◌}
 use native.Mathlib.Numerals.{add-one}
 use native.Mathlib.Omega.{arith}
-use borrow.Author.Tests.{eq-eqb, ne-eqb, not-true, not-false}
+use borrow.Author.Tests.{eq-eqb, ne_eqb, not-true, not-false}
 use lib.Dec.{eqb, ltb}
-use lib.ListN.{length, drop, getD, length-drop}
+use lib.ListN.{length, drop, get_or, length-drop}
 use lib.Seq.{drop-cons, drop-length}
-use Rattle·lists.specs.Pick.{pick}
-use Rattle·script·specs.specs.Words.{spanned, before, over, startsFrom, wordStart, wordEnd, wordFrom, part}
+use Rattle.lists.specs.Pick.{pick}
+use Rattle.script.specs.Words.{spanned, before, over, startsFrom, wordStart, wordEnd, wordFrom, part}
 
 either-low : (r : Bool) (a b n : ℕ) → a ≤ n → b ≤ n → pick r a b ≤ n
 either-low true a b n h k = h
@@ -20,7 +20,7 @@ either-low false a b n h k = k
 pub spanned-low : (b : Bool) (t : List ℕ) → spanned b t ≤ length t
 unfolding spanned
 spanned-low b [] = omega arith
-spanned-low b (x ∷ t) = either-low (Bool·beq (ltb x 33) b) (suc (spanned b t)) 0 _ (omega (arith, spanned-low b t)) (omega arith)
+spanned-low b (x ∷ t) = either-low (beq (ltb x 33) b) (suc (spanned b t)) 0 _ (omega (arith, spanned-low b t)) (omega arith)
 
 pub before-low : (b : ℕ) (t : List ℕ) → before b t ≤ length t
 unfolding before
@@ -29,13 +29,13 @@ before-low b (x ∷ t) = either-low (eqb x b) 0 (suc (before b t)) _ (omega arit
 
 -- the walk of `pass` from place `from`, now at i: where it ends
 module _ (t : List ℕ) (b : Bool) (i : ℕ) where
-  pub pass-on : i < length t → not (Bool·beq (ltb (getD t i 0) 33) b) ≡ false → i + spanned b (drop i t) ≡ i + 1 + spanned b (drop (i + 1) t)
+  pub pass_on : i < length t → not (beq (ltb (get_or t i 0) 33) b) ≡ false → i + spanned b (drop i t) ≡ i + 1 + spanned b (drop (i + 1) t)
   unfolding spanned
-  pass-on h e = rw (add-one i, drop-cons t i 0 h, not-false (Bool·beq (ltb (getD t i 0) 33) b) e) (omega arith)
+  pass_on h e = rw (add-one i, drop-cons t i 0 h, not-false (beq (ltb (get_or t i 0) 33) b) e) (omega arith)
 
-  pub pass-stop : i < length t → not (Bool·beq (ltb (getD t i 0) 33) b) ≡ true → i + spanned b (drop i t) ≡ i
+  pub pass-stop : i < length t → not (beq (ltb (get_or t i 0) 33) b) ≡ true → i + spanned b (drop i t) ≡ i
   unfolding spanned
-  pass-stop h e = rw (drop-cons t i 0 h, not-true (Bool·beq (ltb (getD t i 0) 33) b) e) (omega arith)
+  pass-stop h e = rw (drop-cons t i 0 h, not-true (beq (ltb (get_or t i 0) 33) b) e) (omega arith)
 
   pub pass-end : i ≤ length t → length t ≤ i → i + spanned b (drop i t) ≡ i
   unfolding spanned
@@ -48,11 +48,11 @@ module _ (t : List ℕ) (b : Bool) (i : ℕ) where
 
 -- the walk of `find`
 module _ (t : List ℕ) (b i : ℕ) where
-  pub find-on : i < length t → (getD t i 0 ≡ b → ⊥) → i + before b (drop i t) ≡ i + 1 + before b (drop (i + 1) t)
+  pub find-on : i < length t → (get_or t i 0 ≡ b → ⊥) → i + before b (drop i t) ≡ i + 1 + before b (drop (i + 1) t)
   unfolding before
-  find-on h e = rw (add-one i, drop-cons t i 0 h, ne-eqb _ _ e) (omega arith)
+  find-on h e = rw (add-one i, drop-cons t i 0 h, ne_eqb _ _ e) (omega arith)
 
-  pub find-stop : i < length t → getD t i 0 ≡ b → i + before b (drop i t) ≡ i
+  pub find-stop : i < length t → get_or t i 0 ≡ b → i + before b (drop i t) ≡ i
   unfolding before
   find-stop h e = rw (drop-cons t i 0 h, eq-eqb _ _ e) (omega arith)
 

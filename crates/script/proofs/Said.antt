@@ -1,21 +1,21 @@
 -- Laws of digits and of the numbers that they say.
-use mathlib.Core.Path.{_≡_}
-use mathlib.Core.Bool.{Bool, true, false, _&&_}
+use mathlib.Core.Path.{◌≡◌}
+use mathlib.Core.Bool.{Bool, true, false, ◌&&◌}
 use mathlib.Core.List.{List}
-use Prim.Native.Nat.{ℕ, _+_, _-_, _*_, _≤_, _<_}
+use Prim.Native.Nat.{ℕ, ◌+◌, ◌-◌, ◌*◌, ◌≤◌, ◌<◌}
 use native.Mathlib.Numerals.{add-one}
 use native.Mathlib.Omega.{arith}
-use borrow.Author.Tests.{eq-eqb, ne-eqb, le-leb, lt-leb, lt-ltb, le-ltb}
+use borrow.Author.Tests.{eq-eqb, ne_eqb, le-leb, lt-leb, lt-ltb, le-ltb}
 use lib.Dec.{eqb}
-use lib.ListN.{length, drop, getD}
+use lib.ListN.{length, drop, get_or}
 use lib.Seq.{drop-cons, drop-length}
-use Rattle·script·specs.specs.declared.Fault.{Fault}
-use Rattle·script·specs.specs.declared.Fault.the-variants as fault
-use Rattle·script·specs.specs.declared.Value.{Value}
-use Rattle·script·specs.specs.declared.Value.the-variants as value
-use Rattle·script·specs.specs.declared.Three.the-variants as three
-use Rattle·script·specs.specs.Words.{wordFrom}
-use Rattle·script·specs.specs.Numbers.{base, between, digitOf, hexed, joined, numberIn, said, threeOf, wantedOf}
+use Rattle.script.specs.declared.Fault.{Fault}
+use Rattle.script.specs.declared.Fault.TheVariants as fault
+use Rattle.script.specs.declared.Value.{Value}
+use Rattle.script.specs.declared.Value.TheVariants as value
+use Rattle.script.specs.declared.Three.TheVariants as three
+use Rattle.script.specs.Words.{wordFrom}
+use Rattle.script.specs.Numbers.{base, between, digitOf, hexed, joined, number_in, said, threeOf, wantedOf}
 
 inside : (a b x : ℕ) → a ≤ x → x ≤ b → between a b x ≡ true
 inside a b x h k = rw (le-leb a x h, le-leb x b k)
@@ -67,9 +67,9 @@ module _ (hex : Bool) (v d : ℕ) where
   unfolding joined
   joined-large h k = rw (lt-ltb d (base hex) h, lt-leb (v * base hex + d) 18446744073709551615 k)
 
-  pub joined-is : (n : ℕ) → d < base hex → v * base hex + d ≤ 18446744073709551615 → n ≡ v * base hex + d → value.Is n ≡ joined hex v d
+  pub joined_is : (n : ℕ) → d < base hex → v * base hex + d ≤ 18446744073709551615 → n ≡ v * base hex + d → value.Is n ≡ joined hex v d
   unfolding joined
-  joined-is n h k e = rw (lt-ltb d (base hex) h, le-leb (v * base hex + d) 18446744073709551615 k, e)
+  joined_is n h k e = rw (lt-ltb d (base hex) h, le-leb (v * base hex + d) 18446744073709551615 k, e)
 
 pub joined-hex : (hex : Bool) (v d : ℕ) (r : Value) → hex ≡ true → r ≡ joined true v d → r ≡ joined hex v d
 joined-hex hex v d r e f = rw e f
@@ -79,7 +79,7 @@ joined-ten hex v d r e f = rw e f
 
 -- the walk of `digits`
 module _ (hex : Bool) (v i : ℕ) (t : List ℕ) where
-  module _ (h : i < length t) (d : ℕ) (e : d ≡ digitOf (getD t i 0)) (r : Value) (f : r ≡ joined hex v d) where
+  module _ (h : i < length t) (d : ℕ) (e : d ≡ digitOf (get_or t i 0)) (r : Value) (f : r ≡ joined hex v d) where
     pub said-wrong : (w : Fault) → r ≡ value.Wrong w → said hex v (drop i t) ≡ value.Wrong w
     unfolding said
     said-wrong w g = rw (drop-cons t i 0 h, ← e, ← f, g)
@@ -96,21 +96,21 @@ module _ (hex : Bool) (v i : ℕ) (t : List ℕ) where
 
 -- a whole word
 module _ (t : List ℕ) (r : Value) where
-  pub number-missing : length t ≡ 0 → value.Wrong fault.NumberMissing ≡ numberIn t
-  unfolding numberIn
+  pub number-missing : length t ≡ 0 → value.Wrong fault.NumberMissing ≡ number_in t
+  unfolding number_in
   number-missing e = rw (eq-eqb (length t) 0 e)
 
-  pub number-short : (length t ≡ 0 → ⊥) → length t < 3 → r ≡ said false 0 t → r ≡ numberIn t
-  unfolding numberIn hexed
-  number-short h k e = rw (ne-eqb (length t) 0 h, lt-leb 3 (length t) k) e
+  pub number_short : (length t ≡ 0 → ⊥) → length t < 3 → r ≡ said false 0 t → r ≡ number_in t
+  unfolding number_in hexed
+  number_short h k e = rw (ne_eqb (length t) 0 h, lt-leb 3 (length t) k) e
 
-  pub number-hex : 3 ≤ length t → (eqb (getD t 0 0) 48 && eqb (getD t 1 0) 120) ≡ true → r ≡ said true 0 (drop 2 t) → r ≡ numberIn t
-  unfolding numberIn hexed
-  number-hex k f e = rw (ne-eqb (length t) 0 (λ (z : length t ≡ 0). omega arith), le-leb 3 (length t) k, f) e
+  pub number-hex : 3 ≤ length t → (eqb (get_or t 0 0) 48 && eqb (get_or t 1 0) 120) ≡ true → r ≡ said true 0 (drop 2 t) → r ≡ number_in t
+  unfolding number_in hexed
+  number-hex k f e = rw (ne_eqb (length t) 0 (λ (z : length t ≡ 0). omega arith), le-leb 3 (length t) k, f) e
 
-  pub number-ten : 3 ≤ length t → (eqb (getD t 0 0) 48 && eqb (getD t 1 0) 120) ≡ false → r ≡ said false 0 t → r ≡ numberIn t
-  unfolding numberIn hexed
-  number-ten k f e = rw (ne-eqb (length t) 0 (λ (z : length t ≡ 0). omega arith), le-leb 3 (length t) k, f) e
+  pub number-ten : 3 ≤ length t → (eqb (get_or t 0 0) 48 && eqb (get_or t 1 0) 120) ≡ false → r ≡ said false 0 t → r ≡ number_in t
+  unfolding number_in hexed
+  number-ten k f e = rw (ne_eqb (length t) 0 (λ (z : length t ≡ 0). omega arith), le-leb 3 (length t) k, f) e
 
 -- words of a line as numbers
 module _ (t : List ℕ) (k last : ℕ) where
@@ -118,7 +118,7 @@ module _ (t : List ℕ) (k last : ℕ) where
   unfolding wantedOf
   beyond-last h = rw (lt-ltb last k h)
 
-  pub up-to-last : (r : Value) → k ≤ last → r ≡ numberIn (wordFrom t k) → r ≡ wantedOf t k last
+  pub up-to-last : (r : Value) → k ≤ last → r ≡ number_in (wordFrom t k) → r ≡ wantedOf t k last
   unfolding wantedOf
   up-to-last r h e = rw (le-ltb last k h) e
 
@@ -135,6 +135,6 @@ module _ (x y z : Value) where
   unfolding threeOf
   third-wrong e m n p q r = rw (p, q, r)
 
-  pub all-three : (m n o : ℕ) → x ≡ value.Is m → y ≡ value.Is n → z ≡ value.Is o → three.Are m n o ≡ threeOf x y z
+  pub all_three : (m n o : ℕ) → x ≡ value.Is m → y ≡ value.Is n → z ≡ value.Is o → three.Are m n o ≡ threeOf x y z
   unfolding threeOf
-  all-three m n o p q r = rw (p, q, r)
+  all_three m n o p q r = rw (p, q, r)

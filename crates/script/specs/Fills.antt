@@ -1,15 +1,11 @@
 -- Bytes put into a lent slice.
-use mathlib.Core.Bool.{Bool, _&&_}
-use mathlib.Core.List.{List, [], _∷_, _++_}
-use Prim.Native.Nat.{ℕ, zero, suc, _+_, _-_, _*_, _/_, _%_}
-use lib.Dec.{eqb, leb, ltb}
-use lib.ListN.{length, take, replicate}
-use lib.Seq.{sets}
-use Rattle·lists.specs.Pick.{pick}
-use Rattle·script·specs.specs.declared.Fault.the-variants as fault
-use Rattle·script·specs.specs.declared.Value.{Value}
-use Rattle·script·specs.specs.declared.Value.the-variants as value
-use Rattle·script·specs.specs.Numbers.{digitOf}
+use Rattle.std.specs.Prelude.{Bool, ◌&&◌, List, [], ◌∷◌, ◌++◌, ℕ, zero, suc, ◌+◌, ◌-◌, ◌*◌, ◌/◌, ◌%◌, eqb, leb, ltb, length, take, replicate}
+use Rattle.std.proofs.lemmas.List.Edits.{sets}
+use Rattle.lists.specs.Pick.{pick}
+use Rattle.script.specs.declared.Fault.TheVariants as fault
+use Rattle.script.specs.declared.Value.{Value}
+use Rattle.script.specs.declared.Value.TheVariants as value
+use Rattle.script.specs.Numbers.{digitOf}
 
 -- as much of d as b holds, at b's front
 abbrev pub copied : List ℕ → List ℕ → List ℕ

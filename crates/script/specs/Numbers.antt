@@ -1,16 +1,12 @@
 -- The numbers of a script: decimal, or hexadecimal behind 0x.
-use mathlib.Core.Bool.{Bool, true, false, _&&_}
-use mathlib.Core.List.{List, [], _∷_}
-use Prim.Native.Nat.{ℕ, _+_, _-_, _*_}
-use lib.Dec.{eqb, leb, ltb}
-use lib.ListN.{length, drop, getD}
-use Rattle·lists.specs.Pick.{pick}
-use Rattle·script·specs.specs.declared.Fault.the-variants as fault
-use Rattle·script·specs.specs.declared.Value.{Value}
-use Rattle·script·specs.specs.declared.Value.the-variants as value
-use Rattle·script·specs.specs.declared.Three.{Three}
-use Rattle·script·specs.specs.declared.Three.the-variants as three
-use Rattle·script·specs.specs.Words.{wordFrom}
+use Rattle.std.specs.Prelude.{Bool, true, false, ◌&&◌, List, [], ◌∷◌, ℕ, ◌+◌, ◌-◌, ◌*◌, eqb, leb, ltb, length, drop, get_or}
+use Rattle.lists.specs.Pick.{pick}
+use Rattle.script.specs.declared.Fault.TheVariants as fault
+use Rattle.script.specs.declared.Value.{Value}
+use Rattle.script.specs.declared.Value.TheVariants as value
+use Rattle.script.specs.declared.Three.{Three}
+use Rattle.script.specs.declared.Three.TheVariants as three
+use Rattle.script.specs.Words.{wordFrom}
 
 abbrev pub between : ℕ → ℕ → ℕ → Bool
 between a b x = leb a x && leb x b
@@ -40,17 +36,17 @@ said hex v (x ∷ t) = onward (joined hex v (digitOf x)) (λ n. said hex n t)
 
 -- three bytes or more of which the first two are 0 and x
 unfoldable pub hexed : List ℕ → Bool
-hexed t = leb 3 (length t) && (eqb (getD t 0 0) 48 && eqb (getD t 1 0) 120)
+hexed t = leb 3 (length t) && (eqb (get_or t 0 0) 48 && eqb (get_or t 1 0) 120)
 
 -- what a word says as a number
-unfoldable pub numberIn : List ℕ → Value
-numberIn t =
+unfoldable pub number_in : List ℕ → Value
+number_in t =
     pick (eqb (length t) 0) (value.Wrong fault.NumberMissing)
     (pick (hexed t) (said true 0 (drop 2 t)) (said false 0 t))
 
 -- word k of a line as a number; 0 beyond the last that is asked for
 unfoldable pub wantedOf : List ℕ → ℕ → ℕ → Value
-wantedOf t k last = pick (ltb last k) (value.Is 0) (numberIn (wordFrom t k))
+wantedOf t k last = pick (ltb last k) (value.Is 0) (number_in (wordFrom t k))
 
 -- three numbers; the first that is none says why
 unfoldable pub threeOf : Value → Value → Value → Three

@@ -1,15 +1,12 @@
 -- The words of a line: runs of bytes that are not blank. A byte is blank if it is below 33.
-use mathlib.Core.Bool.{Bool, true, false, Bool·beq, _&&_}
-use mathlib.Core.List.{List, [], _∷_}
-use Prim.Native.Nat.{ℕ, zero, suc, _+_, _-_}
-use lib.Dec.{eqb, ltb}
-use lib.ListN.{length, take, drop}
-use Rattle·lists.specs.Pick.{pick}
+use Rattle.std.specs.Prelude.{Bool, true, false, ◌&&◌, List, [], ◌∷◌, ℕ, zero, suc, ◌+◌, ◌-◌, eqb, ltb, length, take, drop}
+use Rattle.std.specs.Bool.{beq}
+use Rattle.lists.specs.Pick.{pick}
 
 -- how many bytes at the front of a text are blank, or are not
 unfoldable pub spanned : Bool → List ℕ → ℕ
 spanned blank [] = 0
-spanned blank (x ∷ t) = pick (Bool·beq (ltb x 33) blank) (suc (spanned blank t)) 0
+spanned blank (x ∷ t) = pick (beq (ltb x 33) blank) (suc (spanned blank t)) 0
 
 -- where the first word at or behind a place starts, and where it ends; the text's length where there is none
 abbrev pub startsFrom : List ℕ → ℕ → ℕ
@@ -42,9 +39,9 @@ before b [] = 0
 before b (x ∷ t) = pick (eqb x b) 0 (suc (before b t))
 
 -- where the last word ends; 0 where there is none
-unfoldable pub lastEnd : List ℕ → ℕ
-lastEnd [] = 0
-lastEnd (x ∷ t) = pick (eqb (lastEnd t) 0) (pick (ltb x 33) 0 1) (suc (lastEnd t))
+unfoldable pub last_end : List ℕ → ℕ
+last_end [] = 0
+last_end (x ∷ t) = pick (eqb (last_end t) 0) (pick (ltb x 33) 0 1) (suc (last_end t))
 
 -- whether two texts are the same
 unfoldable pub eqs : List ℕ → List ℕ → Bool
@@ -59,5 +56,5 @@ placeFrom l w k zero = k
 placeFrom l w k (suc n) = pick (eqs (wordFrom l k) w) k (placeFrom l w (suc k) n)
 
 -- which word of a list w is; the list's length where it is none: a list has no more words than bytes, and beyond them all are empty
-abbrev pub placeOf : List ℕ → List ℕ → ℕ
-placeOf l w = placeFrom l w 0 (length l)
+abbrev pub place_of : List ℕ → List ℕ → ℕ
+place_of l w = placeFrom l w 0 (length l)

@@ -1,18 +1,15 @@
 // Bytes put into a lent slice.
-use crate::Fault;
-use crate::Value;
+ghost use Rattle.std.specs.Prelude.{◌≡◌, ◌+◌, ◌≤◌, ◌<◌, ◌*◌, length, set};
+ghost use Rattle.lists.specs.Pick.{pick};
+ghost use Rattle.script.specs.Fills.{appended, copied, generated, hexAnswer, hexFilled, holds, wiped};
+
 use crate::reads::digit;
-use lists::least;
-use lists::zero_fill;
-ghost use mathlib.Core.Path.{_≡_};
-ghost use Prim.Native.Nat.{_+_, _≤_, _<_, _*_};
-ghost use lib.ListN.{length, set};
-ghost use Rattle·lists.specs.Pick.{pick};
-ghost use Rattle·script·specs.specs.Fills.{appended, copied, generated, hexAnswer, hexFilled, holds, wiped};
+use crate::{Fault, Value};
+use lists::{least, zero_fill};
 
 // As much of `from` as `to` holds.
 pub fn copy(to: &mut [u8], from: &[u8])
-    ensures { λ _. ⌜ now (to .exit) ≡ copied (now (to .entry)) (now (from .entry)) ⌝ }
+    ensures { to.new ≡ copied to.old from.now }
 {
     let n = least(to.len(), from.len());
     let mut i: usize = 0;
@@ -24,8 +21,8 @@ pub fn copy(to: &mut [u8], from: &[u8])
 
 // A line of which `filled` bytes are there gets more; the new count, or `long` where it doesn't hold them.
 pub fn append(line: &mut [u8], filled: usize, part: &[u8], long: usize) -> usize
-    ensures answer { λ r. ⌜ r ≡ pick (holds (now (line .entry)) filled (now (part .entry))) (filled + length (now (part .entry))) long ⌝ }
-    ensures line { λ _. ⌜ now (line .exit) ≡ appended (now (line .entry)) filled (now (part .entry)) ⌝ }
+    ensures answer { result ≡ pick (holds line.old filled part.now) (filled + length part.now) long }
+    ensures line { line.new ≡ appended line.old filled part.now }
 {
     if line.len() < filled {
         return long;
@@ -39,7 +36,7 @@ pub fn append(line: &mut [u8], filled: usize, part: &[u8], long: usize) -> usize
 
 // Zeros from `from` to `to`.
 pub fn wipe(b: &mut [u8], from: usize, to: usize)
-    ensures { λ _. ⌜ now (b .exit) ≡ wiped (now (b .entry)) from to ⌝ }
+    ensures { b.new ≡ wiped b.old from to }
 {
     if b.len() < to {
         return;
@@ -52,7 +49,7 @@ pub fn wipe(b: &mut [u8], from: usize, to: usize)
 
 // b[i] = (seed + i * 7 + (i >> 8) * 13) & 255
 pub fn generate(b: &mut [u8], seed: usize)
-    ensures { λ _. ⌜ now (b .exit) ≡ generated seed (length (now (b .entry))) ⌝ }
+    ensures { b.new ≡ generated seed (length b.old) }
 {
     let start = seed % 256;
     let mut i: usize = 0;
@@ -64,16 +61,16 @@ pub fn generate(b: &mut [u8], seed: usize)
 
 // Digits hi and lo as a byte at i.
 fn put_pair(b: &mut [u8], i: usize, hi: usize, lo: usize)
-    requires { ⌜ (i < length (now b)) × (hi < 16) × (lo < 16) ⌝ }
-    ensures { λ _. ⌜ now (b .exit) ≡ set (now (b .entry)) i (16 * hi + lo) ⌝ }
+    requires { (i < length b.old) × (hi < 16) × (lo < 16) }
+    ensures { b.new ≡ set b.old i (16 * hi + lo) }
 {
     b[i] = (16 * hi + lo) as u8;
 }
 
 // The bytes that a word of hexadecimal digits gives, and how many.
 pub fn hex_bytes(text: &[u8], out: &mut [u8]) -> Value
-    ensures answer { λ r. ⌜ r ≡ hexAnswer (now (text .entry)) (length (now (out .entry))) ⌝ }
-    ensures out { λ _. ⌜ now (out .exit) ≡ hexFilled (now (text .entry)) (now (out .entry)) ⌝ }
+    ensures answer { result ≡ hexAnswer text.now (length out.old) }
+    ensures out { out.new ≡ hexFilled text.now out.old }
 {
     if text.len() % 2 == 1 {
         return Value::Wrong(Fault::HexWrong);

@@ -5,30 +5,14 @@ mod reads;
 mod sums;
 mod words;
 
-pub use fills::append;
-pub use fills::copy;
-pub use fills::generate;
-pub use fills::hex_bytes;
-pub use fills::wipe;
-pub use prints::put_byte;
-pub use prints::put_bytes;
-pub use prints::put_decimal;
-pub use prints::put_hex;
-pub use prints::put_labelled;
-pub use prints::write_out;
-pub use reads::argument;
-pub use reads::flag;
-pub use reads::number;
-pub use reads::numbers;
-pub use sums::crc;
-pub use sums::crc_table;
-pub use words::find;
-pub use words::find_word;
-pub use words::last;
-pub use words::nth;
-pub use words::place_in;
+pub use fills::{append, copy, generate, hex_bytes, wipe};
+pub use prints::{put_byte, put_bytes, put_decimal, put_hex, put_labelled, write_out};
+pub use reads::{argument, flag, number, numbers};
+pub use sums::{crc, crc_table};
+pub use words::{find, find_word, last, nth, place_in};
 
 // Why a line can't be read.
+#[derive(Drop)]
 pub enum Fault {
     UnknownWord,
     ExtraWord,
@@ -46,17 +30,20 @@ pub enum Fault {
     OtherRules,
 }
 
+#[derive(Drop)]
 pub enum Value {
     Is(usize),
     Wrong(Fault),
 }
 
+#[derive(Drop)]
 pub enum Three {
     Are(usize, usize, usize),
     Wrong(Fault),
 }
 
 // Where a word of a line stands; empty at the line's end where there is none.
+#[derive(Drop)]
 pub struct Span {
     pub start: usize,
     pub end: usize,

@@ -1,14 +1,14 @@
 // A line of output, made in a lent slice: each function answers where the next byte goes. What doesn't fit is left out.
+ghost use Rattle.std.specs.Prelude.{[], ◌∷◌, ◌++◌, max, min};
+ghost use Rattle.script.specs.Prints.{Put};
+ghost use Rattle.script.specs.Spelling.{spelling};
+
 use crate::fills::copy;
 use libc::STDOUT_FILENO;
 use lists::least;
-ghost use mathlib.Core.List.{[], _∷_, _++_};
-ghost use Prim.Native.Nat.{max, min};
-ghost use Rattle·script·specs.specs.Prints.{Put};
-ghost use Rattle·script·specs.specs.Spelling.{spelling};
 
 pub fn put_bytes(out: &mut [u8], at: usize, b: &[u8]) -> usize
-    ensures { λ r. ⌜ Put (now (out .entry)) at (now (b .entry)) (now (out .exit)) r ⌝ }
+    ensures { Put out.old at b.now out.new result }
 {
     if out.len() < at {
         return at;
@@ -18,14 +18,14 @@ pub fn put_bytes(out: &mut [u8], at: usize, b: &[u8]) -> usize
 }
 
 pub fn put_byte(out: &mut [u8], at: usize, x: u8) -> usize
-    ensures { λ r. ⌜ Put (now (out .entry)) at (x ∷ []) (now (out .exit)) r ⌝ }
+    ensures { Put out.old at (x ∷ []) out.new result }
 {
     let text = [x; 1];
     put_bytes(out, at, &text)
 }
 
 pub fn put_decimal(out: &mut [u8], at: usize, n: usize) -> usize
-    ensures { λ r. ⌜ Put (now (out .entry)) at (spelling 10 1 n) (now (out .exit)) r ⌝ }
+    ensures { Put out.old at (spelling 10 1 n) out.new result }
 {
     let mut text = [0u8; 20];
     let k = io::decimal(n as u64, &mut text);
@@ -33,7 +33,7 @@ pub fn put_decimal(out: &mut [u8], at: usize, n: usize) -> usize
 }
 
 pub fn put_hex(out: &mut [u8], at: usize, n: usize, width: usize) -> usize
-    ensures { λ r. ⌜ Put (now (out .entry)) at (spelling 16 (min (max width 1) 16) n) (now (out .exit)) r ⌝ }
+    ensures { Put out.old at (spelling 16 (min (max width 1) 16) n) out.new result }
 {
     let mut text = [0u8; 16];
     let k = io::hex(n as u64, width, &mut text);
@@ -41,7 +41,7 @@ pub fn put_hex(out: &mut [u8], at: usize, n: usize, width: usize) -> usize
 }
 
 pub fn put_labelled(out: &mut [u8], at: usize, label: &[u8], n: usize) -> usize
-    ensures { λ r. ⌜ Put (now (out .entry)) at (now (label .entry) ++ spelling 10 1 n) (now (out .exit)) r ⌝ }
+    ensures { Put out.old at (label.now ++ spelling 10 1 n) out.new result }
 {
     let next = put_bytes(out, at, label);
     put_decimal(out, next, n)

@@ -1,21 +1,17 @@
 // Numbers: decimal, or hexadecimal behind 0x.
-use crate::Fault;
-use crate::Three;
-use crate::Value;
+ghost use Rattle.std.specs.Prelude.{false, true, ◌≡◌, ◌+◌, ◌≤◌, ◌<◌, drop, length};
+ghost use Rattle.lists.specs.Pick.{pick};
+ghost use Rattle.script.specs.Words.{wordFrom};
+ghost use Rattle.script.specs.Numbers.{digitOf, joined, number_in, said, threeOf, wantedOf};
+
 use crate::words::nth;
+use crate::{Fault, Three, Value};
 use lists::wide;
-ghost use mathlib.Core.Bool.{false, true};
-ghost use mathlib.Core.Path.{_≡_};
-ghost use Prim.Native.Nat.{_+_, _≤_, _<_};
-ghost use lib.ListN.{drop, length};
-ghost use Rattle·lists.specs.Pick.{pick};
-ghost use Rattle·script·specs.specs.Words.{wordFrom};
-ghost use Rattle·script·specs.specs.Numbers.{digitOf, joined, numberIn, said, threeOf, wantedOf};
 
 // A hexadecimal digit's value; 16 where b is none.
 pub fn digit(b: u8) -> usize
-    ensures is { λ r. ⌜ r ≡ digitOf b ⌝ }
-    ensures low { λ r. ⌜ r ≤ 16 ⌝ }
+    ensures is { result ≡ digitOf b }
+    ensures low { result ≤ 16 }
 {
     let x = wide(b);
     if x < 48 {
@@ -40,7 +36,7 @@ pub fn digit(b: u8) -> usize
 }
 
 fn decimal_more(value: usize, d: usize) -> Value
-    ensures { λ r. ⌜ r ≡ joined false value d ⌝ }
+    ensures { result ≡ joined false value d }
 {
     if 9 < d {
         return Value::Wrong(Fault::NumberWrong);
@@ -56,7 +52,7 @@ fn decimal_more(value: usize, d: usize) -> Value
 }
 
 fn hex_more(value: usize, d: usize) -> Value
-    ensures { λ r. ⌜ r ≡ joined true value d ⌝ }
+    ensures { result ≡ joined true value d }
 {
     if 15 < d {
         return Value::Wrong(Fault::NumberWrong);
@@ -68,7 +64,7 @@ fn hex_more(value: usize, d: usize) -> Value
 }
 
 fn more(value: usize, d: usize, hex: bool) -> Value
-    ensures { λ r. ⌜ r ≡ joined hex value d ⌝ }
+    ensures { result ≡ joined hex value d }
 {
     if hex {
         hex_more(value, d)
@@ -79,8 +75,8 @@ fn more(value: usize, d: usize, hex: bool) -> Value
 
 // The digits from `from` on.
 fn digits(text: &[u8], from: usize, hex: bool) -> Value
-    requires { ⌜ from ≤ length (now text) ⌝ }
-    ensures { λ r. ⌜ r ≡ said hex 0 (drop from (now (text .entry))) ⌝ }
+    requires { from ≤ length text.now }
+    ensures { result ≡ said hex 0 (drop from text.now) }
 {
     let mut value: usize = 0;
     let mut i = from;
@@ -95,7 +91,7 @@ fn digits(text: &[u8], from: usize, hex: bool) -> Value
 }
 
 pub fn number(text: &[u8]) -> Value
-    ensures { λ r. ⌜ r ≡ numberIn (now (text .entry)) ⌝ }
+    ensures { result ≡ number_in text.now }
 {
     if text.len() == 0 {
         return Value::Wrong(Fault::NumberMissing);
@@ -111,7 +107,7 @@ pub fn number(text: &[u8]) -> Value
 
 // Word k of the line as a number.
 pub fn argument(text: &[u8], k: usize) -> Value
-    ensures { λ r. ⌜ r ≡ numberIn (wordFrom (now (text .entry)) k) ⌝ }
+    ensures { result ≡ number_in (wordFrom text.now k) }
 {
     let s = nth(text, k);
     let start = s.start;
@@ -121,7 +117,7 @@ pub fn argument(text: &[u8], k: usize) -> Value
 
 // 0 beyond the last word that is to be a number.
 fn wanted(text: &[u8], k: usize, last: usize) -> Value
-    ensures { λ r. ⌜ r ≡ wantedOf (now (text .entry)) k last ⌝ }
+    ensures { result ≡ wantedOf text.now k last }
 {
     if last < k {
         return Value::Is(0);
@@ -131,8 +127,8 @@ fn wanted(text: &[u8], k: usize, last: usize) -> Value
 
 // Words `first` to `last` as numbers, three at most.
 pub fn numbers(text: &[u8], first: usize, last: usize) -> Three
-    requires { ⌜ first < 9 ⌝ }
-    ensures { λ r. ⌜ r ≡ threeOf (wantedOf (now (text .entry)) first last) (wantedOf (now (text .entry)) (first + 1) last) (wantedOf (now (text .entry)) (first + 2) last) ⌝ }
+    requires { first < 9 }
+    ensures { result ≡ threeOf (wantedOf text.now first last) (wantedOf text.now (first + 1) last) (wantedOf text.now (first + 2) last) }
 {
     match wanted(text, first, last) {
         Value::Wrong(f) => Three::Wrong(f),
@@ -147,7 +143,7 @@ pub fn numbers(text: &[u8], first: usize, last: usize) -> Three
 }
 
 pub fn flag(b: bool) -> usize
-    ensures { λ r. ⌜ r ≡ pick b 1 0 ⌝ }
+    ensures { result ≡ pick b 1 0 }
 {
     if b { 1 } else { 0 }
 }

@@ -1,10 +1,11 @@
 // CRC-32 as zlib has it.
+ghost use Rattle.std.specs.Prelude.{◌≡◌};
+ghost use Rattle.script.specs.Sums.{crc32, crcBy, crcTable, step, steps};
+
 use lists::wide;
-ghost use mathlib.Core.Path.{_≡_};
-ghost use Rattle·script·specs.specs.Sums.{crc32, crcBy, crcTable, step, steps};
 
 fn crc_step(c: usize) -> usize
-    ensures { λ r. ⌜ r ≡ step c ⌝ }
+    ensures { result ≡ step c }
 {
     if c % 2 == 1 {
         (c / 2) ^ 3988292384
@@ -14,7 +15,7 @@ fn crc_step(c: usize) -> usize
 }
 
 fn crc_entry(i: usize) -> usize
-    ensures { λ r. ⌜ r ≡ steps 8 i ⌝ }
+    ensures { result ≡ steps 8 i }
 {
     let mut c = i;
     let mut turns: usize = 8;
@@ -27,7 +28,7 @@ fn crc_entry(i: usize) -> usize
 
 // What eight bits make of each byte.
 pub fn crc_table() -> [usize; 256]
-    ensures { λ r. ⌜ r ≡ crcTable ⌝ }
+    ensures { result ≡ crcTable }
 {
     let mut table = [0usize; 256];
     let mut i: usize = 0;
@@ -40,8 +41,8 @@ pub fn crc_table() -> [usize; 256]
 
 // By the table of `crc_table`; any other gives what its entries say.
 pub fn crc(b: &[u8], table: &[usize; 256]) -> usize
-    ensures by { λ r. ⌜ r ≡ crcBy (now (table .entry)) (now (b .entry)) ⌝ }
-    ensures right { λ r. ⌜ (now (table .entry) ≡ crcTable → r ≡ crc32 (now (b .entry))) ⌝ }
+    ensures by { result ≡ crcBy table.now b.now }
+    ensures right { table.now ≡ crcTable → result ≡ crc32 b.now }
 {
     let mut c: usize = 4294967295;
     let mut i: usize = 0;

@@ -1,15 +1,14 @@
 // Words: runs of bytes that are not blank.
+ghost use Rattle.std.specs.Prelude.{◌≡◌, ◌+◌, ◌≤◌, ◌<◌, drop, length};
+ghost use Rattle.script.specs.Words.{before, eqs, last_end, part, spanned, place_of, wordEnd, wordFrom, wordStart};
+
 use crate::Span;
-ghost use mathlib.Core.Path.{_≡_};
-ghost use Prim.Native.Nat.{_+_, _≤_, _<_};
-ghost use lib.ListN.{drop, length};
-ghost use Rattle·script·specs.specs.Words.{before, eqs, lastEnd, part, spanned, placeOf, wordEnd, wordFrom, wordStart};
 
 // The first byte from `from` on that is not blank, or that is; the length where there is none.
 fn pass(text: &[u8], from: usize, blank: bool) -> usize
-    requires { ⌜ from ≤ length (now text) ⌝ }
-    ensures is { λ r. ⌜ r ≡ from + spanned blank (drop from (now (text .entry))) ⌝ }
-    ensures within { λ r. ⌜ (from ≤ r) × (r ≤ length (now (text .entry))) ⌝ }
+    requires { from ≤ length text.now }
+    ensures is { result ≡ from + spanned blank (drop from text.now) }
+    ensures within { (from ≤ result) × (result ≤ length text.now) }
 {
     let mut i = from;
     while i < text.len() {
@@ -23,9 +22,9 @@ fn pass(text: &[u8], from: usize, blank: bool) -> usize
 
 // Word k, counted from 0.
 pub fn nth(text: &[u8], k: usize) -> Span
-    ensures start { λ r. ⌜ r .start ≡ wordStart (now (text .entry)) k ⌝ }
-    ensures end { λ r. ⌜ r .end ≡ wordEnd (now (text .entry)) k ⌝ }
-    ensures within { λ r. ⌜ (r .start ≤ r .end) × (r .end ≤ length (now (text .entry))) ⌝ }
+    ensures start { result.start ≡ wordStart text.now k }
+    ensures end { result.end ≡ wordEnd text.now k }
+    ensures within { (result.start ≤ result.end) × (result.end ≤ length text.now) }
 {
     let mut at: usize = 0;
     let mut i: usize = 0;
@@ -41,9 +40,9 @@ pub fn nth(text: &[u8], k: usize) -> Span
 
 // Where byte b first stands from `from` on; the length where it doesn't.
 pub fn find(text: &[u8], from: usize, b: u8) -> usize
-    requires { ⌜ from ≤ length (now text) ⌝ }
-    ensures is { λ r. ⌜ r ≡ from + before b (drop from (now (text .entry))) ⌝ }
-    ensures within { λ r. ⌜ (from ≤ r) × (r ≤ length (now (text .entry))) ⌝ }
+    requires { from ≤ length text.now }
+    ensures is { result ≡ from + before b (drop from text.now) }
+    ensures within { (from ≤ result) × (result ≤ length text.now) }
 {
     let mut i = from;
     while i < text.len() {
@@ -57,8 +56,8 @@ pub fn find(text: &[u8], from: usize, b: u8) -> usize
 
 // The end of the last word; 0 where there is none.
 pub fn last(text: &[u8]) -> usize
-    ensures is { λ r. ⌜ r ≡ lastEnd (now (text .entry)) ⌝ }
-    ensures within { λ r. ⌜ r ≤ length (now (text .entry)) ⌝ }
+    ensures is { result ≡ last_end text.now }
+    ensures within { result ≤ length text.now }
 {
     let mut i = text.len();
     while 0 < i {
@@ -71,7 +70,7 @@ pub fn last(text: &[u8]) -> usize
 }
 
 fn same(a: &[u8], b: &[u8]) -> bool
-    ensures { λ r. ⌜ r ≡ eqs (now (a .entry)) (now (b .entry)) ⌝ }
+    ensures { result ≡ eqs a.now b.now }
 {
     if a.len() != b.len() {
         return false;
@@ -88,15 +87,15 @@ fn same(a: &[u8], b: &[u8]) -> bool
 
 // Whether w is the word of the list that stands from `start` to `end`.
 fn same_part(list: &[u8], start: usize, end: usize, w: &[u8]) -> bool
-    requires { ⌜ (start ≤ end) × (end ≤ length (now list)) ⌝ }
-    ensures { λ r. ⌜ r ≡ eqs (part (now (list .entry)) start end) (now (w .entry)) ⌝ }
+    requires { (start ≤ end) × (end ≤ length list.now) }
+    ensures { result ≡ eqs (part list.now start end) w.now }
 {
     same(&list[start..end], w)
 }
 
 // Which word of the list w is, counted from 0; the list's length where it is none. Each turn passes a word.
 pub fn place_in(list: &[u8], w: &[u8]) -> usize
-    ensures { λ r. ⌜ r ≡ placeOf (now (list .entry)) (now (w .entry)) ⌝ }
+    ensures { result ≡ place_of list.now w.now }
 {
     let mut at: usize = 0;
     let mut k: usize = 0;
@@ -113,7 +112,7 @@ pub fn place_in(list: &[u8], w: &[u8]) -> usize
 
 // Which word of the list word k of the line is.
 pub fn find_word(list: &[u8], text: &[u8], k: usize) -> usize
-    ensures { λ r. ⌜ r ≡ placeOf (now (list .entry)) (wordFrom (now (text .entry)) k) ⌝ }
+    ensures { result ≡ place_of list.now (wordFrom text.now k) }
 {
     let s = nth(text, k);
     let start = s.start;

@@ -1,50 +1,50 @@
 -- "A step is refused for room exactly when its entry doesn't fit", if nothing earlier refuses it; and with 11, before that, exactly when the table is too
 -- small.
-use mathlib.Core.Path.{_≡_, sym, ap, _∙_}
+use mathlib.Core.Path.{◌≡◌, sym, ap, ◌∙◌}
 use mathlib.Core.Bool.{Bool, true, false, or-true, true≢false}
 use mathlib.Core.Logic.{inl, inr}
-use Prim.Native.Nat.{ℕ, _-_}
+use Prim.Native.Nat.{ℕ, ◌-◌}
 use native.Mathlib.Omega.{arith}
 use borrow.Author.Tests.{lt-ltb, ltb-true}
 use lib.Dec.{ltb}
 use lib.ListN.{length}
-use Rattle·lists.proofs.Cases.{by-test}
-use Rattle·index.specs.Table.{placesIn}
-use Rattle·commands.specs.declared.plans.Answer.{Answer}
-use Rattle·commands.specs.declared.plans.Answer.the-variants as answer
-use Rattle·unit.specs.Asks.{Ask}
-use Rattle·unit.specs.Cores.{Core}
-use Rattle·unit.specs.Steps.{Step, stepOf, tooSmall}
-use Rattle·entries.specs.Entries.{entryLength}
-use Rattle·worlds.specs.Worlds.{World}
-use Rattle·worlds.specs.Calls.{entryFor, noPlace, stepOn, takenAs, takenBy, tooFull}
-use Rattle·worlds.specs.Passes.{Fit}
-use Rattle·sessions·specs.specs.Session.{refused, stepped}
-use Rattle·sessions·specs.specs.Calling.{stepKind}
-use Rattle·sessions·specs.specs.Good.{Exactly, NoPlace}
-use Rattle·sessions·proofs.proofs.Taken.{let-through, refused-none}
+use Rattle.lists.proofs.Cases.{by-test}
+use Rattle.index.specs.Table.{placesIn}
+use Rattle.commands.specs.declared.plans.Answer.{Answer}
+use Rattle.commands.specs.declared.plans.Answer.TheVariants as answer
+use Rattle.unit.specs.Asks.{Ask}
+use Rattle.unit.specs.Cores.{Core}
+use Rattle.unit.specs.Steps.{Step, step_of, tooSmall}
+use Rattle.entries.specs.Entries.{entryLength}
+use Rattle.worlds.specs.Worlds.{World}
+use Rattle.worlds.specs.Calls.{entryFor, noPlace, stepOn, takenAs, takenBy, tooFull}
+use Rattle.worlds.specs.Passes.{Fit}
+use Rattle.sessions.specs.Session.{refused, stepped}
+use Rattle.sessions.specs.Calling.{stepKind}
+use Rattle.sessions.specs.Good.{Exactly, NoPlace}
+use Rattle.sessions.proofs.Taken.{let_through, refused_none}
 
 -- "done" is no refusal
-not-done : {P : Type 0} (i : Bool) (k : ℕ) → answer.Done i ≡ answer.Refused k → P
+not_done : {P : Type 0} (i : Bool) (k : ℕ) → answer.Done i ≡ answer.Refused k → P
 unfolding stepKind
-not-done i k e = let z : refused ≡ stepped = sym (ap stepKind e) in refused-none z
+not_done i k e = let z : refused ≡ stepped = sym (ap stepKind e) in refused_none z
 
 other-number : {P : Type 0} → answer.Refused 11 ≡ answer.Refused 9 → P
-other-number e = absurd (let z : _≡_ {A = ℕ} 11 9 = cc in omega arith)
+other-number e = absurd (let z : ◌≡◌ {A = ℕ} 11 9 = cc in omega arith)
 
 -- the test of 11 says what it means
 module _ (c : Core) (x : Step) where
   abbrev places : ℕ
-  places = placesIn (length (c .table))
+  places = placesIn (length c.table)
 
   pub crowded : noPlace c x ≡ true → NoPlace c x
   unfolding tooSmall
-  crowded t = by-test (ltb places (c .objects)) (λ a. inl (ltb-true places (c .objects) a)) (λ a. inr (ltb-true places (x .after .objects) (rw a at t)))
+  crowded t = by-test (ltb places c.objects) (λ a. inl (ltb-true places c.objects a)) (λ a. inr (ltb-true places x.after.objects (rw a at t)))
 
   pub crowds : NoPlace c x → noPlace c x ≡ true
   unfolding tooSmall
-  crowds (inl h) = rw (lt-ltb places (c .objects) h)
-  crowds (inr h) = rw (lt-ltb places (x .after .objects) h) (or-true (ltb places (c .objects)))
+  crowds (inl h) = rw (lt-ltb places c.objects h)
+  crowds (inr h) = rw (lt-ltb places x.after.objects h) (or-true (ltb places c.objects))
 
   pub not-crowded : (NoPlace c x → ⊥) → noPlace c x ≡ false
   not-crowded f = by-test (noPlace c x) (λ t. absurd (f (crowded t))) (λ t. t)
@@ -53,36 +53,36 @@ module _ (c : Core) (x : Step) where
   never-crowded t h = true≢false (sym (crowds h) ∙ t)
 
 module _ (w : World) (x : Step) where
-  as-room : (i : Bool) → Exactly w x (entryFor (w .number) (w .core) x) (takenAs w x (answer.Done i))
+  as_room : (i : Bool) → Exactly w x (entryFor w.number w.core x) (takenAs w x (answer.Done i))
   unfolding takenAs
-  as-room i =
-      let free : ℕ = w .ledger .length - w .ledger .used in
-      let long : ℕ = entryLength (entryFor (w .number) (w .core) x) in
+  as_room i =
+      let free : ℕ = w.ledger.length - w.ledger.used in
+      let long : ℕ = entryLength (entryFor w.number w.core x) in
       record {
         nine = λ r.
-            by-test (noPlace (w .core) x)
+            by-test (noPlace w.core x)
             (λ s. let z : answer.Refused 11 ≡ answer.Refused 9 = rw s at r in other-number z)
-            (λ s. by-test (tooFull (w .ledger) (entryFor (w .number) (w .core) x))
+            (λ s. by-test (tooFull w.ledger (entryFor w.number w.core x))
             (λ t. ltb-true free long t)
-            (λ t. let z : answer.Done i ≡ answer.Refused 9 = rw (s, t) at r in not-done i 9 z));
-        no-room = λ f h. rw (not-crowded (w .core) x f, lt-ltb free long h);
+            (λ t. let z : answer.Done i ≡ answer.Refused 9 = rw (s, t) at r in not_done i 9 z));
+        no_room = λ f h. rw (not-crowded w.core x f, lt-ltb free long h);
         eleven = λ r.
-            by-test (noPlace (w .core) x)
-            (λ s. crowded (w .core) x s)
-            (λ s. by-test (tooFull (w .ledger) (entryFor (w .number) (w .core) x))
+            by-test (noPlace w.core x)
+            (λ s. crowded w.core x s)
+            (λ s. by-test (tooFull w.ledger (entryFor w.number w.core x))
             (λ t. let z : answer.Refused 9 ≡ answer.Refused 11 = rw (s, t) at r in other-number (sym z))
-            (λ t. let z : answer.Done i ≡ answer.Refused 11 = rw (s, t) at r in not-done i 11 z));
-        no-place = λ h. rw (crowds (w .core) x h);
+            (λ t. let z : answer.Done i ≡ answer.Refused 11 = rw (s, t) at r in not_done i 11 z));
+        no_place = λ h. rw (crowds w.core x h);
       }
 
-  pub room-taken : (i : Bool) (a : Answer) → a ≡ answer.Done i → Exactly w x (entryFor (w .number) (w .core) x) (takenBy w x a)
+  pub room-taken : (i : Bool) (a : Answer) → a ≡ answer.Done i → Exactly w x (entryFor w.number w.core x) (takenBy w x a)
   unfolding takenBy
-  room-taken i a e = rw e (as-room i)
+  room-taken i a e = rw e (as_room i)
 
 -- of any ask
-pub room-asked : (n : ℕ) (a : Ask) (w : World) (i : Bool) → Fit n w → stepOf a (w .core) .answer ≡ answer.Done i
-    → Exactly w (stepOf a (w .core)) (entryFor (w .number) (w .core) (stepOf a (w .core))) (stepOn w n a)
+pub room-asked : (n : ℕ) (a : Ask) (w : World) (i : Bool) → Fit n w → (step_of a w.core).answer ≡ answer.Done i
+    → Exactly w (step_of a w.core) (entryFor w.number w.core (step_of a w.core)) (stepOn w n a)
 unfolding stepOn
 room-asked n a w i fit s =
-    rw (let-through n w (fit .sound) (takenBy w (stepOf a (w .core)) (stepOf a (w .core) .answer)))
-    (room-taken w (stepOf a (w .core)) i (stepOf a (w .core) .answer) s)
+    rw (let_through n w fit.sound (takenBy w (step_of a w.core) (step_of a w.core).answer))
+    (room-taken w (step_of a w.core) i (step_of a w.core).answer s)

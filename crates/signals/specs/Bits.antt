@@ -1,5 +1,5 @@
 -- XST0 and XST3, each bit by its number. (01, the message paragraph)
-use Prim.Native.Nat.{ℕ, _^_}
+use Rattle.std.specs.Prelude.{ℕ, ◌^◌}
 
 -- bit n of a word
 abbrev pub bit : ℕ → ℕ

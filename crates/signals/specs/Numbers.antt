@@ -1,6 +1,6 @@
 -- The limits of the registers, words and packets. (01, "Registers", step 8; 02, [2])
-use Prim.Native.Nat.{ℕ}
-use Rattle·signals·specs.specs.Bits.{bit}
+use Rattle.std.specs.Prelude.{ℕ}
+use Rattle.signals.specs.Bits.{bit}
 
 -- "all 18 pointer bits"; "Pointer bits above A17"
 abbrev pub pointerLimit : ℕ

@@ -1,7 +1,8 @@
 // Command codes and modes.
-ghost use mathlib.Core.Path.{_≡_};
-ghost use Rattle·signals·specs.specs.Codes.{commandOf, controlMode, formatMode, positionMode, readMode, singleMode, writeMode};
+ghost use Rattle.std.specs.Prelude.{◌≡◌};
+ghost use Rattle.signals.specs.Codes.{commandOf, controlMode, formatMode, positionMode, readMode, singleMode, writeMode};
 
+#[derive(Drop)]
 pub enum Command {
     ReadNext,
     ReadPrevious,
@@ -27,7 +28,7 @@ pub enum Command {
 }
 
 fn decode_read(mode: usize) -> Command
-    ensures { λ r. ⌜ r ≡ readMode mode ⌝ }
+    ensures { result ≡ readMode mode }
 {
     match mode {
         0 => Command::ReadNext,
@@ -39,7 +40,7 @@ fn decode_read(mode: usize) -> Command
 }
 
 fn decode_position(mode: usize) -> Command
-    ensures { λ r. ⌜ r ≡ positionMode mode ⌝ }
+    ensures { result ≡ positionMode mode }
 {
     match mode {
         0 => Command::RecordsForward,
@@ -52,7 +53,7 @@ fn decode_position(mode: usize) -> Command
 }
 
 fn decode_format(mode: usize) -> Command
-    ensures { λ r. ⌜ r ≡ formatMode mode ⌝ }
+    ensures { result ≡ formatMode mode }
 {
     match mode {
         0 => Command::WriteMark,
@@ -63,7 +64,7 @@ fn decode_format(mode: usize) -> Command
 }
 
 fn decode_control(mode: usize) -> Command
-    ensures { λ r. ⌜ r ≡ controlMode mode ⌝ }
+    ensures { result ≡ controlMode mode }
 {
     match mode {
         0 => Command::Release,
@@ -74,7 +75,7 @@ fn decode_control(mode: usize) -> Command
 }
 
 fn decode_write(mode: usize) -> Command
-    ensures { λ r. ⌜ r ≡ writeMode mode ⌝ }
+    ensures { result ≡ writeMode mode }
 {
     match mode {
         0 => Command::Write,
@@ -85,7 +86,7 @@ fn decode_write(mode: usize) -> Command
 
 // A command that has mode 0 alone.
 fn decode_single(mode: usize, c: Command) -> Command
-    ensures { λ r. ⌜ r ≡ singleMode c mode ⌝ }
+    ensures { result ≡ singleMode c mode }
 {
     match mode {
         0 => c,
@@ -95,7 +96,7 @@ fn decode_single(mode: usize, c: Command) -> Command
 
 // The command of a code and a mode; all else is illegal.
 pub fn decode(code: usize, mode: usize) -> Command
-    ensures { λ r. ⌜ r ≡ commandOf code mode ⌝ }
+    ensures { result ≡ commandOf code mode }
 {
     match code {
         1 => decode_read(mode),

@@ -1,13 +1,17 @@
 // Three counters that the manuals keep apart, and so do we.
-ghost use mathlib.Core.Path.{_≡_};
-ghost use Rattle·signals·specs.specs.Residuals.{residualWord};
+ghost use Rattle.std.specs.Prelude.{◌≡◌};
+ghost use Rattle.signals.specs.Residuals.{residualWord};
 
+#[derive(Drop)]
 pub struct ByteCount(pub u16);
 
+#[derive(Drop)]
 pub struct RecordCount(pub u16);
 
+#[derive(Drop)]
 pub struct MarkCount(pub u16);
 
+#[derive(Drop)]
 pub enum Residual {
     Bytes(ByteCount),
     Records(RecordCount),
@@ -17,7 +21,7 @@ pub enum Residual {
 
 // Only here do the three become a word.
 pub fn residual_word(r: Residual) -> u16
-    ensures { λ w. ⌜ w ≡ residualWord r ⌝ }
+    ensures { result ≡ residualWord r }
 {
     match r {
         Residual::Bytes(b) => b.0,

@@ -4,23 +4,10 @@ mod counts;
 mod message;
 mod packet;
 
-pub use codes::Command;
-pub use codes::decode;
-pub use counts::ByteCount;
-pub use counts::MarkCount;
-pub use counts::RecordCount;
-pub use counts::Residual;
-pub use counts::residual_word;
-pub use message::End;
-pub use message::Status;
-pub use message::flag;
-pub use message::message_of;
-pub use message::put_message;
-pub use packet::Header;
-pub use packet::Packet;
-pub use packet::fetch;
-pub use packet::has_pointer;
-pub use packet::header_of;
+pub use codes::{Command, decode};
+pub use counts::{ByteCount, MarkCount, RecordCount, Residual, residual_word};
+pub use message::{End, Status, flag, message_of, put_message};
+pub use packet::{Header, Packet, fetch, has_pointer, header_of};
 
 // A command packet: four words.
 pub const PACKET_BYTES: usize = 8;

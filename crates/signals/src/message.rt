@@ -1,14 +1,13 @@
 // The message packet: header, 10, residual, XST0, XST1 0, XST2 0, XST3.
-use crate::counts::Residual;
-use crate::counts::residual_word;
+ghost use Rattle.std.specs.Prelude.{◌≡◌, ◌+◌, ◌≤◌, length};
+ghost use Rattle.signals.specs.Message.{flagOf, headerWord, messageOf, messaged, statusByte};
+
+use crate::counts::{Residual, residual_word};
 use lists::put_word;
 use std::num::wrapping_add_u16;
-ghost use mathlib.Core.Path.{_≡_};
-ghost use Prim.Native.Nat.{_+_, _≤_};
-ghost use lib.ListN.{length};
-ghost use Rattle·signals·specs.specs.Message.{flagOf, headerWord, messageOf, messaged, statusByte};
 
 // What the end of a command says of itself.
+#[derive(Drop)]
 pub struct End {
     pub class: usize,
     // XST0's bits 15 to 8, at their places.
@@ -18,6 +17,7 @@ pub struct End {
 }
 
 // XST0's low byte: the unit's condition at the end.
+#[derive(Drop)]
 pub struct Status {
     pub mot: bool,
     pub onl: bool,
@@ -29,14 +29,14 @@ pub struct Status {
 }
 
 pub fn flag(b: bool, w: u16) -> u16
-    ensures is { λ r. ⌜ r ≡ flagOf b w ⌝ }
-    ensures low { λ r. ⌜ r ≤ w ⌝ }
+    ensures is { result ≡ flagOf b w }
+    ensures low { result ≤ w }
 {
     if b { w } else { 0 }
 }
 
 fn status_byte(s: Status) -> u16
-    ensures { λ r. ⌜ r ≡ statusByte s ⌝ }
+    ensures { result ≡ statusByte s }
 {
     flag(s.mot, crate::MOT)
         + flag(s.onl, crate::ONL)
@@ -50,7 +50,7 @@ fn status_byte(s: Status) -> u16
 
 // The header word, by the class; 3 goes by NEF.
 fn header_word(class: usize, nef: bool) -> u16
-    ensures { λ r. ⌜ r ≡ headerWord class nef ⌝ }
+    ensures { result ≡ headerWord class nef }
 {
     match class {
         0 => 0x8010,
@@ -62,7 +62,7 @@ fn header_word(class: usize, nef: bool) -> u16
 }
 
 pub fn message_of(e: End, s: Status) -> [u16; 7]
-    ensures { λ r. ⌜ r ≡ messageOf e s ⌝ }
+    ensures { result ≡ messageOf e s }
 {
     let residual = e.residual;
     let nef = e.found / crate::NEF % 2 == 1;
@@ -79,8 +79,8 @@ pub fn message_of(e: End, s: Status) -> [u16; 7]
 
 // The seven words go to memory at address a.
 pub fn put_message(mem: &mut [u8], a: usize, m: [u16; 7])
-    requires { ⌜ a + 14 ≤ length (now mem) ⌝ }
-    ensures { λ _. ⌜ now (mem .exit) ≡ messaged (now (mem .entry)) a m ⌝ }
+    requires { a + 14 ≤ length mem.old }
+    ensures { mem.new ≡ messaged mem.old a m }
 {
     let mut i: usize = 0;
     while i < 7 {

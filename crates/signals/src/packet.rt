@@ -1,12 +1,12 @@
 // The command packet in memory.
+ghost use Rattle.std.specs.Prelude.{◌≡◌, ◌+◌, ◌<◌, ◌≤◌, length};
+ghost use Rattle.signals.specs.Header.{hasPointer, headerOf, packetOf};
+ghost use Rattle.signals.specs.Numbers.{packetBytes, pointerLimit};
+
 use lists::word;
-ghost use mathlib.Core.Path.{_≡_};
-ghost use Prim.Native.Nat.{_+_, _≤_, _<_};
-ghost use lib.ListN.{length};
-ghost use Rattle·signals·specs.specs.Header.{hasPointer, headerOf, packetOf};
-ghost use Rattle·signals·specs.specs.Numbers.{packetBytes, pointerLimit};
 
 // The header word's fields.
+#[derive(Drop)]
 pub struct Header {
     pub ack: bool,
     pub cvc: bool,
@@ -20,7 +20,7 @@ pub struct Header {
 }
 
 pub fn header_of(w: usize) -> Header
-    ensures { λ r. ⌜ r ≡ headerOf w ⌝ }
+    ensures { result ≡ headerOf w }
 {
     Header {
         ack: w / 32768 % 2 == 1,
@@ -36,12 +36,13 @@ pub fn header_of(w: usize) -> Header
 
 // Does the packet name data in memory?
 pub fn has_pointer(code: usize) -> bool
-    ensures { λ r. ⌜ r ≡ hasPointer code ⌝ }
+    ensures { result ≡ hasPointer code }
 {
     (code == 1) | (code == 4) | (code == 5)
 }
 
 // What the words after the header say: the data pointer and the count.
+#[derive(Drop)]
 pub struct Packet {
     pub pointer: usize,
     // Pointer bits above A17 are set.
@@ -50,9 +51,9 @@ pub struct Packet {
 }
 
 pub fn fetch(mem: &[u8], at: usize, code: usize) -> Packet
-    requires { ⌜ (at + packetBytes ≤ length (now mem)) × (at < pointerLimit) ⌝ }
-    ensures is { λ r. ⌜ r ≡ packetOf (now (mem .entry)) at code ⌝ }
-    ensures low { λ r. ⌜ r .pointer < pointerLimit ⌝ }
+    requires { (at + packetBytes ≤ length mem.now) × (at < pointerLimit) }
+    ensures is { result ≡ packetOf mem.now at code }
+    ensures low { result.pointer < pointerLimit }
 {
     if has_pointer(code) {
         let high = word(mem, at + 4);

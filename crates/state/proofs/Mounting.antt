@@ -1,17 +1,17 @@
 -- "Mount .. sets position 0 and the rest as an initialize does." (01, Calls)
 use mathlib.Core.Bool.{Bool, true, false}
-use mathlib.Core.Path.{_≡_, refl}
+use mathlib.Core.Path.{◌≡◌, refl}
 use Prim.Native.Nat.{ℕ}
-use Rattle·lists.specs.Pick.{pick}
-use Rattle·state·specs.specs.Changes.{initialized, mountedAs}
-use Rattle·state·specs.specs.declared.Unit.{Unit}
+use Rattle.lists.specs.Pick.{pick}
+use Rattle.state.specs.Changes.{initialized, mountedAs}
+use Rattle.state.specs.declared.Unit.{Unit}
 
 -- on line or off, the position is 0
-either-way : (b : Bool) (n : ℕ) → pick b n n ≡ n
-either-way true n = refl
-either-way false n = refl
+either_way : (b : Bool) (n : ℕ) → pick b n n ≡ n
+either_way true n = refl
+either_way false n = refl
 
 -- a mounted state is the initialized one of any state with that end, those switches and lengths that stands at position 0
-pub mounted-initialized : (u : Unit) → u .tape .position ≡ 0 → mountedAs (u .tape .end) (u .panel .online) (u .panel .locked) (u .lengths) ≡ initialized u
+pub mounted-initialized : (u : Unit) → u.tape.position ≡ 0 → mountedAs u.tape.end u.panel.online u.panel.locked u.lengths ≡ initialized u
 unfolding mountedAs initialized
-mounted-initialized u h = rw (h, either-way (u .panel .online) 0)
+mounted-initialized u h = rw (h, either_way u.panel.online 0)

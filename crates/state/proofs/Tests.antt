@@ -1,12 +1,12 @@
 -- Laws of tests: which way parts of a test went, and two numbers' tests that say the same.
-use mathlib.Core.Path.{_≡_, refl, sym}
-use mathlib.Core.Bool.{Bool, true, false, _||_, _&&_, not, true≢false, and-eq-true-iff}
-use Prim.Native.Nat.{ℕ, _*_, _/_, _%_}
+use mathlib.Core.Path.{◌≡◌, refl, sym}
+use mathlib.Core.Bool.{Bool, true, false, ◌||◌, ◌&&◌, not, true≢false, and-eq-true_iff}
+use Prim.Native.Nat.{ℕ, ◌*◌, ◌/◌, ◌%◌}
 use native.Mathlib.Omega.{arith}
 use borrow.Author.Tests.{eqb-true, eq-eqb}
 use lib.Dec.{eqb}
-use Rattle·lists.specs.Pick.{pick}
-use Rattle·tape.specs.Numbers.{blockBytes}
+use Rattle.lists.specs.Pick.{pick}
+use Rattle.tape.specs.Numbers.{blockBytes}
 
 -- a test of two parts that did not hold
 pub neither : (a b : Bool) → (a || b) ≡ false → (a ≡ false) × (b ≡ false)
@@ -37,9 +37,9 @@ same false false f g = refl
 -- a length in whole blocks, by its rest and quotient and by a product
 pub whole-blocks : (n blocks : ℕ) → (eqb (n % blockBytes) 0 && eqb (n / blockBytes) blocks) ≡ eqb n (blockBytes * blocks)
 whole-blocks n blocks =
-    let parts = and-eq-true-iff (eqb (n % blockBytes) 0) (eqb (n / blockBytes) blocks) in
+    let parts = and-eq-true_iff (eqb (n % blockBytes) 0) (eqb (n / blockBytes) blocks) in
     same (eqb (n % blockBytes) 0 && eqb (n / blockBytes) blocks) (eqb n (blockBytes * blocks))
-    (λ p. eq-eqb n (blockBytes * blocks) (omega (arith, eqb-true (n % blockBytes) 0 (parts .0 p .0), eqb-true (n / blockBytes) blocks (parts .0 p .1))))
+    (λ p. eq-eqb n (blockBytes * blocks) (omega (arith, eqb-true (n % blockBytes) 0 (parts.0 p).0, eqb-true (n / blockBytes) blocks (parts.0 p).1)))
     (λ p.
     let e : n ≡ blockBytes * blocks = eqb-true n (blockBytes * blocks) p in
-    parts .1 (eq-eqb (n % blockBytes) 0 (omega arith), eq-eqb (n / blockBytes) blocks (omega arith)))
+    parts.1 (eq-eqb (n % blockBytes) 0 (omega arith), eq-eqb (n / blockBytes) blocks (omega arith)))

@@ -1,14 +1,13 @@
 -- What register writes, operator acts and mount make of the state. (01, "Registers", "Calls", steps 3 and 4)
-use mathlib.Core.Bool.{Bool, true, false, _||_}
-use Prim.Native.Nat.{ℕ, _+_, _*_, _/_, _%_}
-use Rattle·lists.specs.Pick.{pick}
-use Rattle·state·specs.specs.declared.Unit.{Unit}
-use Rattle·state·specs.specs.declared.Registers.{Registers}
-use Rattle·state·specs.specs.declared.Attention.{Attention}
-use Rattle·state·specs.specs.declared.Characteristics.{Characteristics}
-use Rattle·state·specs.specs.declared.Lengths.{Lengths}
-use Rattle·state·specs.specs.declared.act.Act.{Act}
-use Rattle·state·specs.specs.declared.act.Act.the-variants as act
+use Rattle.std.specs.Prelude.{Bool, true, false, ◌||◌, ℕ, ◌+◌, ◌*◌, ◌/◌, ◌%◌}
+use Rattle.lists.specs.Pick.{pick}
+use Rattle.state.specs.declared.Unit.{Unit}
+use Rattle.state.specs.declared.Registers.{Registers}
+use Rattle.state.specs.declared.Attention.{Attention}
+use Rattle.state.specs.declared.Characteristics.{Characteristics}
+use Rattle.state.specs.declared.Lengths.{Lengths}
+use Rattle.state.specs.declared.act.Act.{Act}
+use Rattle.state.specs.declared.act.Act.TheVariants as act
 
 -- "TSDB word: address bits 15:2 in place; bits 1:0 are A17, A16."
 abbrev pub pointerOf : ℕ → ℕ
@@ -24,44 +23,44 @@ initialRegisters = record { pointer = 0; class = 0; rmr = false; nxm = false; nb
 
 -- "attention, .. the release's IE .. cleared, .. both buffers the CPU's"
 abbrev pub noAttention : Attention
-noAttention = record { «unit_owns» = false; pending = false; «release_ie» = false }
+noAttention = record { unit_owns = false; pending = false; release_ie = false }
 
 -- the state with other registers
 abbrev pub withRegisters : Unit → Registers → Unit
 withRegisters u g =
     record {
-      tape = u .tape;
+      tape = u.tape;
       registers = g;
-      panel = u .panel;
-      attention = u .attention;
-      characteristics = u .characteristics;
-      lengths = u .lengths;
+      panel = u.panel;
+      attention = u.attention;
+      characteristics = u.characteristics;
+      lengths = u.lengths;
     }
 
 -- "A TSDB write with SSR clear sets RMR and SC, nothing else."
 abbrev pub rejectedWrite : Registers → Registers
 rejectedWrite g =
-    record { pointer = g .pointer; class = g .class; rmr = true; nxm = g .nxm; nba = g .nba; ssr = g .ssr }
+    record { pointer = g.pointer; class = g.class; rmr = true; nxm = g.nxm; nba = g.nba; ssr = g.ssr }
 
 -- "Accepted, it clears SC, RMR, NXM, class and SSR."
 abbrev pub acceptedWrite : Registers → ℕ → Registers
 acceptedWrite g w =
-    record { pointer = pointerOf w; class = 0; rmr = false; nxm = false; nba = g .nba; ssr = false }
+    record { pointer = pointerOf w; class = 0; rmr = false; nxm = false; nba = g.nba; ssr = false }
 
 unfoldable pub tsdbWritten : Unit → ℕ → Unit
 tsdbWritten u w =
-    withRegisters u (pick (u .registers .ssr) (acceptedWrite (u .registers) w) (rejectedWrite (u .registers)))
+    withRegisters u (pick u.registers.ssr (acceptedWrite u.registers w) (rejectedWrite u.registers))
 
 -- "A TSSR write initializes: .. VCK set, .. position 0 if on line"
 unfoldable pub initialized : Unit → Unit
 initialized u =
     record {
-      tape = record { position = pick (u .panel .online) 0 (u .tape .position); end = u .tape .end };
+      tape = record { position = pick u.panel.online 0 u.tape.position; end = u.tape.end };
       registers = initialRegisters;
-      panel = record { online = u .panel .online; locked = u .panel .locked; vck = true };
+      panel = record { online = u.panel.online; locked = u.panel.locked; vck = true };
       attention = noAttention;
       characteristics = noCharacteristics;
-      lengths = u .lengths;
+      lengths = u.lengths;
     }
 
 -- "Mount .. takes that end and both switches, .. and sets position 0 and the rest as an initialize does."
@@ -80,33 +79,33 @@ mountedAs e online locked lengths =
 unfoldable pub switchedLine : Unit → Bool → Unit
 switchedLine u on =
     record {
-      tape = u .tape;
-      registers = u .registers;
-      panel = record { online = on; locked = u .panel .locked; vck = u .panel .vck || on };
+      tape = u.tape;
+      registers = u.registers;
+      panel = record { online = on; locked = u.panel.locked; vck = u.panel.vck || on };
       attention =
           record {
-            «unit_owns» = u .attention .«unit_owns»;
-            pending = u .attention .pending || u .characteristics .eai;
-            «release_ie» = u .attention .«release_ie»;
+            unit_owns = u.attention.unit_owns;
+            pending = u.attention.pending || u.characteristics.eai;
+            release_ie = u.attention.release_ie;
           };
-      characteristics = u .characteristics;
-      lengths = u .lengths;
+      characteristics = u.characteristics;
+      lengths = u.lengths;
     }
 
 unfoldable pub switchedLock : Unit → Bool → Unit
 switchedLock u on =
     record {
-      tape = u .tape;
-      registers = u .registers;
-      panel = record { online = u .panel .online; locked = on; vck = u .panel .vck };
-      attention = u .attention;
-      characteristics = u .characteristics;
-      lengths = u .lengths;
+      tape = u.tape;
+      registers = u.registers;
+      panel = record { online = u.panel.online; locked = on; vck = u.panel.vck };
+      attention = u.attention;
+      characteristics = u.characteristics;
+      lengths = u.lengths;
     }
 
 -- "An act that finds its switch already so raises and sets nothing."
 unfoldable pub operated : Unit → Act → Unit
-operated u act.OnLine = pick (u .panel .online) u (switchedLine u true)
-operated u act.OffLine = pick (u .panel .online) (switchedLine u false) u
+operated u act.OnLine = pick u.panel.online u (switchedLine u true)
+operated u act.OffLine = pick u.panel.online (switchedLine u false) u
 operated u act.Lock = switchedLock u true
 operated u act.Unlock = switchedLock u false

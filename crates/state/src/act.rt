@@ -1,15 +1,10 @@
 // Register writes and operator acts: each hands back the next state.
-use crate::Attention;
-use crate::Characteristics;
-use crate::Lengths;
-use crate::Panel;
-use crate::Registers;
-use crate::Tape;
-use crate::Unit;
-ghost use mathlib.Core.Path.{_≡_};
-ghost use Prim.Native.Nat.{_<_};
-ghost use Rattle·state·specs.specs.Changes.{initialRegisters, initialized, mountedAs, noAttention, noCharacteristics, operated, pointerOf, switchedLine, switchedLock, tsdbWritten};
+ghost use Rattle.std.specs.Prelude.{◌≡◌, ◌<◌};
+ghost use Rattle.state.specs.Changes.{initialRegisters, initialized, mountedAs, noAttention, noCharacteristics, operated, pointerOf, switchedLine, switchedLock, tsdbWritten};
 
+use crate::{Attention, Characteristics, Lengths, Panel, Registers, Tape, Unit};
+
+#[derive(Drop)]
 pub enum Act {
     OnLine,
     OffLine,
@@ -18,7 +13,7 @@ pub enum Act {
 }
 
 fn pointer_of(word: u16) -> usize
-    ensures { λ r. ⌜ r ≡ pointerOf word ⌝ }
+    ensures { result ≡ pointerOf word }
 {
     let w = word as usize;
     w / 4 * 4 + 65536 * (w % 4)
@@ -26,7 +21,7 @@ fn pointer_of(word: u16) -> usize
 
 // The characteristics that an initialize leaves.
 fn no_characteristics() -> Characteristics
-    ensures { λ r. ⌜ r ≡ noCharacteristics ⌝ }
+    ensures { result ≡ noCharacteristics }
 {
     Characteristics {
         address: 0,
@@ -38,7 +33,7 @@ fn no_characteristics() -> Characteristics
 }
 
 fn initial_registers() -> Registers
-    ensures { λ r. ⌜ r ≡ initialRegisters ⌝ }
+    ensures { result ≡ initialRegisters }
 {
     Registers {
         pointer: 0,
@@ -51,7 +46,7 @@ fn initial_registers() -> Registers
 }
 
 fn no_attention() -> Attention
-    ensures { λ r. ⌜ r ≡ noAttention ⌝ }
+    ensures { result ≡ noAttention }
 {
     Attention {
         unit_owns: false,
@@ -62,7 +57,7 @@ fn no_attention() -> Attention
 
 // A mounted unit: position 0 and the rest as an initialize leaves it.
 pub fn mounted(end: usize, online: bool, locked: bool, lengths: Lengths) -> Unit
-    ensures { λ r. ⌜ r ≡ mountedAs end online locked lengths ⌝ }
+    ensures { result ≡ mountedAs end online locked lengths }
 {
     let tape = Tape { position: 0, end };
     let registers = initial_registers();
@@ -86,7 +81,7 @@ pub fn mounted(end: usize, online: bool, locked: bool, lengths: Lengths) -> Unit
 impl Unit {
     // A TSDB write: with SSR clear it sets RMR and nothing else.
     pub fn write_tsdb(mut self, word: u16) -> Unit
-        ensures { λ r. ⌜ r ≡ tsdbWritten self word ⌝ }
+        ensures { result ≡ tsdbWritten self word }
     {
         if !self.registers.ssr {
             self.registers.rmr = true;
@@ -108,7 +103,7 @@ impl Unit {
 
     // A TSSR write initializes. Off line the tape stays where it is.
     pub fn initialize(mut self) -> Unit
-        ensures { λ r. ⌜ r ≡ initialized self ⌝ }
+        ensures { result ≡ initialized self }
     {
         let g = initial_registers();
         let a = no_attention();
@@ -126,7 +121,7 @@ impl Unit {
 
     // Going on or off line makes an attention pending if EAI is set; going on line sets VCK.
     fn switch_line(mut self, online: bool) -> Unit
-        ensures { λ r. ⌜ r ≡ switchedLine self online ⌝ }
+        ensures { result ≡ switchedLine self online }
     {
         let vck = self.panel.vck | online;
         let pending = self.attention.pending | self.characteristics.eai;
@@ -137,7 +132,7 @@ impl Unit {
     }
 
     fn lock(mut self, on: bool) -> Unit
-        ensures { λ r. ⌜ r ≡ switchedLock self on ⌝ }
+        ensures { result ≡ switchedLock self on }
     {
         self.panel.locked = on;
         self
@@ -145,7 +140,7 @@ impl Unit {
 
     // An act that finds its switch already so raises and sets nothing.
     pub fn operate(self, act: Act) -> Unit
-        ensures { λ r. ⌜ r ≡ operated self act ⌝ }
+        ensures { result ≡ operated self act }
     {
         match act {
             Act::OnLine => if self.panel.online {

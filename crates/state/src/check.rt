@@ -1,44 +1,41 @@
 // Refusals 1, 2 and 3 of a step: the state's own numbers, then the lengths of what is lent.
-use crate::Characteristics;
-use crate::Lengths;
-use crate::Registers;
-use crate::Tape;
-use crate::Unit;
+ghost use Rattle.std.specs.Prelude.{◌≡◌};
+ghost use Rattle.state.specs.Checks.{blocksRight, bufferWrong, lengthsWrong, memoryRight, refusalOf, registersWrong, stateWrong, tapeWrong};
+
+use crate::{Characteristics, Lengths, Registers, Tape, Unit};
 use tape::Geometry;
-ghost use mathlib.Core.Path.{_≡_};
-ghost use Rattle·state·specs.specs.Checks.{blocksRight, bufferWrong, lengthsWrong, memoryRight, refusalOf, registersWrong, stateWrong, tapeWrong};
 
 pub const MEMORY_LIMIT: usize = 262144;
 
 pub const LAST_CLASS: usize = 6;
 
 pub fn memory_right(n: usize) -> bool
-    ensures { λ r. ⌜ r ≡ memoryRight n ⌝ }
+    ensures { result ≡ memoryRight n }
 {
     (n % 2 == 0) & (2 <= n) & (n <= MEMORY_LIMIT)
 }
 
 pub fn blocks_right(b: usize) -> bool
-    ensures { λ r. ⌜ r ≡ blocksRight b ⌝ }
+    ensures { result ≡ blocksRight b }
 {
     (1 <= b) & (b <= Geometry::CAPACITY_LIMIT)
 }
 
 fn tape_wrong(t: Tape, blocks: usize) -> bool
-    ensures { λ r. ⌜ r ≡ tapeWrong t blocks ⌝ }
+    ensures { result ≡ tapeWrong t blocks }
 {
     (t.end < t.position) | (blocks < t.end)
 }
 
 fn registers_wrong(g: Registers) -> bool
-    ensures { λ r. ⌜ r ≡ registersWrong g ⌝ }
+    ensures { result ≡ registersWrong g }
 {
     (signals::POINTER_LIMIT <= g.pointer) | (LAST_CLASS < g.class)
 }
 
 // Both numbers may be made up, but their sum doesn't wrap: they have 32 bits.
 pub fn buffer_wrong(c: Characteristics, memory: usize) -> bool
-    ensures { λ r. ⌜ r ≡ bufferWrong c memory ⌝ }
+    ensures { result ≡ bufferWrong c memory }
 {
     let address = c.address as usize;
     let length = c.length as usize;
@@ -46,14 +43,14 @@ pub fn buffer_wrong(c: Characteristics, memory: usize) -> bool
 }
 
 fn lengths_wrong(l: Lengths) -> bool
-    ensures { λ r. ⌜ r ≡ lengthsWrong l ⌝ }
+    ensures { result ≡ lengthsWrong l }
 {
     (!memory_right(l.memory)) | (!blocks_right(l.blocks))
 }
 
 // Refusal 1, but for the journal's numbers.
 pub fn state_wrong(u: Unit) -> bool
-    ensures { λ r. ⌜ r ≡ stateWrong u ⌝ }
+    ensures { result ≡ stateWrong u }
 {
     let t = u.tape;
     let g = u.registers;
@@ -65,7 +62,7 @@ pub fn state_wrong(u: Unit) -> bool
 
 // The first of refusals 1, 2, 3 that holds, or 0. The lengths are in bytes.
 pub fn refusal(u: Unit, memory: usize, reel: usize) -> usize
-    ensures { λ r. ⌜ r ≡ refusalOf u memory reel ⌝ }
+    ensures { result ≡ refusalOf u memory reel }
 {
     if state_wrong(u) {
         return 1;

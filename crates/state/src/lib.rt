@@ -3,21 +3,17 @@ mod act;
 mod check;
 mod register;
 
-pub use act::Act;
-pub use act::mounted;
-pub use check::MEMORY_LIMIT;
-pub use check::blocks_right;
-pub use check::buffer_wrong;
-pub use check::memory_right;
-pub use check::refusal;
-pub use check::state_wrong;
+pub use act::{Act, mounted};
+pub use check::{MEMORY_LIMIT, blocks_right, buffer_wrong, memory_right, refusal, state_wrong};
 
 // In blocks.
+#[derive(Drop)]
 pub struct Tape {
     pub position: usize,
     pub end: usize,
 }
 
+#[derive(Drop)]
 pub struct Registers {
     pub pointer: usize,
     pub class: usize,
@@ -28,6 +24,7 @@ pub struct Registers {
     pub ssr: bool,
 }
 
+#[derive(Drop)]
 pub struct Panel {
     pub online: bool,
     pub locked: bool,
@@ -35,6 +32,7 @@ pub struct Panel {
 }
 
 // The message buffer's owner, and the attention that waits for the unit to own it.
+#[derive(Drop)]
 pub struct Attention {
     pub unit_owns: bool,
     pub pending: bool,
@@ -42,6 +40,7 @@ pub struct Attention {
 }
 
 // What Write Characteristics took.
+#[derive(Drop)]
 pub struct Characteristics {
     pub address: u32,
     pub length: u32,
@@ -51,11 +50,13 @@ pub struct Characteristics {
 }
 
 // The mount's lengths: bytes of memory, blocks of reel.
+#[derive(Drop)]
 pub struct Lengths {
     pub memory: usize,
     pub blocks: usize,
 }
 
+#[derive(Drop)]
 pub struct Unit {
     pub tape: Tape,
     pub registers: Registers,

@@ -1,9 +1,9 @@
 // TSBA and TSSR as they read.
+ghost use Rattle.std.specs.Prelude.{◌≡◌, ◌≤◌};
+ghost use Rattle.signals.specs.Message.{flagOf};
+ghost use Rattle.state.specs.Readings.{scOf, tsbaOf, tssrOf};
+
 use crate::Unit;
-ghost use mathlib.Core.Path.{_≡_};
-ghost use Prim.Native.Nat.{_≤_};
-ghost use Rattle·signals.specs.Message.{flagOf};
-ghost use Rattle·state·specs.specs.Readings.{scOf, tsbaOf, tssrOf};
 
 // TSSR's bits, by their numbers in the paper; the class takes bits 3:1.
 const SC: u16 = 0x8000; // 15
@@ -30,8 +30,8 @@ const BIT_17: usize = 0x20000;
 const BIT_16: usize = 0x10000;
 
 fn flag_word(b: bool, w: u16) -> u16
-    ensures is { λ r. ⌜ r ≡ flagOf b w ⌝ }
-    ensures low { λ r. ⌜ r ≤ w ⌝ }
+    ensures is { result ≡ flagOf b w }
+    ensures low { result ≤ w }
 {
     if b { w } else { 0 }
 }
@@ -39,20 +39,20 @@ fn flag_word(b: bool, w: u16) -> u16
 impl Unit {
     // The low 16 bits of the pointer last accepted.
     pub fn tsba(self) -> u16
-        ensures { λ r. ⌜ r ≡ tsbaOf self ⌝ }
+        ensures { result ≡ tsbaOf self }
     {
         (self.registers.pointer % BIT_16) as u16
     }
 
     // SC is set if the class isn't 0 or RMR or NXM is set.
     fn sc(self) -> bool
-        ensures { λ r. ⌜ r ≡ scOf self ⌝ }
+        ensures { result ≡ scOf self }
     {
         (self.registers.class != 0) | self.registers.rmr | self.registers.nxm
     }
 
     pub fn tssr(self) -> u16
-        ensures { λ r. ⌜ r ≡ tssrOf self ⌝ }
+        ensures { result ≡ tssrOf self }
     {
         let g = self.registers;
         let a17 = g.pointer / BIT_17 % 2 == 1;

@@ -1,26 +1,21 @@
 -- What the checks have shown before a step is entered or undone. Lengths are in bytes.
-use mathlib.Core.Bool.{Bool, true, false, not}
-use mathlib.Core.List.{List}
-use mathlib.Core.Path.{_≡_}
-use Prim.Native.Nat.{ℕ, _+_, _-_, _≤_}
-use lib.Dec.{eqb, ltb}
-use lib.ListN.{length}
-use Rattle·lists.specs.Pick.{pick}
-use Rattle·state.specs.Checks.{stateWrong}
-use Rattle·commands.specs.Answers.{isStep}
-use Rattle·commands.specs.declared.plans.Plan.{Plan}
-use Rattle·storing.specs.Stored.{Storable}
-use Rattle·index.specs.declared.Cut.{Cut}
-use Rattle·unit.specs.Steps.{cutFor, hostLimit, objectsAfter, tooSmall}
-use Rattle·entries.specs.Entries.{entryBare, entryFits}
-use Rattle·entries.specs.declared.Entry.{Entry}
-use Rattle·worlds.specs.Calls.{undoOn}
-use Rattle·worlds.specs.Refusals.{checked}
-use Rattle·worlds.specs.Rows.{couplerChecked}
-use Rattle·worlds.specs.declared.Coupler.{Coupler}
-use Rattle·worlds.specs.Worlds.{Leaves, worldOf}
-use Rattle·worlds.specs.declared.Outcome.{Outcome}
-use Rattle·worlds.specs.declared.Session.{Session}
+use Rattle.std.specs.Prelude.{Bool, true, false, not, List, ◌≡◌, ℕ, ◌+◌, ◌-◌, ◌≤◌, eqb, ltb, length}
+use Rattle.lists.specs.Pick.{pick}
+use Rattle.state.specs.Checks.{stateWrong}
+use Rattle.commands.specs.Answers.{isStep}
+use Rattle.commands.specs.declared.plans.Plan.{Plan}
+use Rattle.storing.specs.Stored.{Storable}
+use Rattle.index.specs.declared.Cut.{Cut}
+use Rattle.unit.specs.Steps.{cutFor, hostLimit, objectsAfter, tooSmall}
+use Rattle.entries.specs.Entries.{entryBare, entryFits}
+use Rattle.entries.specs.declared.Entry.{Entry}
+use Rattle.worlds.specs.Calls.{undoOn}
+use Rattle.worlds.specs.Refusals.{checked}
+use Rattle.worlds.specs.Rows.{couplerChecked}
+use Rattle.worlds.specs.declared.Coupler.{Coupler}
+use Rattle.worlds.specs.Worlds.{Leaves, worldOf}
+use Rattle.worlds.specs.declared.Outcome.{Outcome}
+use Rattle.worlds.specs.declared.Session.{Session}
 
 pub record Unrefused (s : Session) (memory reel journal : ℕ) : Type 0 where
   pub right : checked s memory reel journal ≡ 0
@@ -28,31 +23,31 @@ pub record Unrefused (s : Session) (memory reel journal : ℕ) : Type 0 where
 pub record Ready (s : Session) (p : Plan) (memory reel journal : ℕ) : Type 0 where
   pub sound : Unrefused s memory reel journal
   pub storable : Storable p memory reel
-  pub done : isStep (p .answer) ≡ true
+  pub done : isStep p.answer ≡ true
 
 -- a step whose table is large enough: it cuts the table tb at c, and leaves `top` places used
 pub record CutReady (s : Session) (p : Plan) (c : Cut) (top : ℕ) (r tb : List ℕ) (memory journal : ℕ) : Type 0 where
   pub ready : Ready s p memory (length r) journal
-  pub cut : c ≡ cutFor (p .laid) tb (s .objects) r
-  pub after : top ≡ objectsAfter (p .laid) c (s .objects)
-  pub large : tooSmall (length tb) (s .objects) top ≡ false
+  pub cut : c ≡ cutFor p.laid tb s.objects r
+  pub after : top ≡ objectsAfter p.laid c s.objects
+  pub large : tooSmall (length tb) s.objects top ≡ false
 
 pub record Undoable (s : Session) (memory reel journal : ℕ) : Type 0 where
   pub sound : Unrefused s memory reel journal
-  pub bare : entryBare ≤ s .used
+  pub bare : entryBare ≤ s.used
 
 -- the first of refusals 1 to 4, 11 and 9 of a step that changes the state alone, or 0: its entry saves no bytes, and the objects stay
 unfoldable pub changeRefusal : Session → ℕ → ℕ → ℕ → ℕ → ℕ
 changeRefusal s memory reel table journal =
     pick (eqb (checked s memory reel journal) 0)
-    (pick (tooSmall table (s .objects) (s .objects)) 11 (pick (ltb (s .journal - s .used) entryBare) 9 0))
+    (pick (tooSmall table s.objects s.objects) 11 (pick (ltb (s.journal - s.used) entryBare) 9 0))
     (checked s memory reel journal)
 
 -- 8, and of a transport's entry 11, of a step back over the entry e, or 0: an entry of none restores no state and fills no place
 unfoldable pub undoRefusal : Bool → Session → Entry → ℕ → ℕ → ℕ → ℕ
 undoRefusal none s e memory reel table =
-    pick (not (entryFits e (s .used) (s .unit .lengths) memory reel (s .objects))) 8
-    (pick none 0 (pick (stateWrong (e .unit)) 8 (pick (tooSmall table (s .objects) (e .objects)) 11 0)))
+    pick (not (entryFits e s.used s.unit.lengths memory reel s.objects)) 8
+    (pick none 0 (pick (stateWrong e.unit) 8 (pick (tooSmall table s.objects e.objects) 11 0)))
 
 -- a host store that 1, 2, 4 and 5 let pass, and a step back over one that 1 to 4 and 6 do
 pub record StoreReady (c : Coupler) (memory journal place n : ℕ) : Type 0 where
@@ -62,8 +57,8 @@ pub record StoreReady (c : Coupler) (memory journal place n : ℕ) : Type 0 wher
 
 pub record NoneUndoable (c : Coupler) (memory journal : ℕ) : Type 0 where
   pub right : couplerChecked c memory journal ≡ 0
-  pub long : entryBare ≤ c .used
+  pub long : entryBare ≤ c.used
 
 -- the newest entry brought back, whichever transport's it is
 abbrev pub Undoes : Session → List ℕ → List ℕ → List ℕ → List ℕ → Outcome → List ℕ → List ℕ → List ℕ → Type 0
-Undoes s m r tb j o m′ r′ tb′ = (k : ℕ) → Leaves (undoOn (worldOf k s m r tb j)) j o m′ r′ tb′ j
+Undoes s m r tb j o m' r' tb' = (k : ℕ) → Leaves (undoOn (worldOf k s m r tb j)) j o m' r' tb' j

@@ -4,12 +4,5 @@ mod shared;
 mod steps;
 
 pub use mounts::mount_table;
-pub use shared::refused_shared;
-pub use shared::store_step;
-pub use shared::undo_none;
-pub use steps::change;
-pub use steps::change_refusal;
-pub use steps::refused;
-pub use steps::step;
-pub use steps::undo;
-pub use steps::undo_refusal;
+pub use shared::{refused_shared, store_step, undo_none};
+pub use steps::{change, change_refusal, refused, step, undo, undo_refusal};

@@ -1,33 +1,21 @@
 // Steps of no transport: a host store entered and carried out, or undone. No record of the row, no reel and no table plays a part.
+ghost use Rattle.std.specs.Prelude.{false, [], ◌≡◌, length};
+ghost use Rattle.unit.specs.Steps.{stored};
+ghost use Rattle.worlds.specs.Worlds.{Leaves};
+ghost use Rattle.worlds.specs.Calls.{outcome, takenAs};
+ghost use Rattle.worlds.specs.Coupled.{undoNone, worldOfNone};
+ghost use Rattle.worlds.specs.Rows.{noTransport, sessionOver};
+ghost use Rattle.steps.specs.Readiness.{NoneUndoable, StoreReady};
+
 use crate::steps::undo_refusal;
 use commands::Answer;
-use entries::BARE;
-use entries::Entry;
-use entries::TRANSPORTS;
-use entries::bring_entry_back;
-use entries::enter_run;
-use entries::entry_length;
-use entries::newest_entry;
-use unit::host_touched;
-use unit::put_host;
-use worlds::Coupler;
-use worlds::Shared;
-use worlds::no_transport;
-use worlds::session_over;
-ghost use mathlib.Core.Bool.{false};
-ghost use mathlib.Core.List.{[]};
-ghost use mathlib.Core.Path.{_≡_};
-ghost use lib.ListN.{length};
-ghost use Rattle·unit.specs.Steps.{stored};
-ghost use Rattle·worlds.specs.Worlds.{Leaves};
-ghost use Rattle·worlds.specs.Calls.{outcome, takenAs};
-ghost use Rattle·worlds.specs.Coupled.{undoNone, worldOfNone};
-ghost use Rattle·worlds.specs.Rows.{noTransport, sessionOver};
-ghost use Rattle·steps·specs.specs.Readiness.{NoneUndoable, StoreReady};
+use entries::{BARE, Entry, TRANSPORTS, bring_entry_back, enter_run, entry_length, newest_entry};
+use unit::{host_touched, put_host};
+use worlds::{Coupler, Shared, no_transport, session_over};
 
 // Refusal n changes nothing.
 pub fn refused_shared(c: Coupler, n: usize) -> Shared
-    ensures { λ r. ⌜ (r .answer ≡ Answer.Refused n) × (r .coupler ≡ c) ⌝ }
+    ensures { (result.answer ≡ Answer.Refused n) × (result.coupler ≡ c) }
 {
     Shared {
         answer: Answer::Refused(n),
@@ -37,8 +25,8 @@ pub fn refused_shared(c: Coupler, n: usize) -> Shared
 
 // The host's bytes are entered and stored, unless the entry doesn't fit: 9.
 pub fn store_step(c: Coupler, mem: &mut [u8], jrnl: &mut [u8], place: usize, bytes: &[u8]) -> Shared
-    requires { ⌜ StoreReady c (length (now mem)) (length (now jrnl)) place (length (now bytes)) ⌝ }
-    ensures { λ r. ⌜ Leaves (takenAs (worldOfNone c (now (mem .entry)) (now (jrnl .entry))) (stored (worldOfNone c (now (mem .entry)) (now (jrnl .entry)) .core) place (now (bytes .entry))) (Answer.Done false)) (now (jrnl .entry)) (outcome (r .answer) (sessionOver (r .coupler) noTransport)) (now (mem .exit)) [] [] (now (jrnl .exit)) ⌝ }
+    requires { StoreReady c (length mem.old) (length jrnl.old) place (length bytes.now) }
+    ensures { Leaves (takenAs (worldOfNone c mem.old jrnl.old) (stored (worldOfNone c mem.old jrnl.old).core place bytes.now) (Answer.Done false)) jrnl.old (outcome result.answer (sessionOver result.coupler noTransport)) mem.new [] [] jrnl.new }
 {
     let n = BARE + bytes.len();
     if c.journal - c.used < n {
@@ -68,8 +56,8 @@ pub fn store_step(c: Coupler, mem: &mut [u8], jrnl: &mut [u8], place: usize, byt
 
 // The newest entry, which names no transport, brought back: memory alone. 8 if its numbers don't fit.
 pub fn undo_none(c: Coupler, mem: &mut [u8], jrnl: &[u8]) -> Shared
-    requires { ⌜ NoneUndoable c (length (now mem)) (length (now jrnl)) ⌝ }
-    ensures { λ r. ⌜ Leaves (undoNone (worldOfNone c (now (mem .entry)) (now (jrnl .entry)))) (now (jrnl .entry)) (outcome (r .answer) (sessionOver (r .coupler) noTransport)) (now (mem .exit)) [] [] (now (jrnl .entry)) ⌝ }
+    requires { NoneUndoable c (length mem.old) (length jrnl.now) }
+    ensures { Leaves (undoNone (worldOfNone c mem.old jrnl.now)) jrnl.now (outcome result.answer (sessionOver result.coupler noTransport)) mem.new [] [] jrnl.now }
 {
     let s = session_over(no_transport(), c);
     let e = newest_entry(jrnl, c.used, 0);

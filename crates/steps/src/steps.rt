@@ -1,38 +1,24 @@
 // Taking a step, and taking it back. The journal knows of a step only what it touches.
-use commands::Answer;
-use commands::Plan;
-use entries::BARE;
-use entries::Entry;
-use entries::bring_entry_back;
-use entries::enter;
-use entries::enter_bare;
-use entries::entry_fits;
-use entries::entry_length;
-use entries::newest_entry;
+ghost use Rattle.std.specs.Prelude.{false, ◌≡◌, length};
+ghost use Rattle.touched.specs.Touches.{Sizes};
+ghost use Rattle.unit.specs.Steps.{carried, changed};
+ghost use Rattle.worlds.specs.Worlds.{Leaves, worldOf};
+ghost use Rattle.worlds.specs.Calls.{takenAs};
+ghost use Rattle.steps.specs.Readiness.{CutReady, Ready, Undoable, Undoes, changeRefusal, undoRefusal};
+
+use commands::{Answer, Plan};
+use entries::{
+    BARE, Entry, bring_entry_back, enter, enter_bare, entry_fits, entry_length, newest_entry,
+};
 use index::Cut;
 use state::Unit;
 use touched::nothing;
-use unit::cut_for;
-use unit::fill_places;
-use unit::objects_after;
-use unit::store;
-use unit::too_small;
-use unit::touched_by;
-use worlds::Outcome;
-use worlds::Session;
-use worlds::check;
-ghost use mathlib.Core.Bool.{false};
-ghost use mathlib.Core.Path.{_≡_};
-ghost use lib.ListN.{length};
-ghost use Rattle·touched.specs.Touches.{Sizes};
-ghost use Rattle·unit.specs.Steps.{carried, changed};
-ghost use Rattle·worlds.specs.Worlds.{Leaves, worldOf};
-ghost use Rattle·worlds.specs.Calls.{takenAs};
-ghost use Rattle·steps·specs.specs.Readiness.{CutReady, Ready, Undoable, Undoes, changeRefusal, undoRefusal};
+use unit::{cut_for, fill_places, objects_after, store, too_small, touched_by};
+use worlds::{Outcome, Session, check};
 
 // Refusal n changes nothing.
 pub fn refused(s: Session, n: usize) -> Outcome
-    ensures { λ r. ⌜ (r .answer ≡ Answer.Refused n) × (r .session ≡ s) ⌝ }
+    ensures { (result.answer ≡ Answer.Refused n) × (result.session ≡ s) }
 {
     Outcome {
         answer: Answer::Refused(n),
@@ -53,8 +39,8 @@ fn take_step(
     table: &mut [u8],
     jrnl: &mut [u8],
 ) -> Outcome
-    requires { ⌜ CutReady s p c top (now reel) (now table) (length (now mem)) (length (now jrnl)) ⌝ }
-    ensures { λ r. ⌜ Leaves (takenAs (worldOf k s (now (mem .entry)) (now (reel .entry)) (now (table .entry)) (now (jrnl .entry))) (carried (record { unit = s .unit; objects = s .objects; memory = now (mem .entry); reel = now (reel .entry); table = now (table .entry) }) p) (p .answer)) (now (jrnl .entry)) r (now (mem .exit)) (now (reel .exit)) (now (table .exit)) (now (jrnl .exit)) ⌝ }
+    requires { CutReady s p c top reel.old table.old (length mem.old) (length jrnl.old) }
+    ensures { Leaves (takenAs (worldOf k s mem.old reel.old table.old jrnl.old) (carried (record { unit = s.unit; objects = s.objects; memory = mem.old; reel = reel.old; table = table.old }) p) p.answer) jrnl.old result mem.new reel.new table.new jrnl.new }
 {
     let unit = s.unit;
     let touched = touched_by(p, c.place);
@@ -95,8 +81,8 @@ pub fn step(
     table: &mut [u8],
     jrnl: &mut [u8],
 ) -> Outcome
-    requires { ⌜ Ready s p (length (now mem)) (length (now reel)) (length (now jrnl)) ⌝ }
-    ensures { λ r. ⌜ Leaves (takenAs (worldOf k s (now (mem .entry)) (now (reel .entry)) (now (table .entry)) (now (jrnl .entry))) (carried (record { unit = s .unit; objects = s .objects; memory = now (mem .entry); reel = now (reel .entry); table = now (table .entry) }) p) (p .answer)) (now (jrnl .entry)) r (now (mem .exit)) (now (reel .exit)) (now (table .exit)) (now (jrnl .exit)) ⌝ }
+    requires { Ready s p (length mem.old) (length reel.old) (length jrnl.old) }
+    ensures { Leaves (takenAs (worldOf k s mem.old reel.old table.old jrnl.old) (carried (record { unit = s.unit; objects = s.objects; memory = mem.old; reel = reel.old; table = table.old }) p) p.answer) jrnl.old result mem.new reel.new table.new jrnl.new }
 {
     if too_small(table.len(), s.objects, s.objects) {
         return refused(s, 11);
@@ -112,7 +98,7 @@ pub fn step(
 
 // The first of refusals 1 to 4, 11 and 9 of a step that changes the state alone, or 0.
 pub fn change_refusal(s: Session, memory: usize, reel: usize, table: usize, journal: usize) -> usize
-    ensures { λ r. ⌜ r ≡ changeRefusal s memory reel table journal ⌝ }
+    ensures { result ≡ changeRefusal s memory reel table journal }
 {
     let n = check(s, memory, reel, journal);
     if n != 0 {
@@ -137,8 +123,8 @@ pub fn change(
     table: &[u8],
     jrnl: &mut [u8],
 ) -> Outcome
-    requires { ⌜ changeRefusal s (length (now mem)) (length (now reel)) (length (now table)) (length (now jrnl)) ≡ 0 ⌝ }
-    ensures { λ r. ⌜ Leaves (takenAs (worldOf k s (now (mem .entry)) (now (reel .entry)) (now (table .entry)) (now (jrnl .entry))) (carried (record { unit = s .unit; objects = s .objects; memory = now (mem .entry); reel = now (reel .entry); table = now (table .entry) }) (changed next)) (Answer.Done false)) (now (jrnl .entry)) r (now (mem .exit)) (now (reel .exit)) (now (table .entry)) (now (jrnl .exit)) ⌝ }
+    requires { changeRefusal s (length mem.old) (length reel.old) (length table.now) (length jrnl.old) ≡ 0 }
+    ensures { Leaves (takenAs (worldOf k s mem.old reel.old table.now jrnl.old) (carried (record { unit = s.unit; objects = s.objects; memory = mem.old; reel = reel.old; table = table.now }) (changed next)) (Answer.Done false)) jrnl.old result mem.new reel.new table.now jrnl.new }
 {
     let unit = s.unit;
     let touched = nothing();
@@ -170,8 +156,8 @@ pub fn undo_refusal(
     reel: usize,
     table: usize,
 ) -> usize
-    requires { ⌜ Sizes memory reel ⌝ }
-    ensures { λ r. ⌜ r ≡ undoRefusal none s e memory reel table ⌝ }
+    requires { Sizes memory reel }
+    ensures { result ≡ undoRefusal none s e memory reel table }
 {
     let unit = e.unit;
     let mounted = s.unit.lengths;
@@ -192,8 +178,8 @@ pub fn undo_refusal(
 
 // The newest entry brought back, or refusal 8 or 11.
 pub fn undo(s: Session, mem: &mut [u8], reel: &mut [u8], table: &mut [u8], jrnl: &[u8]) -> Outcome
-    requires { ⌜ Undoable s (length (now mem)) (length (now reel)) (length (now jrnl)) ⌝ }
-    ensures { λ r. ⌜ Undoes s (now (mem .entry)) (now (reel .entry)) (now (table .entry)) (now (jrnl .entry)) r (now (mem .exit)) (now (reel .exit)) (now (table .exit)) ⌝ }
+    requires { Undoable s (length mem.old) (length reel.old) (length jrnl.now) }
+    ensures { Undoes s mem.old reel.old table.old jrnl.now result mem.new reel.new table.new }
 {
     let e = newest_entry(jrnl, s.used, s.objects);
     let x = undo_refusal(false, s, e, mem.len(), reel.len(), table.len());

@@ -1,25 +1,23 @@
 -- The memory bytes that a plan does not name: off the data's places, and off the message's. (01, "Commands" and the message paragraph)
-use mathlib.Core.Path.{_≡_}
-use mathlib.Core.Bool.{true}
-use Prim.Native.Nat.{ℕ, _+_, _<_}
-use Rattle·lists.specs.Places.{place}
-use Rattle·tape.specs.Bytes.{movedTo}
-use Rattle·signals.specs.Message.{messageBytes}
-use Rattle·motions.specs.Parts.{movedLength}
-use Rattle·motions.specs.declared.parts.Moved.{Moved}
-use Rattle·commands.specs.declared.plans.Plan.{Plan}
+use Rattle.std.specs.Prelude.{◌≡◌, true, ℕ, ◌+◌, ◌<◌}
+use Rattle.lists.specs.Places.{place}
+use Rattle.tape.specs.Bytes.{moved_to}
+use Rattle.signals.specs.Message.{messageBytes}
+use Rattle.motions.specs.Parts.{movedLength}
+use Rattle.motions.specs.declared.parts.Moved.{Moved}
+use Rattle.commands.specs.declared.plans.Plan.{Plan}
 
 -- the address of the first data byte
 abbrev pub dataTo : Moved → ℕ
-dataTo x = movedTo (x .reverse) (x .pointer) (x .count) (x .length)
+dataTo x = moved_to x.reverse x.pointer x.count x.length
 
 -- "Data byte i lies at address pointer + i; with SWB at that address with its lowest bit flipped."
 abbrev pub OffData : Moved → ℕ → Type 0
-OffData x j = (i : ℕ) → i < movedLength x → j ≡ place (x .swb) (dataTo x + i) → ⊥
+OffData x j = (i : ℕ) → i < movedLength x → j ≡ place x.swb (dataTo x + i) → ⊥
 
 -- the message's address
 abbrev pub messageTo : Plan → ℕ
-messageTo p = p .unit .characteristics .address
+messageTo p = p.unit.characteristics.address
 
 abbrev pub OffMessage : Plan → ℕ → Type 0
-OffMessage p j = p .sends ≡ true → (i : ℕ) → i < messageBytes → j ≡ messageTo p + i → ⊥
+OffMessage p j = p.sends ≡ true → (i : ℕ) → i < messageBytes → j ≡ messageTo p + i → ⊥

@@ -1,20 +1,17 @@
 // Storing a plan: the reel's blocks, then the data, and the message over it.
+ghost use Rattle.std.specs.Prelude.{◌≡◌, ◌+◌, ◌*◌, ◌≤◌, ◌%◌, length};
+ghost use Rattle.std.proofs.lemmas.List.Edits.{sets};
+ghost use Rattle.tape.specs.Numbers.{blockBytes};
+ghost use Rattle.tape.specs.Objects.{imagesOf};
+ghost use Rattle.motions.specs.Parts.{objectBlocks};
+ghost use Rattle.storing.specs.Stored.{Storable, StoredPlan, LaidFits, MovedFits, laidObject, laidOn, movedOn};
+
 use commands::Plan;
-use motions::Laid;
-use motions::Moved;
-use motions::ObjectKind;
-ghost use mathlib.Core.Path.{_≡_};
-ghost use Prim.Native.Nat.{_+_, _*_, _≤_, _%_};
-ghost use lib.ListN.{length};
-ghost use lib.Seq.{sets};
-ghost use Rattle·tape.specs.Numbers.{blockBytes};
-ghost use Rattle·tape.specs.Objects.{imagesOf};
-ghost use Rattle·motions.specs.Parts.{objectBlocks};
-ghost use Rattle·storing·specs.specs.Stored.{Storable, StoredPlan, LaidFits, MovedFits, laidObject, laidOn, movedOn};
+use motions::{Laid, Moved, ObjectKind};
 
 fn lay_object(reel: &mut [u8], at: usize, l: Laid, mem: &[u8])
-    requires { ⌜ (blockBytes * (at + objectBlocks (l .object) (l .length)) ≤ length (now reel)) × (l .pointer + l .length ≤ length (now mem)) × (length (now mem) % 2 ≡ 0) ⌝ }
-    ensures { λ _. ⌜ now (reel .exit) ≡ sets (now (reel .entry)) (blockBytes * at) (imagesOf (laidObject (now (mem .entry)) l (l .object))) ⌝ }
+    requires { (blockBytes * (at + objectBlocks l.object l.length) ≤ length reel.old) × (l.pointer + l.length ≤ length mem.now) × (length mem.now % 2 ≡ 0) }
+    ensures { reel.new ≡ sets reel.old (blockBytes * at) (imagesOf (laidObject mem.now l l.object)) }
 {
     let o = l.object;
     match o {
@@ -26,8 +23,8 @@ fn lay_object(reel: &mut [u8], at: usize, l: Laid, mem: &[u8])
 }
 
 pub fn lay(reel: &mut [u8], l: Laid, mem: &[u8])
-    requires { ⌜ LaidFits l (length (now mem)) (length (now reel)) ⌝ }
-    ensures { λ _. ⌜ now (reel .exit) ≡ laidOn (now (reel .entry)) (now (mem .entry)) l ⌝ }
+    requires { LaidFits l (length mem.now) (length reel.old) }
+    ensures { reel.new ≡ laidOn reel.old mem.now l }
 {
     if l.gap_first {
         reel::lay_gap(reel, l.at);
@@ -38,8 +35,8 @@ pub fn lay(reel: &mut [u8], l: Laid, mem: &[u8])
 }
 
 pub fn move_data(reel: &[u8], m: Moved, mem: &mut [u8])
-    requires { ⌜ MovedFits m (length (now mem)) (length (now reel)) ⌝ }
-    ensures { λ _. ⌜ now (mem .exit) ≡ movedOn (now (reel .entry)) m (now (mem .entry)) ⌝ }
+    requires { MovedFits m (length mem.old) (length reel.now) }
+    ensures { mem.new ≡ movedOn reel.now m mem.old }
 {
     reel::read_record(
         reel,
@@ -54,8 +51,8 @@ pub fn move_data(reel: &[u8], m: Moved, mem: &mut [u8])
 }
 
 pub fn store(p: Plan, mem: &mut [u8], reel: &mut [u8])
-    requires { ⌜ Storable p (length (now mem)) (length (now reel)) ⌝ }
-    ensures { λ _. ⌜ StoredPlan p (now (mem .entry)) (now (reel .entry)) (now (mem .exit)) (now (reel .exit)) ⌝ }
+    requires { Storable p (length mem.old) (length reel.old) }
+    ensures { StoredPlan p mem.old reel.old mem.new reel.new }
 {
     let l = p.laid;
     let m = p.moved;

@@ -1,76 +1,76 @@
 -- The contract of each exported call of a unit (crates/ts11/src/rows.rt) says what `StepReturned` says: the host puts back what it lent.
 use mathlib.Core.Bool.{Bool}
-use mathlib.Core.List.{List, [], _∷_}
-use mathlib.Core.Path.{_≡_, refl, sym, ap, subst, _∙_}
-use Prim.Native.Nat.{ℕ, zero, suc, _≤_}
+use mathlib.Core.List.{List, [], ◌∷◌}
+use mathlib.Core.Path.{◌≡◌, refl, sym, ap, subst, ◌∙◌}
+use Prim.Native.Nat.{ℕ, zero, suc, ◌≤◌}
 use native.Mathlib.Omega.{arith}
 use borrow.Author.Tests.{ltb-false, ltb-true}
 use lib.Dec.{ltb}
-use lib.ListN.{getD, length, set}
-use lib.Seq.{getD-set-same, set-getD}
-use Rattle·lists.proofs.Cases.{by-test}
-use Rattle·unit.specs.Asks.{Ask, advance}
-use Rattle·histories.proofs.Taking.{present-is}
-use Rattle·records.specs.declared.records.UnitRecord.{UnitRecord}
-use Rattle·ts11.specs.Given.{Gives, Mounts, Tells, holding, stepGiven, tableGiven}
-use Rattle·ts11.specs.Rows.{AtRow, NothingTold, recordAt}
-use Rattle·ts11.specs.Backs.{Buffers, noBuffers}
-use Rattle·surface·specs.specs.Hosting.{Host, HostComes, MountReturned, StepReturned, Telling, Typed, UnitKept, buffersAt, lent, mountFor}
-use Rattle·surface·proofs.proofs.Advances.{host-comes}
-use Rattle·surface·proofs.proofs.Decks.{same-buffers}
+use lib.ListN.{get_or, length, set}
+use lib.Seq.{get_or-set_same, set-get_or}
+use Rattle.lists.proofs.Cases.{by-test}
+use Rattle.unit.specs.Asks.{Ask, advance}
+use Rattle.histories.proofs.Taking.{present-is}
+use Rattle.records.specs.declared.records.UnitRecord.{UnitRecord}
+use Rattle.ts11.specs.Given.{Gives, Mounts, Tells, holding, stepGiven, tableGiven}
+use Rattle.ts11.specs.Rows.{AtRow, NothingTold, recordAt}
+use Rattle.ts11.specs.Backs.{Buffers, noBuffers}
+use Rattle.surface.specs.Hosting.{Host, HostComes, MountReturned, StepReturned, Telling, Typed, UnitKept, buffersAt, lent, mountFor}
+use Rattle.surface.proofs.Advances.{host-comes}
+use Rattle.surface.proofs.Decks.{same-buffers}
 
 -- the host after a call of unit k that left these
 abbrev pub afterUnit : Host → ℕ → List UnitRecord → (sh m r tb j : List ℕ) → Host
-afterUnit h k row sh m r tb j = record { row = row; shared = sh; memory = m; journal = j; buffers = set (h .buffers) k (record { reel = r; table = tb }) }
+afterUnit h k row sh m r tb j = record { row = row; shared = sh; memory = m; journal = j; buffers = set h.buffers k (record { reel = r; table = tb }) }
 
 -- past its end a list stays
-set-past : {A : Type 0} (l : List A) (k : ℕ) (a : A) → length l ≤ k → set l k a ≡ l
-set-past [] k a h = refl
-set-past (x ∷ l) zero a h = absurd (omega (arith, h))
-set-past (x ∷ l) (suc k) a h = ap (λ (m : List _). x ∷ m) (set-past l k a (omega (arith, h)))
+set_past : {A : Type 0} (l : List A) (k : ℕ) (a : A) → length l ≤ k → set l k a ≡ l
+set_past [] k a h = refl
+set_past (x ∷ l) zero a h = absurd (omega (arith, h))
+set_past (x ∷ l) (suc k) a h = ap (λ (m : List _). x ∷ m) (set_past l k a (omega (arith, h)))
 
 module _ (h : Host) (typed : Typed h) (k : ℕ) (a : Ask) {number : ℕ} (row : List UnitRecord) (sh m r tb j : List ℕ) {Same : Type 0} {Does : List ℕ → List ℕ → Type 0}
-    (c : AtRow (h .row) k number row Same Does) where
+    (c : AtRow h.row k number row Same Does) where
   abbrev new : Host
   new = afterUnit h k row sh m r tb j
 
   abbrev left : Buffers
   left = record { reel = r; table = tb }
 
-  put-there : new .buffers ≡ set (h .buffers) k (buffersAt new k)
+  put-there : new.buffers ≡ set h.buffers k (buffersAt new k)
   put-there =
-      by-test (ltb k (length (h .buffers)))
-      (λ t. ap (set (h .buffers) k) (sym (getD-set-same (h .buffers) k left noBuffers (ltb-true k (length (h .buffers)) t))))
+      by-test (ltb k (length h.buffers))
+      (λ t. ap (set h.buffers k) (sym (get_or-set_same h.buffers k left noBuffers (ltb-true k (length h.buffers) t))))
       (λ t.
-      let z = ltb-false k (length (h .buffers)) t in
-      set-past (h .buffers) k left z ∙ sym (set-past (h .buffers) k (buffersAt new k) z))
+      let z = ltb-false k (length h.buffers) t in
+      set_past h.buffers k left z ∙ sym (set_past h.buffers k (buffersAt new k) z))
 
-  kept-by : (sh ≡ h .shared) × (m ≡ h .memory) × (r ≡ buffersAt h k .reel) × (tb ≡ buffersAt h k .table) × (j ≡ h .journal) → UnitKept h k new
-  kept-by z =
-      let same : new .buffers ≡ h .buffers = ap (set (h .buffers) k) (same-buffers left (buffersAt h k) (z .2) (z .3)) ∙ set-getD (h .buffers) k noBuffers in
+  kept_by : (sh ≡ h.shared) × (m ≡ h.memory) × (r ≡ (buffersAt h k).reel) × (tb ≡ (buffersAt h k).table) × (j ≡ h.journal) → UnitKept h k new
+  kept_by z =
+      let same : new.buffers ≡ h.buffers = ap (set h.buffers k) (same-buffers left (buffersAt h k) z.2 z.3) ∙ set-get_or h.buffers k noBuffers in
       record {
-        shared = z .0;
-        memory = z .1;
-        reel = ap (λ (l : List Buffers). getD l k noBuffers .reel) same;
-        table = ap (λ (l : List Buffers). getD l k noBuffers .table) same;
-        journal = z .4;
+        shared = z.0;
+        memory = z.1;
+        reel = ap (λ (l : List Buffers). (get_or l k noBuffers).reel) same;
+        table = ap (λ (l : List Buffers). (get_or l k noBuffers).table) same;
+        journal = z.4;
       }
 
   -- a TSDB or TSSR write or an operator act, which is lent the table for reading (tb is then the table), and an advance
-  pub step-named : (Same → (sh ≡ h .shared) × (m ≡ h .memory) × (r ≡ buffersAt h k .reel) × (tb ≡ buffersAt h k .table) × (j ≡ h .journal))
-      → ((b b′ : List ℕ) → Does b b′ → Gives (lent h k b) (stepGiven k a (lent h k b)) number (holding b′ sh m r tb j))
-      → length j ≡ length (h .journal) → Typed (afterUnit h k row sh m r tb j) → StepReturned h k a number (afterUnit h k row sh m r tb j)
+  pub step-named : (Same → (sh ≡ h.shared) × (m ≡ h.memory) × (r ≡ (buffersAt h k).reel) × (tb ≡ (buffersAt h k).table) × (j ≡ h.journal))
+      → ((b b' : List ℕ) → Does b b' → Gives (lent h k b) (stepGiven k a (lent h k b)) number (holding b' sh m r tb j))
+      → length j ≡ length h.journal → Typed (afterUnit h k row sh m r tb j) → StepReturned h k a number (afterUnit h k row sh m r tb j)
   step-named kept gives long t =
       record {
-        at-row =
+        at_row =
             record {
-              absent = λ y. let z = c .absent y in (z .0, z .1, kept-by (kept (z .2)));
+              absent = λ y. let z = c.absent y in (z.0, z.1, kept_by (kept z.2));
               present = λ y.
-                  let p = present-is (length (h .row)) k y in
-                  let own : left ≡ buffersAt new k = sym (getD-set-same (h .buffers) k left noBuffers (omega (arith, p .1, typed .four))) in
-                  subst (λ (x : Buffers). Gives (lent h k (recordAt (h .row) k)) (stepGiven k a (lent h k (recordAt (h .row) k))) number (holding (recordAt row k) sh m (x .reel) (x .table) j)) own
-                  (gives (recordAt (h .row) k) (recordAt row k) (c .present y));
-              others = c .others;
+                  let p = present-is (length h.row) k y in
+                  let own : left ≡ buffersAt new k = sym (get_or-set_same h.buffers k left noBuffers (omega (arith, p.1, typed.four))) in
+                  subst (λ (x : Buffers). Gives (lent h k (recordAt h.row k)) (stepGiven k a (lent h k (recordAt h.row k))) number (holding (recordAt row k) sh m x.reel x.table j)) own
+                  (gives (recordAt h.row k) (recordAt row k) (c.present y));
+              others = c.others;
             };
         others = put-there;
         long = long;
@@ -79,38 +79,38 @@ module _ (h : Host) (typed : Typed h) (k : ℕ) (a : Ask) {number : ℕ} (row : 
 
 -- so every exported advance, by its own contract
 pub advance-named : (h : Host) → Typed h → (k : ℕ) {number : ℕ} (row : List UnitRecord) (sh m r tb j : List ℕ) {steps interrupts : Bool} {block fault : ℕ}
-    → AtRow (h .row) k number row (((sh ≡ h .shared) × (m ≡ h .memory) × (r ≡ buffersAt h k .reel) × (tb ≡ buffersAt h k .table) × (j ≡ h .journal)) × NothingTold steps interrupts block fault)
-    (λ b b′. Gives (lent h k b) (stepGiven k advance (lent h k b)) number (holding b′ sh m r tb j) × Tells (stepGiven k advance (lent h k b)) steps interrupts block fault)
-    → length j ≡ length (h .journal) → Typed (afterUnit h k row sh m r tb j) → HostComes h k number steps interrupts block fault (afterUnit h k row sh m r tb j)
+    → AtRow h.row k number row (((sh ≡ h.shared) × (m ≡ h.memory) × (r ≡ (buffersAt h k).reel) × (tb ≡ (buffersAt h k).table) × (j ≡ h.journal)) × NothingTold steps interrupts block fault)
+    (λ b b'. Gives (lent h k b) (stepGiven k advance (lent h k b)) number (holding b' sh m r tb j) × Tells (stepGiven k advance (lent h k b)) steps interrupts block fault)
+    → length j ≡ length h.journal → Typed (afterUnit h k row sh m r tb j) → HostComes h k number steps interrupts block fault (afterUnit h k row sh m r tb j)
 advance-named h typed k row sh m r tb j c long t =
-    host-comes k (step-named h typed k advance row sh m r tb j c (λ z. z .0) (λ b b′ z. z .0) long t) (λ y. c .absent y .2 .1) (λ y. c .present y .1)
+    host-comes k (step-named h typed k advance row sh m r tb j c (λ z. z.0) (λ b b' z. z.0) long t) (λ y. (c.absent y).2.1) (λ y. (c.present y).1)
 
 -- and every exported mount
 pub mount-named : (h : Host) → Typed h → (k : ℕ) (m : Telling) {number block fault : ℕ} (row : List UnitRecord) (sh tb : List ℕ)
-    → AtRow (h .row) k number row (((sh ≡ h .shared) × (tb ≡ buffersAt h k .table)) × (block ≡ 0) × (fault ≡ 0))
-    (λ b b′. Mounts b (h .shared) (mountFor h k m b) (tableGiven (mountFor h k m b) (buffersAt h k .reel) (buffersAt h k .table) (m .end)) number b′ sh tb block fault)
-    → Typed (afterUnit h k row sh (h .memory) (buffersAt h k .reel) tb (h .journal)) → MountReturned h k m number block fault (afterUnit h k row sh (h .memory) (buffersAt h k .reel) tb (h .journal))
+    → AtRow h.row k number row (((sh ≡ h.shared) × (tb ≡ (buffersAt h k).table)) × (block ≡ 0) × (fault ≡ 0))
+    (λ b b'. Mounts b h.shared (mountFor h k m b) (tableGiven (mountFor h k m b) (buffersAt h k).reel (buffersAt h k).table m.end) number b' sh tb block fault)
+    → Typed (afterUnit h k row sh h.memory (buffersAt h k).reel tb h.journal) → MountReturned h k m number block fault (afterUnit h k row sh h.memory (buffersAt h k).reel tb h.journal)
 mount-named h typed k m {number} {block} {fault} row sh tb c t =
-    let r : List ℕ = buffersAt h k .reel in
-    let new : Host = afterUnit h k row sh (h .memory) r tb (h .journal) in
+    let r : List ℕ = (buffersAt h k).reel in
+    let new : Host = afterUnit h k row sh h.memory r tb h.journal in
     let left : Buffers = record { reel = r; table = tb } in
     record {
-      at-row =
+      at_row =
           record {
             absent = λ y.
-                let z = c .absent y in
-                (z .0, z .1, ((z .2 .0 .0, kept-by h typed k advance row sh (h .memory) r tb (h .journal) c (z .2 .0 .0, refl, refl, z .2 .0 .1, refl) .table), z .2 .1, z .2 .2));
+                let z = c.absent y in
+                (z.0, z.1, ((z.2.0.0, (kept_by h typed k advance row sh h.memory r tb h.journal c (z.2.0.0, refl, refl, z.2.0.1, refl)).table), z.2.1, z.2.2));
             present = λ y.
-                let p = present-is (length (h .row)) k y in
-                let own : left ≡ buffersAt new k = sym (getD-set-same (h .buffers) k left noBuffers (omega (arith, p .1, typed .four))) in
-                subst (λ (x : Buffers). Mounts (recordAt (h .row) k) (h .shared) (mountFor h k m (recordAt (h .row) k)) (tableGiven (mountFor h k m (recordAt (h .row) k)) r (buffersAt h k .table) (m .end)) number (recordAt row k) sh (x .table) block fault) own (c .present y);
-            others = c .others;
+                let p = present-is (length h.row) k y in
+                let own : left ≡ buffersAt new k = sym (get_or-set_same h.buffers k left noBuffers (omega (arith, p.1, typed.four))) in
+                subst (λ (x : Buffers). Mounts (recordAt h.row k) h.shared (mountFor h k m (recordAt h.row k)) (tableGiven (mountFor h k m (recordAt h.row k)) r (buffersAt h k).table m.end) number (recordAt row k) sh x.table block fault) own (c.present y);
+            others = c.others;
           };
-      others = put-there h typed k advance row sh (h .memory) r tb (h .journal) c;
+      others = put-there h typed k advance row sh h.memory r tb h.journal c;
       reel =
-          by-test (ltb k (length (h .buffers)))
-          (λ y. ap (λ (x : Buffers). x .reel) (getD-set-same (h .buffers) k left noBuffers (ltb-true k (length (h .buffers)) y)))
-          (λ y. ap (λ (l : List Buffers). getD l k noBuffers .reel) (set-past (h .buffers) k left (ltb-false k (length (h .buffers)) y)));
+          by-test (ltb k (length h.buffers))
+          (λ y. ap (λ (x : Buffers). x.reel) (get_or-set_same h.buffers k left noBuffers (ltb-true k (length h.buffers) y)))
+          (λ y. ap (λ (l : List Buffers). (get_or l k noBuffers).reel) (set_past h.buffers k left (ltb-false k (length h.buffers) y)));
       memory = refl;
       journal = refl;
       typed = t;

@@ -1,19 +1,19 @@
 -- What a pass, or a sweep, tells of a block that it names is what is wrong with that block.
 use mathlib.Core.Bool.{Bool, false}
 use mathlib.Core.List.{List}
-use mathlib.Core.Path.{_≡_}
+use mathlib.Core.Path.{◌≡◌}
 use Prim.Native.Nat.{ℕ, zero, suc}
-use Rattle·lists.specs.Pick.{Always}
-use Rattle·tape·specs.specs.Pass.{passed}
-use Rattle·tape·specs.specs.Sweep.{sweptBelow, sweptBelowUnder, sweptFrom, sweptFromUnder, sweptOn}
-use Rattle·tape·specs.specs.Wrong.{WrongAt}
-use Rattle·tape·specs.specs.declared.BlockFault.{BlockFault}
-use Rattle·tape·specs.specs.declared.Met.{Met}
-use Rattle·tape·specs.specs.declared.Met.the-variants as met
-use Rattle·tape·specs.specs.declared.Swept.{Swept}
-use Rattle·tape·specs.specs.declared.Swept.the-variants as swept
-use Rattle·tape·proofs.proofs.Faulted.{wrong-at}
-use Rattle·tape·proofs.proofs.Outcomes.{Outcome, at-end, at-fault, outcome, over-gap, over-mark, over-record}
+use Rattle.lists.specs.Pick.{Always}
+use Rattle.tape.specs.Pass.{passed}
+use Rattle.tape.specs.Sweep.{sweptBelow, sweptBelowUnder, sweptFrom, sweptFromUnder, sweptOn}
+use Rattle.tape.specs.Wrong.{WrongAt}
+use Rattle.tape.specs.declared.BlockFault.{BlockFault}
+use Rattle.tape.specs.declared.Met.{Met}
+use Rattle.tape.specs.declared.Met.TheVariants as met
+use Rattle.tape.specs.declared.Swept.{Swept}
+use Rattle.tape.specs.declared.Swept.TheVariants as swept
+use Rattle.tape.proofs.Faulted.{wrong-at}
+use Rattle.tape.proofs.Outcomes.{Outcome, at-end, at-fault, outcome, over-gap, over-mark, over-record}
 
 module _ (s : List ℕ) where
   abbrev Wrongly : Met → Type 0
@@ -47,12 +47,12 @@ module _ (s : List ℕ) where
     on-wrong met.Nothing onward w on = tt
     on-wrong (met.Bad why k) onward w on = w
 
-    from-wrong : (turns p : ℕ) → SweptWrong (sweptFrom turns s p e)
+    from_wrong : (turns p : ℕ) → SweptWrong (sweptFrom turns s p e)
     unfolding sweptFromUnder
-    from-wrong zero p = tt
-    from-wrong (suc turns) p =
-        on-wrong (passed s false p e) (λ q. sweptFrom turns s q e) (wrongly false p e (passed s false p e) (outcome s false p e)) (λ q. from-wrong turns q)
+    from_wrong zero p = tt
+    from_wrong (suc turns) p =
+        on-wrong (passed s false p e) (λ q. sweptFrom turns s q e) (wrongly false p e (passed s false p e) (outcome s false p e)) (λ q. from_wrong turns q)
 
     pub swept-wrong : {why : BlockFault} {k : ℕ} → sweptBelow s e ≡ swept.Bad why k → WrongAt s k why
     unfolding sweptBelowUnder
-    swept-wrong y = rw y at (from-wrong e 0)
+    swept-wrong y = rw y at (from_wrong e 0)

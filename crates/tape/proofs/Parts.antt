@@ -1,27 +1,27 @@
 -- Parts of lists: only what is there is taken, and the bytes of a part are bytes.
-use mathlib.Core.Path.{_≡_, ap}
-use mathlib.Core.List.{List, [], _∷_}
+use mathlib.Core.Path.{◌≡◌, ap}
+use mathlib.Core.List.{List, [], ◌∷◌}
 use Prim.Native.Nat.{ℕ, zero, suc, min}
 use native.Mathlib.Nat.{zero-min, min-zero, suc-min-suc}
 use native.Mathlib.Omega.{arith}
 use lib.ListN.{length, take, drop}
-use Rattle·lists.specs.Words.{Bytes}
+use Rattle.lists.specs.Words.{Bytes}
 
 pub take-there : (m : ℕ) (l : List ℕ) → take m l ≡ take (min m (length l)) l
 take-there zero l = rw (zero-min (length l))
 take-there (suc m) [] = rw (min-zero (suc m))
 take-there (suc m) (x ∷ l) = rw (suc-min-suc m (length l)) (ap (λ (t : List ℕ). x ∷ t) (take-there m l))
 
-bytes-take : (n : ℕ) (l : List ℕ) → Bytes l → Bytes (take n l)
-bytes-take zero l h i = omega arith
-bytes-take (suc n) [] h i = h i
-bytes-take (suc n) (x ∷ l) h zero = h 0
-bytes-take (suc n) (x ∷ l) h (suc i) = bytes-take n l (λ j. h (suc j)) i
+bytes_take : (n : ℕ) (l : List ℕ) → Bytes l → Bytes (take n l)
+bytes_take zero l h i = omega arith
+bytes_take (suc n) [] h i = h i
+bytes_take (suc n) (x ∷ l) h zero = h 0
+bytes_take (suc n) (x ∷ l) h (suc i) = bytes_take n l (λ j. h (suc j)) i
 
-bytes-drop : (n : ℕ) (l : List ℕ) → Bytes l → Bytes (drop n l)
-bytes-drop zero l h = h
-bytes-drop (suc n) [] h = h
-bytes-drop (suc n) (x ∷ l) h = bytes-drop n l (λ j. h (suc j))
+bytes_drop : (n : ℕ) (l : List ℕ) → Bytes l → Bytes (drop n l)
+bytes_drop zero l h = h
+bytes_drop (suc n) [] h = h
+bytes_drop (suc n) (x ∷ l) h = bytes_drop n l (λ j. h (suc j))
 
 pub bytes-part : (n a : ℕ) (l : List ℕ) → Bytes l → Bytes (take n (drop a l))
-bytes-part n a l h = bytes-take n (drop a l) (bytes-drop a l h)
+bytes-part n a l h = bytes_take n (drop a l) (bytes_drop a l h)

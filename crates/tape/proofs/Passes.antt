@@ -1,34 +1,34 @@
 -- An object that stands on the reel is passed whole, forward from its first block and in reverse from beyond its last.
-use mathlib.Core.Path.{_≡_, refl, ap, _∙_}
+use mathlib.Core.Path.{◌≡◌, refl, ap, ◌∙◌}
 use mathlib.Core.Bool.{Bool, true, false}
-use mathlib.Core.List.{List, [], _∷_, _++_}
-use Prim.Native.Nat.{ℕ, zero, suc, _+_, _-_, _*_, _/_, _≤_, _<_}
+use mathlib.Core.List.{List, [], ◌∷◌, ◌++◌}
+use Prim.Native.Nat.{ℕ, zero, suc, ◌+◌, ◌-◌, ◌*◌, ◌/◌, ◌≤◌, ◌<◌}
 use native.Mathlib.Omega.{arith}
-use borrow.Author.Tests.{eq-eqb, ne-eqb, le-leb, lt-ltb}
+use borrow.Author.Tests.{eq-eqb, ne_eqb, le-leb, lt-ltb}
 use lib.ListN.{length, take, drop, length-take, length-drop}
 use lib.Seq.{sets}
-use Rattle·tape·specs.specs.Meeting.{metAs}
-use Rattle·tape·specs.specs.Numbers.{blockBytes, dataBytes, piecesOf, recordLimit}
-use Rattle·tape·specs.specs.Objects.{AllAllowedUnder, Allowed, AllowedUnder, Holds, Object, StandsAt, also, blocksIn, blocksOf, gap, imageOf, mark, pieceOf, record-of}
-use Rattle·tape·specs.specs.Pass.{ahead, beyond, firstMet, isPiece, lowest, metByUnder, orderMet, passed, passedUnder, piecesMetUnder, recordMetUnder}
-use Rattle·tape·specs.specs.Reading.{blockAt, classAt, classAtUnder, classOf}
-use Rattle·tape·specs.specs.declared.Block.{Block}
-use Rattle·tape·specs.specs.declared.Block.the-variants as block
-use Rattle·tape·specs.specs.declared.Met.{Met}
-use Rattle·tape·specs.specs.declared.Met.the-variants as met
-use Rattle·tape·proofs.proofs.Images.{allowed-rest, blocks-append, length-image, one-or-more}
-use Rattle·tape·proofs.proofs.ReadBlocks.{read-gap, read-mark, read-piece}
-use Rattle·tape·proofs.proofs.Standing.{stands-below, stands-in, stands-piece}
-use Rattle·tape·proofs.proofs.Written.{laid-stands}
+use Rattle.tape.specs.Meeting.{metAs}
+use Rattle.tape.specs.Numbers.{blockBytes, dataBytes, pieces_of, recordLimit}
+use Rattle.tape.specs.Objects.{AllAllowedUnder, Allowed, AllowedUnder, Holds, Object, StandsAt, also, blocksIn, blocksOf, gap, image_of, mark, piece_of, record_of}
+use Rattle.tape.specs.Pass.{ahead, beyond, firstMet, isPiece, lowest, metByUnder, orderMet, passed, passedUnder, piecesMetUnder, recordMetUnder}
+use Rattle.tape.specs.Reading.{block_at, class_at, classAtUnder, class_of}
+use Rattle.tape.specs.declared.Block.{Block}
+use Rattle.tape.specs.declared.Block.TheVariants as block
+use Rattle.tape.specs.declared.Met.{Met}
+use Rattle.tape.specs.declared.Met.TheVariants as met
+use Rattle.tape.proofs.Images.{allowed-rest, blocks-append, length-image, one-or-more}
+use Rattle.tape.proofs.ReadBlocks.{read-gap, read-mark, read-piece}
+use Rattle.tape.proofs.Standing.{stands-below, stands-in, stands-piece}
+use Rattle.tape.proofs.Written.{laid-stands}
 
 -- a block within the slice is read as its bytes say
-pub class-at : (s b : List ℕ) (k : ℕ) → blockBytes * (k + 1) ≤ length s → blockAt s k ≡ b → classAt s k ≡ classOf b
+pub class-at : (s b : List ℕ) (k : ℕ) → blockBytes * (k + 1) ≤ length s → block_at s k ≡ b → class_at s k ≡ class_of b
 unfolding classAtUnder
-class-at s b k h e = simp (lt-ltb k (length s / blockBytes) (omega arith)) (ap classOf e)
+class-at s b k h e = simp (lt-ltb k (length s / blockBytes) (omega arith)) (ap class_of e)
 
 -- the blocks from p on are the pieces of a record of n bytes, to a unit of any record limit and to this one
 abbrev pub PiecesAtUnder : ℕ → List ℕ → ℕ → ℕ → Type 0
-PiecesAtUnder limit s p n = (j : ℕ) → j < piecesOf n → classAtUnder limit s (p + j) ≡ block.Piece n j
+PiecesAtUnder limit s p n = (j : ℕ) → j < pieces_of n → classAtUnder limit s (p + j) ≡ block.Piece n j
 
 abbrev pub PiecesAt : List ℕ → ℕ → ℕ → Type 0
 PiecesAt = PiecesAtUnder recordLimit
@@ -38,66 +38,66 @@ module _ (s : List ℕ) (p : ℕ) where
   pub stands-room : (o : Object) → StandsAt s p o → Allowed o → blockBytes * (p + blocksIn o) ≤ length s
   stands-room o h a = omega (arith, simp (length-take, length-drop) at (ap length h), length-image o, one-or-more o a)
 
-  pub class-stands : (d : List ℕ) → StandsAt s p (record-of d) → Allowed (record-of d) → PiecesAt s p (length d)
-  unfolding blocksIn pieceOf
+  pub class-stands : (d : List ℕ) → StandsAt s p (record_of d) → Allowed (record_of d) → PiecesAt s p (length d)
+  unfolding blocksIn piece_of
   class-stands d h a j l =
-      class-at s (pieceOf d j) (p + j) (omega (arith, stands-room (record-of d) h a)) (stands-piece s p d j h l)
-      ∙ read-piece (length d) j (take dataBytes (drop (dataBytes * j) d)) (a .0) (a .1) l (simp (length-take, length-drop))
+      class-at s (piece_of d j) (p + j) (omega (arith, stands-room (record_of d) h a)) (stands-piece s p d j h l)
+      ∙ read-piece (length d) j (take dataBytes (drop (dataBytes * j) d)) a.0 a.1 l (simp (length-take, length-drop))
 
-  pub class-mark : StandsAt s p mark → classAt s p ≡ block.Mark
+  pub class-mark : StandsAt s p mark → class_at s p ≡ block.Mark
   unfolding blocksIn
-  class-mark h = class-at s (imageOf mark) p (omega (arith, stands-room mark h tt)) h ∙ read-mark
+  class-mark h = class-at s (image_of mark) p (omega (arith, stands-room mark h tt)) h ∙ read-mark
 
-  pub class-gap : StandsAt s p gap → classAt s p ≡ block.Gap
+  pub class-gap : StandsAt s p gap → class_at s p ≡ block.Gap
   unfolding blocksIn
-  class-gap h = class-at s (imageOf gap) p (omega (arith, stands-room gap h tt)) h ∙ read-gap
+  class-gap h = class-at s (image_of gap) p (omega (arith, stands-room gap h tt)) h ∙ read-gap
 
 -- what is met in any order is a piece of the record
-pub order-below : (reverse : Bool) (m j : ℕ) → j < m → orderMet reverse m j < m
-order-below true m j h = omega arith
-order-below false m j h = h
+pub order_below : (reverse : Bool) (m j : ℕ) → j < m → orderMet reverse m j < m
+order_below true m j h = omega arith
+order_below false m j h = h
 
 -- the first block met is a record's piece 0, in reverse its last one
 pub first-order : (reverse : Bool) (q e m : ℕ) → 1 ≤ m → m ≤ ahead reverse q e → firstMet reverse q ≡ lowest reverse q m + orderMet reverse m 0
 first-order true q e m h k = omega arith
 first-order false q e m h k = omega arith
 
-pub first-alone : (reverse : Bool) (q : ℕ) → firstMet reverse q ≡ lowest reverse q 1
-first-alone true q = refl
-first-alone false q = refl
+pub first_alone : (reverse : Bool) (q : ℕ) → firstMet reverse q ≡ lowest reverse q 1
+first_alone true q = refl
+first_alone false q = refl
 
 -- under any record limit
 module _ (limit : ℕ) (s : List ℕ) (reverse : Bool) where
   -- no fault where every piece is the one due
-  pieces-whole : (n p j c : ℕ) (whole : Met) → PiecesAtUnder limit s p n → j + c ≤ piecesOf n → piecesMetUnder limit s reverse n p (piecesOf n) j c whole ≡ whole
+  pieces_whole : (n p j c : ℕ) (whole : Met) → PiecesAtUnder limit s p n → j + c ≤ pieces_of n → piecesMetUnder limit s reverse n p (pieces_of n) j c whole ≡ whole
   unfolding piecesMetUnder isPiece
-  pieces-whole n p j zero whole all h = refl
-  pieces-whole n p j (suc c) whole all h =
-      let i : ℕ = orderMet reverse (piecesOf n) j in
-      simp (all i (order-below reverse (piecesOf n) j (omega arith)), eq-eqb n n refl, eq-eqb i i refl) (pieces-whole n p (suc j) c whole all (omega arith))
+  pieces_whole n p j zero whole all h = refl
+  pieces_whole n p j (suc c) whole all h =
+      let i : ℕ = orderMet reverse (pieces_of n) j in
+      simp (all i (order_below reverse (pieces_of n) j (omega arith)), eq-eqb n n refl, eq-eqb i i refl) (pieces_whole n p (suc j) c whole all (omega arith))
 
   -- the first block met decides what is met
   pub passed-by : (q e : ℕ) (b : Block) → 1 ≤ ahead reverse q e → classAtUnder limit s (firstMet reverse q) ≡ b → passedUnder limit s reverse q e ≡ metByUnder limit s reverse q e b
   unfolding passedUnder
-  passed-by q e b h c = simp (ne-eqb (ahead reverse q e) 0 (λ z. omega arith), c)
+  passed-by q e b h c = simp (ne_eqb (ahead reverse q e) 0 (λ z. omega arith), c)
 
   -- a record of n bytes, all of whose pieces stand ahead, is met whole
-  pub met-record : (q e n : ℕ) → 1 ≤ n → piecesOf n ≤ ahead reverse q e → PiecesAtUnder limit s (lowest reverse q (piecesOf n)) n → passedUnder limit s reverse q e ≡ met.Record n (beyond reverse q (piecesOf n))
+  pub met-record : (q e n : ℕ) → 1 ≤ n → pieces_of n ≤ ahead reverse q e → PiecesAtUnder limit s (lowest reverse q (pieces_of n)) n → passedUnder limit s reverse q e ≡ met.Record n (beyond reverse q (pieces_of n))
   unfolding metByUnder recordMetUnder
   met-record q e n h k all =
-      let m : ℕ = piecesOf n in
+      let m : ℕ = pieces_of n in
       let i : ℕ = orderMet reverse m 0 in
-      let c : classAtUnder limit s (firstMet reverse q) ≡ block.Piece n i = rw (first-order reverse q e m (omega arith) k) (all i (order-below reverse m 0 (omega arith))) in
+      let c : classAtUnder limit s (firstMet reverse q) ≡ block.Piece n i = rw (first-order reverse q e m (omega arith) k) (all i (order_below reverse m 0 (omega arith))) in
       passed-by q e (block.Piece n i) (omega arith) c
-      ∙ simp (eq-eqb i i refl, le-leb m (ahead reverse q e) k) (pieces-whole n (lowest reverse q m) 1 (m - 1) (met.Record n (beyond reverse q m)) all (omega arith))
+      ∙ simp (eq-eqb i i refl, le-leb m (ahead reverse q e) k) (pieces_whole n (lowest reverse q m) 1 (m - 1) (met.Record n (beyond reverse q m)) all (omega arith))
 
 module _ (s : List ℕ) (reverse : Bool) (q e : ℕ) where
   -- either way: the object stands at the lower bound of the blocks met
   pub pass-whole : (o : Object) → Allowed o → StandsAt s (lowest reverse q (blocksIn o)) o → blocksIn o ≤ ahead reverse q e → passed s reverse q e ≡ metAs o (beyond reverse q (blocksIn o))
   unfolding metAs blocksIn metByUnder
-  pass-whole (record-of d) a h k = met-record recordLimit s reverse q e (length d) (a .0) k (class-stands s (lowest reverse q (piecesOf (length d))) d h a)
-  pass-whole mark a h k = passed-by recordLimit s reverse q e block.Mark k (rw first-alone (class-mark s (lowest reverse q 1) h))
-  pass-whole gap a h k = passed-by recordLimit s reverse q e block.Gap k (rw first-alone (class-gap s (lowest reverse q 1) h))
+  pass-whole (record_of d) a h k = met-record recordLimit s reverse q e (length d) a.0 k (class-stands s (lowest reverse q (pieces_of (length d))) d h a)
+  pass-whole mark a h k = passed-by recordLimit s reverse q e block.Mark k (rw first_alone (class-mark s (lowest reverse q 1) h))
+  pass-whole gap a h k = passed-by recordLimit s reverse q e block.Gap k (rw first_alone (class-gap s (lowest reverse q 1) h))
 
 module _ (s : List ℕ) (p e : ℕ) (o : Object) (a : Allowed o) (h : StandsAt s p o) where
   pub pass-forward : p + blocksIn o ≤ e → passed s false p e ≡ metAs o (p + blocksIn o)
@@ -118,8 +118,8 @@ unfolding passedUnder
 reverse-ends s e = refl
 
 -- each object of a list is allowed
-pub allowed-at : {limit : ℕ} (before : List Object) (o : Object) (after : List Object) → AllAllowedUnder limit (before ++ o ∷ after) → AllowedUnder limit o
-allowed-at {limit} before o after h = first (allowed-rest before (o ∷ after) h)
+pub allowed_at : {limit : ℕ} (before : List Object) (o : Object) (after : List Object) → AllAllowedUnder limit (before ++ o ∷ after) → AllowedUnder limit o
+allowed_at {limit} before o after h = first (allowed-rest before (o ∷ after) h)
   where
     first : {x : Object} {xs : List Object} → AllAllowedUnder limit (x ∷ xs) → AllowedUnder limit x
     first (also a h) = a
@@ -131,15 +131,15 @@ module _ {s : List ℕ} {e : ℕ} (before : List Object) (o : Object) (after : L
   bound = omega (arith, blocks-append before (o ∷ []))
 
   pub forward-meets : passed s false (blocksOf before) e ≡ metAs o (blocksOf (before ++ o ∷ []))
-  forward-meets = rw bound (pass-forward s (blocksOf before) e o (allowed-at before o after (h .allowed)) (stands-in before o after h) (stands-below before o after h))
+  forward-meets = rw bound (pass-forward s (blocksOf before) e o (allowed_at before o after h.allowed) (stands-in before o after h) (stands-below before o after h))
 
   pub reverse-meets : passed s true (blocksOf (before ++ o ∷ [])) e ≡ metAs o (blocksOf before)
-  reverse-meets = rw bound (pass-reverse s (blocksOf before) e o (allowed-at before o after (h .allowed)) (stands-in before o after h))
+  reverse-meets = rw bound (pass-reverse s (blocksOf before) e o (allowed_at before o after h.allowed) (stands-in before o after h))
 
 -- an object just laid is met from either side
 module _ (s : List ℕ) (p : ℕ) (o : Object) (a : Allowed o) (room : blockBytes * (p + blocksIn o) ≤ length s) where
-  pub laid-forward : passed (sets s (blockBytes * p) (imageOf o)) false p (p + blocksIn o) ≡ metAs o (p + blocksIn o)
-  laid-forward = pass-forward (sets s (blockBytes * p) (imageOf o)) p (p + blocksIn o) o a (laid-stands s p o room) (omega arith)
+  pub laid-forward : passed (sets s (blockBytes * p) (image_of o)) false p (p + blocksIn o) ≡ metAs o (p + blocksIn o)
+  laid-forward = pass-forward (sets s (blockBytes * p) (image_of o)) p (p + blocksIn o) o a (laid-stands s p o room) (omega arith)
 
-  pub laid-reverse : (e : ℕ) → passed (sets s (blockBytes * p) (imageOf o)) true (p + blocksIn o) e ≡ metAs o p
-  laid-reverse e = pass-reverse (sets s (blockBytes * p) (imageOf o)) p e o a (laid-stands s p o room)
+  pub laid-reverse : (e : ℕ) → passed (sets s (blockBytes * p) (image_of o)) true (p + blocksIn o) e ≡ metAs o p
+  laid-reverse e = pass-reverse (sets s (blockBytes * p) (image_of o)) p e o a (laid-stands s p o room)

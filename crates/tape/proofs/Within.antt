@@ -1,23 +1,23 @@
 -- Where a pass leads, by its numbers alone: over blocks that lie below the end, a block or more.
-use mathlib.Core.Path.{_≡_, refl}
+use mathlib.Core.Path.{◌≡◌, refl}
 use mathlib.Core.Bool.{Bool, true, false, false≢true, true≢false}
 use mathlib.Core.List.{List}
-use Prim.Native.Nat.{ℕ, _+_, _-_, _≤_, _<_}
+use Prim.Native.Nat.{ℕ, ◌+◌, ◌-◌, ◌≤◌, ◌<◌}
 use native.Mathlib.Omega.{arith}
-use Rattle·lists.specs.Pick.{Always, pick}
-use Rattle·tape·specs.specs.Numbers.{piecesOf, recordLimit}
-use Rattle·tape·specs.specs.Pass.{ahead, beyond, passed}
-use Rattle·tape·specs.specs.declared.Met.{Met}
-use Rattle·tape·specs.specs.declared.Met.the-variants as met
-use Rattle·tape·proofs.proofs.Outcomes.{Outcome, at-end, at-fault, outcome, over-gap, over-mark, over-record}
+use Rattle.lists.specs.Pick.{Always, pick}
+use Rattle.tape.specs.Numbers.{pieces_of, recordLimit}
+use Rattle.tape.specs.Pass.{ahead, beyond, passed}
+use Rattle.tape.specs.declared.Met.{Met}
+use Rattle.tape.specs.declared.Met.TheVariants as met
+use Rattle.tape.proofs.Outcomes.{Outcome, at-end, at-fault, outcome, over-gap, over-mark, over-record}
 
 -- a record of n bytes that was passed up to q: its blocks lie just before q, in reverse from q on
 pub record RecordIn (reverse : Bool) (e n q : ℕ) : Type 0 where
-  pub inside : pick reverse q (q - piecesOf n) + piecesOf n ≤ e
+  pub inside : pick reverse q (q - pieces_of n) + pieces_of n ≤ e
   pub some : 1 ≤ n
   pub most : n ≤ recordLimit
   pub below : q ≤ e
-  pub room : reverse ≡ false → piecesOf n ≤ q
+  pub room : reverse ≡ false → pieces_of n ≤ q
 
 -- from p to q by a block or more, and not past the end
 pub record Onward (reverse : Bool) (p e q : ℕ) : Type 0 where
@@ -30,18 +30,18 @@ module _ (e : ℕ) where
   onward-by true p m h a f = record { below = omega arith; up = λ z. absurd (true≢false z); down = λ z. omega arith }
   onward-by false p m h a f = record { below = omega arith; up = λ z. omega arith; down = λ z. absurd (false≢true z) }
 
-  record-in : (reverse : Bool) (p n : ℕ) → p ≤ e → 1 ≤ n → n ≤ recordLimit → piecesOf n ≤ ahead reverse p e → RecordIn reverse e n (beyond reverse p (piecesOf n))
+  record-in : (reverse : Bool) (p n : ℕ) → p ≤ e → 1 ≤ n → n ≤ recordLimit → pieces_of n ≤ ahead reverse p e → RecordIn reverse e n (beyond reverse p (pieces_of n))
   record-in true p n h a b f = record { inside = omega arith; some = a; most = b; below = omega arith; room = λ z. absurd (true≢false z) }
   record-in false p n h a b f = record { inside = omega arith; some = a; most = b; below = omega arith; room = λ z. omega arith }
 
 -- one after the other
 pub onward-more : {reverse : Bool} {p e q t : ℕ} → Onward reverse p e q → Onward reverse q e t → Onward reverse p e t
-onward-more a b = record { below = b .below; up = λ z. omega (arith, a .up z, b .up z); down = λ z. omega (arith, a .down z, b .down z) }
+onward-more a b = record { below = b.below; up = λ z. omega (arith, a.up z, b.up z); down = λ z. omega (arith, a.down z, b.down z) }
 
 -- fewer blocks lie ahead then
 pub fewer-ahead : (reverse : Bool) (p e q : ℕ) → p ≤ e → Onward reverse p e q → ahead reverse q e < ahead reverse p e
-fewer-ahead true p e q h o = omega (arith, o .down refl)
-fewer-ahead false p e q h o = omega (arith, o .up refl, o .below)
+fewer-ahead true p e q h o = omega (arith, o.down refl)
+fewer-ahead false p e q h o = omega (arith, o.up refl, o.below)
 
 -- what is known of each answer
 abbrev pub PassIn : Bool → ℕ → ℕ → Met → Type 0
@@ -53,7 +53,7 @@ PassIn reverse p e (met.Bad why k) = Always
 
 by-outcome : (s : List ℕ) (reverse : Bool) (p e : ℕ) (m : Met) → p ≤ e → Outcome s reverse p e m → PassIn reverse p e m
 by-outcome s reverse p e m h (at-end z y) = rw y z
-by-outcome s reverse p e m h (over-record n a b f all y) = rw y (record-in e reverse p n h a b f, onward-by e reverse p (piecesOf n) h (omega arith) f)
+by-outcome s reverse p e m h (over-record n a b f all y) = rw y (record-in e reverse p n h a b f, onward-by e reverse p (pieces_of n) h (omega arith) f)
 by-outcome s reverse p e m h (over-mark f c y) = rw y (onward-by e reverse p 1 h (omega arith) f)
 by-outcome s reverse p e m h (over-gap f c y) = rw y (onward-by e reverse p 1 h (omega arith) f)
 by-outcome s reverse p e m h (at-fault k y) = rw y tt
@@ -63,13 +63,13 @@ module _ (s : List ℕ) (reverse : Bool) (p e : ℕ) (h : p ≤ e) where
   pass-in = by-outcome s reverse p e (passed s reverse p e) h (outcome s reverse p e)
 
   pub pass-within : {n q : ℕ} → passed s reverse p e ≡ met.Record n q → RecordIn reverse e n q
-  pass-within y = (rw y at pass-in) .0
+  pass-within y = (rw y at pass-in).0
 
   pub pass-onward : {n q : ℕ} → passed s reverse p e ≡ met.Record n q → Onward reverse p e q
-  pass-onward y = (rw y at pass-in) .1
+  pass-onward y = (rw y at pass-in).1
 
   pub mark-within : {q : ℕ} → passed s reverse p e ≡ met.Mark q → Onward reverse p e q
   mark-within y = rw y at pass-in
 
-  pub gap-within : {q : ℕ} → passed s reverse p e ≡ met.Gap q → Onward reverse p e q
-  gap-within y = rw y at pass-in
+  pub gap_within : {q : ℕ} → passed s reverse p e ≡ met.Gap q → Onward reverse p e q
+  gap_within y = rw y at pass-in

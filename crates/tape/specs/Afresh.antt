@@ -1,17 +1,15 @@
 -- The objects of a reel, worked out afresh: those that passing forward from block 0 meets, below the recorded end. On a well formed reel they are
--- the objects that it holds, and there is no other such list (laws `objects-are`, `one-list`).
-use mathlib.Core.Bool.{false}
-use mathlib.Core.List.{List, [], _∷_}
-use Prim.Native.Nat.{ℕ, suc}
-use Rattle·tape·specs.specs.Bytes.{recordBytes}
-use Rattle·tape·specs.specs.Objects.{Object, gap, mark, record-of}
-use Rattle·tape·specs.specs.Pass.{passed}
-use Rattle·tape·specs.specs.declared.Met.{Met}
-use Rattle·tape·specs.specs.declared.Met.the-variants as met
+-- the objects that it holds, and there is no other such list (laws `objects-are`, `one_list`).
+use Rattle.std.specs.Prelude.{false, List, [], ◌∷◌, ℕ, suc}
+use Rattle.tape.specs.Bytes.{recordBytes}
+use Rattle.tape.specs.Objects.{Object, gap, mark, record_of}
+use Rattle.tape.specs.Pass.{passed}
+use Rattle.tape.specs.declared.Met.{Met}
+use Rattle.tape.specs.declared.Met.TheVariants as met
 
 -- what was met at block p of s, and then the objects that `onward` finds from the position beyond it
 unfoldable pub metThen : List ℕ → ℕ → Met → (ℕ → List Object) → List Object
-metThen s p (met.Record n q) onward = record-of (recordBytes s p n) ∷ onward q
+metThen s p (met.Record n q) onward = record_of (recordBytes s p n) ∷ onward q
 metThen s p (met.Mark q) onward = mark ∷ onward q
 metThen s p (met.Gap q) onward = gap ∷ onward q
 metThen s p met.Nothing onward = []

@@ -1,7 +1,7 @@
 -- "The listing's X line gets a second field: K, N, I, P or C." (02, [4]): the letter of each fault, as a number of ASCII.
-use Prim.Native.Nat.{ℕ}
-use Rattle·tape·specs.specs.declared.BlockFault.{BlockFault}
-use Rattle·tape·specs.specs.declared.BlockFault.the-variants as fault
+use Rattle.std.specs.Prelude.{ℕ}
+use Rattle.tape.specs.declared.BlockFault.{BlockFault}
+use Rattle.tape.specs.declared.BlockFault.TheVariants as fault
 
 unfoldable pub letterOf : BlockFault → ℕ
 letterOf fault.Kind = 75

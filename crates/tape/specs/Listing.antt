@@ -1,15 +1,12 @@
 -- "Instead: `L` too long, `S` not whole blocks, `X k` bad block k, in that order." (01, The listing); with it what is wrong (02, [4])
-use mathlib.Core.List.{List}
-use Prim.Native.Nat.{ℕ, _/_, _%_}
-use lib.Dec.{eqb, ltb}
-use lib.ListN.{length}
-use Rattle·lists.specs.Pick.{pick}
-use Rattle·tape·specs.specs.Numbers.{blockBytes}
-use Rattle·tape·specs.specs.Sweep.{sweptBelow}
-use Rattle·tape·specs.specs.declared.Image.{Image}
-use Rattle·tape·specs.specs.declared.Image.the-variants as image
-use Rattle·tape·specs.specs.declared.Swept.{Swept}
-use Rattle·tape·specs.specs.declared.Swept.the-variants as swept
+use Rattle.std.specs.Prelude.{List, ℕ, ◌/◌, ◌%◌, eqb, ltb, length}
+use Rattle.lists.specs.Pick.{pick}
+use Rattle.tape.specs.Numbers.{blockBytes}
+use Rattle.tape.specs.Sweep.{sweptBelow}
+use Rattle.tape.specs.declared.Image.{Image}
+use Rattle.tape.specs.declared.Image.TheVariants as image
+use Rattle.tape.specs.declared.Swept.{Swept}
+use Rattle.tape.specs.declared.Swept.TheVariants as swept
 
 -- "an image of at most 65,536 bytes"
 abbrev pub imageLimit : ℕ

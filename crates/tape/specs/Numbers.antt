@@ -1,5 +1,5 @@
 -- Every limit of the reel, named once. (01, "Numbers" and "The reel"; margin and recordLimit by 02, [7])
-use Prim.Native.Nat.{ℕ, _+_, _-_, _/_}
+use Rattle.std.specs.Prelude.{ℕ, ◌+◌, ◌-◌, ◌/◌}
 
 -- "blocks of 512 bytes": three words, 504 data bytes, and the check word
 abbrev pub blockBytes : ℕ
@@ -42,5 +42,5 @@ abbrev pub eotMarker : ℕ → ℕ
 eotMarker = eotMarkerUnder margin
 
 -- "A record of n bytes takes n/504 blocks rounded up"
-abbrev pub piecesOf : ℕ → ℕ
-piecesOf n = (n + (dataBytes - 1)) / dataBytes
+abbrev pub pieces_of : ℕ → ℕ
+pieces_of n = (n + (dataBytes - 1)) / dataBytes

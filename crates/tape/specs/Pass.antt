@@ -2,19 +2,16 @@
 -- by kind, length or index, is out of place; a record is met at index 0, in reverse at its last. A record cut off by either end is out
 -- of place at the first of its blocks met." (01, under the refusals). `reverse` says which way. "Mount, advance and the listing pass the fault up.
 -- Where document 01 says "out of place", the fault is index." (02, [4])
-use mathlib.Core.Bool.{Bool, true, false, _&&_}
-use mathlib.Core.List.{List}
-use Prim.Native.Nat.{ℕ, suc, _+_, _-_}
-use lib.Dec.{eqb, leb}
-use Rattle·lists.specs.Pick.{pick}
-use Rattle·tape·specs.specs.Numbers.{piecesOf, recordLimit}
-use Rattle·tape·specs.specs.Reading.{classAtUnder}
-use Rattle·tape·specs.specs.declared.BlockFault.{BlockFault}
-use Rattle·tape·specs.specs.declared.BlockFault.the-variants as fault
-use Rattle·tape·specs.specs.declared.Block.{Block}
-use Rattle·tape·specs.specs.declared.Block.the-variants as block
-use Rattle·tape·specs.specs.declared.Met.{Met}
-use Rattle·tape·specs.specs.declared.Met.the-variants as met
+use Rattle.std.specs.Prelude.{Bool, true, false, ◌&&◌, List, ℕ, suc, ◌+◌, ◌-◌, eqb, leb}
+use Rattle.lists.specs.Pick.{pick}
+use Rattle.tape.specs.Numbers.{pieces_of, recordLimit}
+use Rattle.tape.specs.Reading.{classAtUnder}
+use Rattle.tape.specs.declared.BlockFault.{BlockFault}
+use Rattle.tape.specs.declared.BlockFault.TheVariants as fault
+use Rattle.tape.specs.declared.Block.{Block}
+use Rattle.tape.specs.declared.Block.TheVariants as block
+use Rattle.tape.specs.declared.Met.{Met}
+use Rattle.tape.specs.declared.Met.TheVariants as met
 
 -- how many blocks lie ahead of position p: up to the recorded end e, or down to block 0
 abbrev pub ahead : Bool → ℕ → ℕ → ℕ
@@ -38,7 +35,7 @@ orderMet reverse m j = pick reverse (m - 1 - j) j
 
 -- is this block piece i of a record of n bytes?
 unfoldable pub isPiece : Block → ℕ → ℕ → Bool
-isPiece (block.Piece n′ i′) n i = eqb n′ n && eqb i′ i
+isPiece (block.Piece n' i') n i = eqb n' n && eqb i' i
 isPiece block.Mark n i = false
 isPiece block.Gap n i = false
 isPiece (block.Damaged f) n i = false
@@ -66,8 +63,8 @@ module _ (limit : ℕ) where
   -- a record of n bytes, met at piece i
   unfoldable pub recordMetUnder : List ℕ → Bool → ℕ → ℕ → ℕ → ℕ → Met
   recordMetUnder s reverse p e n i =
-      pick (eqb i (orderMet reverse (piecesOf n) 0) && leb (piecesOf n) (ahead reverse p e))
-      (piecesMetUnder s reverse n (lowest reverse p (piecesOf n)) (piecesOf n) 1 (piecesOf n - 1) (met.Record n (beyond reverse p (piecesOf n))))
+      pick (eqb i (orderMet reverse (pieces_of n) 0) && leb (pieces_of n) (ahead reverse p e))
+      (piecesMetUnder s reverse n (lowest reverse p (pieces_of n)) (pieces_of n) 1 (pieces_of n - 1) (met.Record n (beyond reverse p (pieces_of n))))
       (met.Bad fault.Index (firstMet reverse p))
 
   unfoldable pub metByUnder : List ℕ → Bool → ℕ → ℕ → Block → Met

@@ -1,18 +1,14 @@
 -- What one block is read as. Damaged is every block that is none of the three forms (DECISIONS, damage), and it is told what is wrong with it:
 -- "The block reader shall tell kind, length, index, padding and check apart, first in that order" (02, [4]).
-use mathlib.Core.Bool.{Bool, true, false, _&&_}
-use mathlib.Core.List.{List, [], _∷_}
-use Prim.Native.Nat.{ℕ, _+_, _-_, _*_, _/_, min}
-use lib.Dec.{eqb, leb, ltb}
-use lib.ListN.{length, take, drop}
-use Rattle·lists.specs.Pick.{pick}
-use Rattle·lists.specs.Words.{wordAt}
-use Rattle·tape·specs.specs.Numbers.{blockBytes, dataBytes, headBytes, piecesOf, recordLimit, summedBytes}
-use Rattle·tape·specs.specs.Layout.{checkOf, gapKind, markKind, pieceKind}
-use Rattle·tape·specs.specs.declared.BlockFault.{BlockFault}
-use Rattle·tape·specs.specs.declared.BlockFault.the-variants as fault
-use Rattle·tape·specs.specs.declared.Block.{Block}
-use Rattle·tape·specs.specs.declared.Block.the-variants as block
+use Rattle.std.specs.Prelude.{Bool, true, false, ◌&&◌, List, [], ◌∷◌, ℕ, ◌+◌, ◌-◌, ◌*◌, ◌/◌, min, eqb, leb, ltb, length, take, drop}
+use Rattle.lists.specs.Pick.{pick}
+use Rattle.lists.specs.Words.{word_at}
+use Rattle.tape.specs.Numbers.{blockBytes, dataBytes, headBytes, pieces_of, recordLimit, summedBytes}
+use Rattle.tape.specs.Layout.{checkOf, gapKind, markKind, pieceKind}
+use Rattle.tape.specs.declared.BlockFault.{BlockFault}
+use Rattle.tape.specs.declared.BlockFault.TheVariants as fault
+use Rattle.tape.specs.declared.Block.{Block}
+use Rattle.tape.specs.declared.Block.TheVariants as block
 
 -- "Kinds: 1 record piece, 2 tape mark, 3 erased gap."
 abbrev pub kindRight : ℕ → Bool
@@ -20,7 +16,7 @@ kindRight k = leb pieceKind k && leb k gapKind
 
 -- a record's indices run from 0; marks and gaps have 0 there
 abbrev pub indexRight : ℕ → ℕ → ℕ → Bool
-indexRight k n i = pick (eqb k pieceKind) (ltb i (piecesOf n)) (eqb i 0)
+indexRight k n i = pick (eqb k pieceKind) (ltb i (pieces_of n)) (eqb i 0)
 
 -- the data bytes that piece i of n bytes uses; marks and gaps use none
 abbrev pub usedOf : ℕ → ℕ → ℕ → ℕ
@@ -36,19 +32,19 @@ paddingRight b used = zeros (drop (headBytes + used) (take summedBytes b))
 
 -- "a last word: the sum of the 255 words before it, modulo 65,535"
 unfoldable pub checkRight : List ℕ → Bool
-checkRight b = eqb (wordAt b summedBytes) (checkOf (take summedBytes b))
+checkRight b = eqb (word_at b summedBytes) (checkOf (take summedBytes b))
 
 -- what a block with these three words is, if all of it is right
-abbrev pub kindOf : ℕ → ℕ → ℕ → Block
-kindOf k n i = pick (eqb k pieceKind) (block.Piece n i) (pick (eqb k markKind) block.Mark block.Gap)
+abbrev pub kind_of : ℕ → ℕ → ℕ → Block
+kind_of k n i = pick (eqb k pieceKind) (block.Piece n i) (pick (eqb k markKind) block.Mark block.Gap)
 
 -- one of the five: where it is wrong the block is damaged for that, else the next is looked at
 abbrev pub orDamaged : BlockFault → Bool → Block → Block
 orDamaged f right next = pick right next (block.Damaged f)
 
 -- block k of the reel s
-abbrev pub blockAt : List ℕ → ℕ → List ℕ
-blockAt s k = take blockBytes (drop (blockBytes * k) s)
+abbrev pub block_at : List ℕ → ℕ → List ℕ
+block_at s k = take blockBytes (drop (blockBytes * k) s)
 
 -- under any record limit
 module _ (limit : ℕ) where
@@ -62,14 +58,14 @@ module _ (limit : ℕ) where
       (orDamaged fault.Length (lengthRightUnder k n)
       (orDamaged fault.Index (indexRight k n i)
       (orDamaged fault.Padding (paddingRight b (usedOf k n i))
-      (orDamaged fault.Check (checkRight b) (kindOf k n i)))))
+      (orDamaged fault.Check (checkRight b) (kind_of k n i)))))
 
   unfoldable pub classOfUnder : List ℕ → Block
-  classOfUnder b = classByUnder b (wordAt b 0) (wordAt b 2) (wordAt b 4)
+  classOfUnder b = classByUnder b (word_at b 0) (word_at b 2) (word_at b 4)
 
   -- a block that the slice does not hold whole has no place there: every number is some answer
   unfoldable pub classAtUnder : List ℕ → ℕ → Block
-  classAtUnder s k = pick (ltb k (length s / blockBytes)) (classOfUnder (blockAt s k)) (block.Damaged fault.Index)
+  classAtUnder s k = pick (ltb k (length s / blockBytes)) (classOfUnder (block_at s k)) (block.Damaged fault.Index)
 
 -- and under this unit's own
 abbrev pub lengthRight : ℕ → ℕ → Bool
@@ -78,8 +74,8 @@ lengthRight = lengthRightUnder recordLimit
 abbrev pub classBy : List ℕ → ℕ → ℕ → ℕ → Block
 classBy = classByUnder recordLimit
 
-abbrev pub classOf : List ℕ → Block
-classOf = classOfUnder recordLimit
+abbrev pub class_of : List ℕ → Block
+class_of = classOfUnder recordLimit
 
-abbrev pub classAt : List ℕ → ℕ → Block
-classAt = classAtUnder recordLimit
+abbrev pub class_at : List ℕ → ℕ → Block
+class_at = classAtUnder recordLimit

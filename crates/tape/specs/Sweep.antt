@@ -1,13 +1,11 @@
 -- "Mount reads every block below the end it is given" (01, Calls): object after object from block 0, the first fault named.
-use mathlib.Core.List.{List}
-use mathlib.Core.Bool.{Bool, false}
-use Prim.Native.Nat.{ℕ, suc}
-use Rattle·tape·specs.specs.Numbers.{recordLimit}
-use Rattle·tape·specs.specs.Pass.{passedUnder}
-use Rattle·tape·specs.specs.declared.Met.{Met}
-use Rattle·tape·specs.specs.declared.Met.the-variants as met
-use Rattle·tape·specs.specs.declared.Swept.{Swept}
-use Rattle·tape·specs.specs.declared.Swept.the-variants as swept
+use Rattle.std.specs.Prelude.{List, Bool, false, ℕ, suc}
+use Rattle.tape.specs.Numbers.{recordLimit}
+use Rattle.tape.specs.Pass.{passedUnder}
+use Rattle.tape.specs.declared.Met.{Met}
+use Rattle.tape.specs.declared.Met.TheVariants as met
+use Rattle.tape.specs.declared.Swept.{Swept}
+use Rattle.tape.specs.declared.Swept.TheVariants as swept
 
 -- what one object says of the sweep; `onward` goes on from the position beyond it
 unfoldable pub sweptOn : Met → (ℕ → Swept) → Swept

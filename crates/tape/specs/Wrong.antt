@@ -1,38 +1,35 @@
 -- What is wrong with a block, by facts about its words and bytes. (01, The reel; 02, [4])
-use mathlib.Core.List.{List}
-use mathlib.Core.Path.{_≡_}
-use Prim.Native.Nat.{ℕ, _+_, _/_, _≤_, _<_}
-use lib.ListN.{length, take, getD}
-use Rattle·lists.specs.Words.{wordAt}
-use Rattle·tape·specs.specs.Numbers.{blockBytes, headBytes, piecesOf, recordLimit, summedBytes}
-use Rattle·tape·specs.specs.Layout.{checkOf, gapKind, markKind, pieceKind}
-use Rattle·tape·specs.specs.Reading.{blockAt, usedOf}
-use Rattle·tape·specs.specs.declared.BlockFault.{BlockFault}
-use Rattle·tape·specs.specs.declared.BlockFault.the-variants as fault
+use Rattle.std.specs.Prelude.{List, ◌≡◌, ℕ, ◌+◌, ◌/◌, ◌≤◌, ◌<◌, length, take, get_or}
+use Rattle.lists.specs.Words.{word_at}
+use Rattle.tape.specs.Numbers.{blockBytes, headBytes, pieces_of, recordLimit, summedBytes}
+use Rattle.tape.specs.Layout.{checkOf, gapKind, markKind, pieceKind}
+use Rattle.tape.specs.Reading.{block_at, usedOf}
+use Rattle.tape.specs.declared.BlockFault.{BlockFault}
+use Rattle.tape.specs.declared.BlockFault.TheVariants as fault
 
 -- "Kinds: 1 record piece, 2 tape mark, 3 erased gap."
 pub data KindGood (b : List ℕ) : Type 0 where
-  kind-piece : wordAt b 0 ≡ pieceKind → KindGood b
-  kind-mark : wordAt b 0 ≡ markKind → KindGood b
-  kind-gap : wordAt b 0 ≡ gapKind → KindGood b
+  kind-piece : word_at b 0 ≡ pieceKind → KindGood b
+  kind-mark : word_at b 0 ≡ markKind → KindGood b
+  kind-gap : word_at b 0 ≡ gapKind → KindGood b
 
 -- "Records: 1 to [65,535] bytes"; of marks and gaps "all else 0"
 pub data LengthGood (b : List ℕ) : Type 0 where
-  of-record : wordAt b 0 ≡ pieceKind → 1 ≤ wordAt b 2 → wordAt b 2 ≤ recordLimit → LengthGood b
-  of-blank : (wordAt b 0 ≡ pieceKind → ⊥) → wordAt b 2 ≡ 0 → LengthGood b
+  of-record : word_at b 0 ≡ pieceKind → 1 ≤ word_at b 2 → word_at b 2 ≤ recordLimit → LengthGood b
+  of-blank : (word_at b 0 ≡ pieceKind → ⊥) → word_at b 2 ≡ 0 → LengthGood b
 
 -- "A record of n bytes takes n/504 blocks rounded up; indices run from 0"
 pub data IndexGood (b : List ℕ) : Type 0 where
-  of-piece : wordAt b 0 ≡ pieceKind → wordAt b 4 < piecesOf (wordAt b 2) → IndexGood b
-  of-single : (wordAt b 0 ≡ pieceKind → ⊥) → wordAt b 4 ≡ 0 → IndexGood b
+  of-piece : word_at b 0 ≡ pieceKind → word_at b 4 < pieces_of (word_at b 2) → IndexGood b
+  of-single : (word_at b 0 ≡ pieceKind → ⊥) → word_at b 4 ≡ 0 → IndexGood b
 
 -- "unused data bytes are 0"
 abbrev pub PaddingGood : List ℕ → Type 0
-PaddingGood b = (j : ℕ) → headBytes + usedOf (wordAt b 0) (wordAt b 2) (wordAt b 4) ≤ j → j < summedBytes → getD b j 0 ≡ 0
+PaddingGood b = (j : ℕ) → headBytes + usedOf (word_at b 0) (word_at b 2) (word_at b 4) ≤ j → j < summedBytes → get_or b j 0 ≡ 0
 
 -- "a last word: the sum of the 255 words before it, modulo 65,535"
 abbrev pub CheckGood : List ℕ → Type 0
-CheckGood b = wordAt b summedBytes ≡ checkOf (take summedBytes b)
+CheckGood b = word_at b summedBytes ≡ checkOf (take summedBytes b)
 
 -- "kind, length, index, padding and check apart, first in that order": one of them is wrong, and all before it are right
 pub data FirstWrong (b : List ℕ) : BlockFault → Type 0 where
@@ -44,7 +41,7 @@ pub data FirstWrong (b : List ℕ) : BlockFault → Type 0 where
 
 -- what is wrong with block k of the reel s, which can't be taken: the first of the five; where none is, "out of place": index
 pub data WrongAt (s : List ℕ) (k : ℕ) : BlockFault → Type 0 where
-  by-itself : {f : BlockFault} → k < length s / blockBytes → FirstWrong (blockAt s k) f → WrongAt s k f
-  misplaced : k < length s / blockBytes → ((f : BlockFault) → FirstWrong (blockAt s k) f → ⊥) → WrongAt s k fault.Index
+  by_itself : {f : BlockFault} → k < length s / blockBytes → FirstWrong (block_at s k) f → WrongAt s k f
+  misplaced : k < length s / blockBytes → ((f : BlockFault) → FirstWrong (block_at s k) f → ⊥) → WrongAt s k fault.Index
   -- no call comes to it: the recorded end lies on the reel
-  not-there : length s / blockBytes ≤ k → WrongAt s k fault.Index
+  not_there : length s / blockBytes ≤ k → WrongAt s k fault.Index

@@ -1,7 +1,7 @@
 // What a reel is: its geometry, and the answers that reading it can give. The meaning stands in specs/.
-ghost use mathlib.Core.Path.{_≡_};
-ghost use Rattle·tape·specs.specs.Letters.{letterOf};
-ghost use Rattle·tape·specs.specs.Numbers.{eotMarker, piecesOf};
+ghost use Rattle.std.specs.Prelude.{◌≡◌};
+ghost use Rattle.tape.specs.Letters.{letterOf};
+ghost use Rattle.tape.specs.Numbers.{eotMarker, pieces_of};
 
 // The kinds of a block, as its word 0 has them.
 pub const PIECE_KIND: usize = 1;
@@ -11,6 +11,7 @@ pub const MARK_KIND: usize = 2;
 pub const GAP_KIND: usize = 3;
 
 // A reel of so many blocks, with the numbers that all reels share.
+#[derive(Drop)]
 pub struct Geometry {
     pub capacity: usize,
 }
@@ -43,7 +44,7 @@ impl Geometry {
 
     // The block that the EOT marker stands at.
     pub fn marker(self) -> usize
-        ensures { λ r. ⌜ r ≡ eotMarker (self .capacity) ⌝ }
+        ensures { result ≡ eotMarker self.capacity }
     {
         if self.capacity < Geometry::MARGIN {
             0
@@ -55,7 +56,7 @@ impl Geometry {
 
 // How many blocks a record of n bytes takes. A quotient first: no sum that could wrap.
 pub fn pieces(n: usize) -> usize
-    ensures { λ r. ⌜ r ≡ piecesOf n ⌝ }
+    ensures { result ≡ pieces_of n }
 {
     if n % Geometry::DATA == 0 {
         n / Geometry::DATA
@@ -65,6 +66,7 @@ pub fn pieces(n: usize) -> usize
 }
 
 // What is wrong with a block, in the order that the reader looks; also index, where a sound block is out of place.
+#[derive(Drop)]
 pub enum BlockFault {
     Kind,
     Length,
@@ -75,7 +77,7 @@ pub enum BlockFault {
 
 // The letter that stands for a fault, as a number of ASCII.
 pub fn letter(f: BlockFault) -> u8
-    ensures { λ r. ⌜ r ≡ letterOf f ⌝ }
+    ensures { result ≡ letterOf f }
 {
     match f {
         BlockFault::Kind => b'K',
@@ -87,6 +89,7 @@ pub fn letter(f: BlockFault) -> u8
 }
 
 // What a single block is read as.
+#[derive(Drop)]
 pub enum Block {
     // Piece i of a record of n bytes.
     Piece(usize, usize),
@@ -97,6 +100,7 @@ pub enum Block {
 }
 
 // What a pass over one object meets, and the position just beyond it.
+#[derive(Drop)]
 pub enum Met {
     Record(usize, usize),
     Mark(usize),
@@ -108,12 +112,14 @@ pub enum Met {
 }
 
 // What the mount's reading of every block below the end finds.
+#[derive(Drop)]
 pub enum Swept {
     Whole,
     Bad(BlockFault, usize),
 }
 
 // What the listing says of an image before any line: the paper's L, S and X, or the recorded end.
+#[derive(Drop)]
 pub enum Image {
     TooLong,
     NotWhole,

@@ -1,11 +1,11 @@
 -- A run of no bytes: nothing is gathered, and nothing is placed.
-use mathlib.Core.Path.{_≡_, refl}
+use mathlib.Core.Path.{◌≡◌, refl}
 use mathlib.Core.Bool.{Bool}
-use mathlib.Core.List.{List, [], _∷_}
+use mathlib.Core.List.{List, [], ◌∷◌}
 use Prim.Native.Nat.{ℕ}
 use native.Mathlib.Omega.{arith}
 use lib.ListN.{length}
-use Rattle·lists.specs.Places.{gathered, placed}
+use Rattle.lists.specs.Places.{gathered, placed}
 
 empty : (l : List ℕ) → length l ≡ 0 → l ≡ []
 empty [] h = refl

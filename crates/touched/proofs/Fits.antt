@@ -1,15 +1,15 @@
 -- Places that were tested lie inside memory and reel.
-use mathlib.Core.Path.{_≡_, sym, _∙_}
-use mathlib.Core.Bool.{Bool, true, false, _&&_, _||_, and-eq-true-iff, true≢false}
-use Prim.Native.Nat.{ℕ, _+_, _-_, _*_, _/_, _≤_}
+use mathlib.Core.Path.{◌≡◌, sym, ◌∙◌}
+use mathlib.Core.Bool.{Bool, true, false, ◌&&◌, ◌||◌, and-eq-true_iff, true≢false}
+use Prim.Native.Nat.{ℕ, ◌+◌, ◌-◌, ◌*◌, ◌/◌, ◌≤◌}
 use native.Mathlib.Omega.{arith}
 use borrow.Author.Tests.{le-leb, leb-false, leb-true, lt-leb, ltb-false, ltb-true}
 use lib.Dec.{eqb, leb, ltb}
-use Rattle·lists.proofs.Cases.{by-test}
-use Rattle·tape.specs.Numbers.{blockBytes}
-use Rattle·index.specs.Table.{placeLength}
-use Rattle·touched·specs.specs.declared.Touched.{Touched}
-use Rattle·touched·specs.specs.Touches.{PlacesIn, Sizes, TouchedIn, placeBelow, touchedFits}
+use Rattle.lists.proofs.Cases.{by-test}
+use Rattle.tape.specs.Numbers.{blockBytes}
+use Rattle.index.specs.Table.{placeLength}
+use Rattle.touched.specs.declared.Touched.{Touched}
+use Rattle.touched.specs.Touches.{PlacesIn, Sizes, TouchedIn, placeBelow, touchedFits}
 
 -- a run below a limit, by a difference and by a sum
 pub run-difference : (a n limit : ℕ) → n ≤ limit → leb a (limit - n) ≡ leb (a + n) limit
@@ -26,8 +26,8 @@ places-below top f h =
     (λ t. rw t (omega arith))
 
 -- a test that also asks whether there are so many places: either part of it means place 0
-pub below-none : (top f : ℕ) → (eqb f 0 || ltb top f) ≡ true → 0 ≡ placeBelow top f
-below-none top f h =
+pub below_none : (top f : ℕ) → (eqb f 0 || ltb top f) ≡ true → 0 ≡ placeBelow top f
+below_none top f h =
     by-test (eqb f 0)
     (λ t. rw t)
     (λ t. rw t (omega (arith, ltb-true top f (rw t at h))))
@@ -38,28 +38,28 @@ below-some top f h =
     (λ t. absurd (true≢false (rw t at h)))
     (λ t. (ltb-false top f (rw t at h), rw t))
 
-pub places-inside : (t : Touched) (top table : ℕ) → t .«place_at» ≡ placeBelow top (t .places) → t .places ≤ top → placeLength * top ≤ table → PlacesIn t table
-places-inside t top table e h k = rw e (omega (arith, places-below top (t .places) h))
+pub places-inside : (t : Touched) (top table : ℕ) → t.place_at ≡ placeBelow top t.places → t.places ≤ top → placeLength * top ≤ table → PlacesIn t table
+places-inside t top table e h k = rw e (omega (arith, places-below top t.places h))
 
 module _ (t : Touched) (memory reel : ℕ) where
   abbrev dataRun : Bool
-  dataRun = leb (t .«data_at» + t .«data_length») memory
+  dataRun = leb (t.data_at + t.data_length) memory
 
   abbrev messageRun : Bool
-  messageRun = leb (t .«message_at» + t .«message_length») memory
+  messageRun = leb (t.message_at + t.message_length) memory
 
   abbrev blocksRun : Bool
-  blocksRun = leb (t .«reel_at» + t .«reel_blocks») (reel / blockBytes)
+  blocksRun = leb (t.reel_at + t.reel_blocks) (reel / blockBytes)
 
-  pub fits-in : Sizes memory reel → touchedFits t memory reel ≡ true → TouchedIn t memory reel
+  pub fits_in : Sizes memory reel → touchedFits t memory reel ≡ true → TouchedIn t memory reel
   unfolding touchedFits
-  fits-in z h =
-      let p = and-eq-true-iff dataRun (messageRun && blocksRun) .0 h in
-      let q = and-eq-true-iff messageRun blocksRun .0 (p .1) in
-      let blocks = leb-true (t .«reel_at» + t .«reel_blocks») (reel / blockBytes) (q .1) in
+  fits_in z h =
+      let p = (and-eq-true_iff dataRun (messageRun && blocksRun)).0 h in
+      let q = (and-eq-true_iff messageRun blocksRun).0 p.1 in
+      let blocks = leb-true (t.reel_at + t.reel_blocks) (reel / blockBytes) q.1 in
       record {
-        in-memory = leb-true (t .«data_at» + t .«data_length») memory (p .0);
-        message-in-memory = leb-true (t .«message_at» + t .«message_length») memory (q .0);
+        in_memory = leb-true (t.data_at + t.data_length) memory p.0;
+        message-in-memory = leb-true (t.message_at + t.message_length) memory q.0;
         in-reel = omega (arith, blocks);
         sizes = z;
       }
@@ -68,7 +68,7 @@ module _ (t : Touched) (memory reel : ℕ) where
   unfolding touchedFits
   in-fits h =
       rw (
-        le-leb (t .«data_at» + t .«data_length») memory (h .in-memory),
-        le-leb (t .«message_at» + t .«message_length») memory (h .message-in-memory),
-        le-leb (t .«reel_at» + t .«reel_blocks») (reel / blockBytes) (omega (arith, h .in-reel)),
+        le-leb (t.data_at + t.data_length) memory h.in_memory,
+        le-leb (t.message_at + t.message_length) memory h.message-in-memory,
+        le-leb (t.reel_at + t.reel_blocks) (reel / blockBytes) (omega (arith, h.in-reel)),
       )

@@ -2,13 +2,10 @@
 // saves and brings back the bytes at these places without knowing what the step is.
 mod saving;
 
-pub use saving::bring_back;
-pub use saving::nothing;
-pub use saving::save;
-pub use saving::saved_length;
-pub use saving::touched_fits;
+pub use saving::{bring_back, nothing, save, saved_length, touched_fits};
 
 // The data's bytes at their places (SWB), the message's bytes, the reel's blocks, and the table's places that are filled.
+#[derive(Drop)]
 pub struct Touched {
     pub data_at: usize,
     pub data_length: usize,

@@ -1,20 +1,16 @@
 // Saving the bytes that a step is about to store over, and bringing them back.
+ghost use Rattle.std.specs.Prelude.{◌≡◌, ◌+◌, ◌≤◌, ◌%◌, leb, length};
+ghost use Rattle.lists.specs.Places.{gathered, placed};
+ghost use Rattle.touched.specs.Touches.{PlacesIn, Restored, TouchedIn, none, savedBytes, savedLength, touchedFits};
+
 use crate::Touched;
 use index::PLACE;
-use lists::copy;
-use lists::gather;
-use lists::scatter;
+use lists::{copy, gather, scatter};
 use tape::Geometry;
-ghost use mathlib.Core.Path.{_≡_};
-ghost use Prim.Native.Nat.{_+_, _≤_, _%_};
-ghost use lib.Dec.{leb};
-ghost use lib.ListN.{length};
-ghost use Rattle·lists.specs.Places.{gathered, placed};
-ghost use Rattle·touched·specs.specs.Touches.{PlacesIn, Restored, TouchedIn, none, savedBytes, savedLength, touchedFits};
 
 // No byte.
 pub fn nothing() -> Touched
-    ensures { λ r. ⌜ r ≡ none ⌝ }
+    ensures { result ≡ none }
 {
     Touched {
         data_at: 0,
@@ -31,15 +27,15 @@ pub fn nothing() -> Touched
 
 // How many bytes are saved, "data and message counted separately even if they overlap".
 pub fn saved_length(t: Touched, memory: usize, reel: usize) -> usize
-    requires { ⌜ TouchedIn t memory reel ⌝ }
-    ensures { λ r. ⌜ r ≡ savedLength t ⌝ }
+    requires { TouchedIn t memory reel }
+    ensures { result ≡ savedLength t }
 {
     t.data_length + t.message_length + Geometry::BLOCK * t.reel_blocks + PLACE * t.places as usize
 }
 
 // Does a run of n from a lie below a limit? A difference and no sum: the numbers may be made up.
 fn run_fits(a: usize, n: usize, limit: usize) -> bool
-    ensures { λ r. ⌜ r ≡ leb (a + n) limit ⌝ }
+    ensures { result ≡ leb (a + n) limit }
 {
     if limit < n {
         return false;
@@ -49,7 +45,7 @@ fn run_fits(a: usize, n: usize, limit: usize) -> bool
 
 // Do these places lie inside memory and reel, whose lengths in bytes these are?
 pub fn touched_fits(t: Touched, memory: usize, reel: usize) -> bool
-    ensures { λ r. ⌜ r ≡ touchedFits t memory reel ⌝ }
+    ensures { result ≡ touchedFits t memory reel }
 {
     let data = run_fits(t.data_at, t.data_length, memory);
     let message = run_fits(t.message_at, t.message_length, memory);
@@ -59,8 +55,8 @@ pub fn touched_fits(t: Touched, memory: usize, reel: usize) -> bool
 
 // The data's bytes from address a on fill b. Most steps move none, and are spared the call.
 fn save_data(b: &mut [u8], mem: &[u8], a: usize, swb: bool)
-    requires { ⌜ (a + length (now b) ≤ length (now mem)) × (length (now mem) % 2 ≡ 0) ⌝ }
-    ensures { λ _. ⌜ now (b .exit) ≡ gathered swb (now (mem .entry)) a (length (now (b .entry))) ⌝ }
+    requires { (a + length b.old ≤ length mem.now) × (length mem.now % 2 ≡ 0) }
+    ensures { b.new ≡ gathered swb mem.now a (length b.old) }
 {
     if b.len() == 0 {
         return;
@@ -70,8 +66,8 @@ fn save_data(b: &mut [u8], mem: &[u8], a: usize, swb: bool)
 
 // And back.
 fn bring_data(d: &[u8], mem: &mut [u8], a: usize, swb: bool)
-    requires { ⌜ (a + length (now d) ≤ length (now mem)) × (length (now mem) % 2 ≡ 0) ⌝ }
-    ensures { λ _. ⌜ now (mem .exit) ≡ placed swb (now (mem .entry)) a (now (d .entry)) ⌝ }
+    requires { (a + length d.now ≤ length mem.old) × (length mem.old % 2 ≡ 0) }
+    ensures { mem.new ≡ placed swb mem.old a d.now }
 {
     if d.len() == 0 {
         return;
@@ -81,8 +77,8 @@ fn bring_data(d: &[u8], mem: &mut [u8], a: usize, swb: bool)
 
 // The bytes at these places fill b: the data's, the message's, the reel's, the table's.
 pub fn save(b: &mut [u8], t: Touched, mem: &[u8], reel: &[u8], table: &[u8])
-    requires { ⌜ (length (now b) ≡ savedLength t) × TouchedIn t (length (now mem)) (length (now reel)) × PlacesIn t (length (now table)) ⌝ }
-    ensures { λ _. ⌜ now (b .exit) ≡ savedBytes t (now (mem .entry)) (now (reel .entry)) (now (table .entry)) ⌝ }
+    requires { (length b.old ≡ savedLength t) × TouchedIn t (length mem.now) (length reel.now) × PlacesIn t (length table.now) }
+    ensures { b.new ≡ savedBytes t mem.now reel.now table.now }
 {
     let message = t.data_length;
     let blocks = message + t.message_length;
@@ -106,8 +102,8 @@ pub fn save(b: &mut [u8], t: Touched, mem: &[u8], reel: &[u8], table: &[u8])
 
 // The bytes that were saved go back to their places; the data last, since the message went over it.
 pub fn bring_back(b: &[u8], t: Touched, mem: &mut [u8], reel: &mut [u8], table: &mut [u8])
-    requires { ⌜ (length (now b) ≡ savedLength t) × TouchedIn t (length (now mem)) (length (now reel)) × PlacesIn t (length (now table)) ⌝ }
-    ensures { λ _. ⌜ Restored t (now (b .entry)) (now (mem .entry)) (now (reel .entry)) (now (table .entry)) (now (mem .exit)) (now (reel .exit)) (now (table .exit)) ⌝ }
+    requires { (length b.now ≡ savedLength t) × TouchedIn t (length mem.old) (length reel.old) × PlacesIn t (length table.old) }
+    ensures { Restored t b.now mem.old reel.old table.old mem.new reel.new table.new }
 {
     let message = t.data_length;
     let blocks = message + t.message_length;

@@ -1,44 +1,44 @@
 -- A row of more than four: what a step back gives over its first four, it gives over the row. For the shell, which reads four records of the row and puts one back.
-use mathlib.Core.Path.{_≡_, refl, sym, ap, subst, _∙_}
+use mathlib.Core.Path.{◌≡◌, refl, sym, ap, subst, ◌∙◌}
 use mathlib.Core.Bool.{Bool, true, false}
-use mathlib.Core.List.{List, [], _∷_, _++_}
-use Prim.Native.Nat.{ℕ, zero, suc, _≤_, _<_}
+use mathlib.Core.List.{List, [], ◌∷◌, ◌++◌}
+use Prim.Native.Nat.{ℕ, zero, suc, ◌≤◌, ◌<◌}
 use native.Mathlib.Omega.{arith}
 use borrow.Author.Tests.{eqb-false, lt-ltb, ltb-false, ltb-true}
 use lib.Dec.{eqb, ltb}
-use lib.ListN.{drop, getD, length, set, take}
-use Rattle·lists.specs.Pick.{pick}
-use Rattle·lists.proofs.Cases.{by-test}
-use Rattle·commands.specs.Answers.{numberOf}
-use Rattle·commands.specs.declared.plans.Answer.{Answer}
-use Rattle·commands.specs.declared.plans.Answer.the-variants as answer
-use Rattle·entries.specs.Entries.{transports, usedIn}
-use Rattle·worlds.specs.Coupled.{CoupledAnswer, Deck, Rig, couplerIn, namedIn}
-use Rattle·records.specs.Records.{transportIn}
-use Rattle·records.specs.Shares as shares
-use Rattle·records.specs.declared.records.UnitRecord.{UnitRecord}
-use Rattle·ts11·specs.specs.Backs.{Buffers, TakesBack, backGiven, buffersAfter, couplerAfter, decksIn, noBuffers, rowAfter, rowFrom}
-use Rattle·ts11·specs.specs.Rows.{noRecord}
-use Rattle·ts11·specs.specs.declared.shared.Back.{Back}
-use Rattle·ts11·proofs.proofs.Backing.{done-few}
+use lib.ListN.{drop, get_or, length, set, take}
+use Rattle.lists.specs.Pick.{pick}
+use Rattle.lists.proofs.Cases.{by-test}
+use Rattle.commands.specs.Answers.{number_of}
+use Rattle.commands.specs.declared.plans.Answer.{Answer}
+use Rattle.commands.specs.declared.plans.Answer.TheVariants as answer
+use Rattle.entries.specs.Entries.{transports, usedIn}
+use Rattle.worlds.specs.Coupled.{CoupledAnswer, Deck, Rig, couplerIn, named_in}
+use Rattle.records.specs.Records.{transportIn}
+use Rattle.records.specs.Shares as shares
+use Rattle.records.specs.declared.records.UnitRecord.{UnitRecord}
+use Rattle.ts11.specs.Backs.{Buffers, TakesBack, backGiven, buffersAfter, couplerAfter, decksIn, noBuffers, rowAfter, rowFrom}
+use Rattle.ts11.specs.Rows.{noRecord}
+use Rattle.ts11.specs.declared.shared.Back.{Back}
+use Rattle.ts11.proofs.Backing.{done-few}
 
 -- the four records that the shell reads, of which those past the row may be any
-pub row-from : (row : List UnitRecord) (a b c d : UnitRecord) → (0 < length row → a ≡ getD row 0 noRecord) → (1 < length row → b ≡ getD row 1 noRecord) → (2 < length row → c ≡ getD row 2 noRecord) → (3 < length row → d ≡ getD row 3 noRecord) → rowFrom (length row) a b c d ≡ take transports row
-row-from [] a b c d f g h i = refl
-row-from (u ∷ []) a b c d f g h i = rw (f (omega arith))
-row-from (u ∷ v ∷ []) a b c d f g h i = rw (f (omega arith), g (omega arith))
-row-from (u ∷ v ∷ w ∷ []) a b c d f g h i = rw (f (omega arith), g (omega arith), h (omega arith))
-row-from (u ∷ v ∷ w ∷ x ∷ us) a b c d f g h i = rw (f (omega arith), g (omega arith), h (omega arith), i (omega arith), none-left (length us))
+pub row_from : (row : List UnitRecord) (a b c d : UnitRecord) → (0 < length row → a ≡ get_or row 0 noRecord) → (1 < length row → b ≡ get_or row 1 noRecord) → (2 < length row → c ≡ get_or row 2 noRecord) → (3 < length row → d ≡ get_or row 3 noRecord) → rowFrom (length row) a b c d ≡ take transports row
+row_from [] a b c d f g h i = refl
+row_from (u ∷ []) a b c d f g h i = rw (f (omega arith))
+row_from (u ∷ v ∷ []) a b c d f g h i = rw (f (omega arith), g (omega arith))
+row_from (u ∷ v ∷ w ∷ []) a b c d f g h i = rw (f (omega arith), g (omega arith), h (omega arith))
+row_from (u ∷ v ∷ w ∷ x ∷ us) a b c d f g h i = rw (f (omega arith), g (omega arith), h (omega arith), i (omega arith), none_left (length us))
   where
-    none-left : (n : ℕ) → take {A = UnitRecord} n [] ≡ []
-    none-left zero = refl
-    none-left (suc n) = refl
+    none_left : (n : ℕ) → take {A = UnitRecord} n [] ≡ []
+    none_left zero = refl
+    none_left (suc n) = refl
 
 module _ {A : Type 0} where
-  take-twice : (n : ℕ) (l : List A) → take n (take n l) ≡ take n l
-  take-twice zero l = refl
-  take-twice (suc n) [] = refl
-  take-twice (suc n) (x ∷ l) = ap (λ (t : List A). x ∷ t) (take-twice n l)
+  take_twice : (n : ℕ) (l : List A) → take n (take n l) ≡ take n l
+  take_twice zero l = refl
+  take_twice (suc n) [] = refl
+  take_twice (suc n) (x ∷ l) = ap (λ (t : List A). x ∷ t) (take_twice n l)
 
   take-set : (n k : ℕ) (l : List A) (y : A) → k < n → take n (set l k y) ≡ set (take n l) k y
   take-set zero k l y h = absurd (omega arith)
@@ -57,31 +57,31 @@ module _ {A : Type 0} where
   parts (suc n) [] = refl
   parts (suc n) (x ∷ l) = ap (λ (t : List A). x ∷ t) (parts n l)
 
-  pub same-parts : (n : ℕ) (l k : List A) → take n l ≡ take n k → drop n l ≡ drop n k → l ≡ k
-  same-parts n l k f g = parts n l ∙ ap (λ (t : List A). t ++ drop n l) f ∙ ap (λ (t : List A). take n k ++ t) g ∙ sym (parts n k)
+  pub same_parts : (n : ℕ) (l k : List A) → take n l ≡ take n k → drop n l ≡ drop n k → l ≡ k
+  same_parts n l k f g = parts n l ∙ ap (λ (t : List A). t ++ drop n l) f ∙ ap (λ (t : List A). take n k ++ t) g ∙ sym (parts n k)
 
-  in-take : (n i : ℕ) (l : List A) → i < n → i < length l → i < length (take n l)
-  in-take zero i l h f = absurd (omega arith)
-  in-take (suc n) i [] h f = f
-  in-take (suc n) zero (x ∷ l) h f = omega arith
-  in-take (suc n) (suc i) (x ∷ l) h f = let p = in-take n i l (omega arith) (omega arith) in omega (arith, p)
+  in_take : (n i : ℕ) (l : List A) → i < n → i < length l → i < length (take n l)
+  in_take zero i l h f = absurd (omega arith)
+  in_take (suc n) i [] h f = f
+  in_take (suc n) zero (x ∷ l) h f = omega arith
+  in_take (suc n) (suc i) (x ∷ l) h f = let p = in_take n i l (omega arith) (omega arith) in omega (arith, p)
 
-  take-in : (n i : ℕ) (l : List A) → i < length (take n l) → (i < n) × (i < length l)
-  take-in zero i l h = absurd (omega (arith, h))
-  take-in (suc n) i [] h = absurd (omega (arith, h))
-  take-in (suc n) zero (x ∷ l) h = (omega arith, omega arith)
-  take-in (suc n) (suc i) (x ∷ l) h =
+  take_in : (n i : ℕ) (l : List A) → i < length (take n l) → (i < n) × (i < length l)
+  take_in zero i l h = absurd (omega (arith, h))
+  take_in (suc n) i [] h = absurd (omega (arith, h))
+  take_in (suc n) zero (x ∷ l) h = (omega arith, omega arith)
+  take_in (suc n) (suc i) (x ∷ l) h =
       let less : i < length (take n l) = omega (arith, h) in
-      let p = take-in n i l less in
-      (omega (arith, p .0), omega (arith, p .1))
+      let p = take_in n i l less in
+      (omega (arith, p.0), omega (arith, p.1))
 
   long-take : (n i : ℕ) (l : List A) → i < n → ltb i (length (take n l)) ≡ ltb i (length l)
   long-take n i l h =
       by-test (ltb i (length l))
-      (λ t. rw (t, lt-ltb i (length (take n l)) (in-take n i l h (ltb-true i (length l) t))))
+      (λ t. rw (t, lt-ltb i (length (take n l)) (in_take n i l h (ltb-true i (length l) t))))
       (λ t.
       by-test (ltb i (length (take n l)))
-      (λ v. absurd (let p = take-in n i l (ltb-true i (length (take n l)) v) in omega (arith, p .1, ltb-false i (length l) t)))
+      (λ v. absurd (let p = take_in n i l (ltb-true i (length (take n l)) v) in omega (arith, p.1, ltb-false i (length l) t)))
       (λ v. rw (t, v)))
 
 decks-take : (n : ℕ) (row : List UnitRecord) (bs : List Buffers) → length bs ≤ n → decksIn (take n row) bs ≡ decksIn row bs
@@ -91,7 +91,7 @@ decks-take (suc n) [] bs h = refl
 decks-take zero (u ∷ us) [] h = refl
 decks-take zero (u ∷ us) (b ∷ bs) h = absurd (omega arith)
 decks-take (suc n) (u ∷ us) [] h = refl
-decks-take (suc n) (u ∷ us) (b ∷ bs) h = ap (λ (t : List Deck). record { transport = transportIn (u .numbers); reel = b .reel; table = b .table } ∷ t) (decks-take n us bs (omega arith))
+decks-take (suc n) (u ∷ us) (b ∷ bs) h = ap (λ (t : List Deck). record { transport = transportIn u.numbers; reel = b.reel; table = b.table } ∷ t) (decks-take n us bs (omega arith))
 
 below : (k n : ℕ) → k ≤ n → (k ≡ n → ⊥) → k < n
 below zero zero h f = absurd (f refl)
@@ -121,33 +121,33 @@ module _ (row : List UnitRecord) where
   module _ (sh m j : List ℕ) (bs : List Buffers) (long : length bs ≡ transports) where
     given-four : backGiven (take transports row) sh m j bs ≡ backGiven row sh m j bs
     unfolding backGiven
-    given-four = rw (take-twice transports row, decks-take transports row bs (omega (arith, long)))
+    given-four = rw (take_twice transports row, decks-take transports row bs (omega (arith, long)))
 
-    pub over-row : (r : Back) (sh′ m′ : List ℕ) (bs′ : List Buffers) → TakesBack (take transports row) sh m j bs r sh′ m′ bs′ → TakesBack row sh m j bs r sh′ m′ bs′
-    over-row r sh′ m′ bs′ p =
-        let k : ℕ = namedIn (usedIn (shares.couplerIn sh .used) j) in
+    pub over-row : (r : Back) (sh' m' : List ℕ) (bs' : List Buffers) → TakesBack (take transports row) sh m j bs r sh' m' bs' → TakesBack row sh m j bs r sh' m' bs'
+    over-row r sh' m' bs' p =
+        let k : ℕ = named_in (usedIn (shares.couplerIn sh).used j) in
         let x : CoupledAnswer = backGiven row sh m j bs in
-        let after = after-parts (x .answer) k (x .coupled .rig) (λ i e. done-few row sh m j bs i e) in
-        let put = put-parts (r .put) (r .unit) (r .record) (λ h. take-in transports (r .unit) row (p .inside h) .0) in
+        let after = after-parts x.answer k x.coupled.rig (λ i e. done-few row sh m j bs i e) in
+        let put = put-parts r.put r.unit r.record (λ h. (take_in transports r.unit row (p.inside h)).0) in
         record {
           gives =
               record {
-                answer = p .gives .answer ∙ ap (λ (z : CoupledAnswer). numberOf (z .answer)) given-four;
-                row-is =
-                    same-parts transports (pick (r .put) (set row (r .unit) (r .record)) row) (rowAfter row (x .answer) k (x .coupled .rig))
-                    (put .0 ∙ p .gives .row-is ∙ ap (λ (z : CoupledAnswer). rowAfter (take transports row) (z .answer) k (z .coupled .rig)) given-four ∙ sym (after .0))
-                    (put .1 ∙ sym (after .1));
-                shared = p .gives .shared ∙ ap (λ (z : CoupledAnswer). couplerAfter sh (z .answer) (couplerIn (z .coupled))) given-four;
-                memory = p .gives .memory ∙ ap (λ (z : CoupledAnswer). z .coupled .rig .memory) given-four;
+                answer = p.gives.answer ∙ ap (λ (z : CoupledAnswer). number_of z.answer) given-four;
+                row_is =
+                    same_parts transports (pick r.put (set row r.unit r.record) row) (rowAfter row x.answer k x.coupled.rig)
+                    (put.0 ∙ p.gives.row_is ∙ ap (λ (z : CoupledAnswer). rowAfter (take transports row) z.answer k z.coupled.rig) given-four ∙ sym after.0)
+                    (put.1 ∙ sym after.1);
+                shared = p.gives.shared ∙ ap (λ (z : CoupledAnswer). couplerAfter sh z.answer (couplerIn z.coupled)) given-four;
+                memory = p.gives.memory ∙ ap (λ (z : CoupledAnswer). z.coupled.rig.memory) given-four;
                 buffers = λ i f.
-                    p .gives .buffers i f ∙ ap (λ (z : CoupledAnswer). buffersAfter (take transports row) (z .coupled .rig) i (getD bs i noBuffers)) given-four ∙ rw (long-take transports i row f);
+                    p.gives.buffers i f ∙ ap (λ (z : CoupledAnswer). buffersAfter (take transports row) z.coupled.rig i (get_or bs i noBuffers)) given-four ∙ rw (long-take transports i row f);
               };
-          inside = λ h. take-in transports (r .unit) row (p .inside h) .1;
+          inside = λ h. (take_in transports r.unit row (p.inside h)).1;
         }
 
     -- what the shell takes from the call on four records by value
-    pub shell-back : (a b c d : UnitRecord) (r : Back) (sh′ m′ : List ℕ) (bs′ : List Buffers) → (0 < length row → a ≡ getD row 0 noRecord) → (1 < length row → b ≡ getD row 1 noRecord) → (2 < length row → c ≡ getD row 2 noRecord) → (3 < length row → d ≡ getD row 3 noRecord)
-        → TakesBack (rowFrom (length row) a b c d) sh m j bs r sh′ m′ bs′
-        → TakesBack row sh m j bs r sh′ m′ bs′
-    shell-back a b c d r sh′ m′ bs′ f g h i p =
-        over-row r sh′ m′ bs′ (subst (λ (l : List UnitRecord). TakesBack l sh m j bs r sh′ m′ bs′) (row-from row a b c d f g h i) p)
+    pub shell-back : (a b c d : UnitRecord) (r : Back) (sh' m' : List ℕ) (bs' : List Buffers) → (0 < length row → a ≡ get_or row 0 noRecord) → (1 < length row → b ≡ get_or row 1 noRecord) → (2 < length row → c ≡ get_or row 2 noRecord) → (3 < length row → d ≡ get_or row 3 noRecord)
+        → TakesBack (rowFrom (length row) a b c d) sh m j bs r sh' m' bs'
+        → TakesBack row sh m j bs r sh' m' bs'
+    shell-back a b c d r sh' m' bs' f g h i p =
+        over-row r sh' m' bs' (subst (λ (l : List UnitRecord). TakesBack l sh m j bs r sh' m' bs') (row_from row a b c d f g h i) p)

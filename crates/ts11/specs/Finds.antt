@@ -1,17 +1,14 @@
 -- What an exported look-up gives: the journal's answer as a number, and the place that was found.
-use mathlib.Core.Bool.{Bool, true, false}
-use mathlib.Core.List.{List}
-use mathlib.Core.Path.{_≡_}
-use Prim.Native.Nat.{ℕ}
-use Rattle·lists.specs.Pick.{pick}
-use Rattle·index.specs.declared.Found.{Found}
-use Rattle·index.specs.declared.Found.the-variants as found
-use Rattle·commands.specs.Answers.{numberOf}
-use Rattle·commands.specs.declared.plans.Answer.the-variants as answer
-use Rattle·worlds.specs.Calls.{blockOn, fileOn}
-use Rattle·worlds.specs.declared.Finding.{Finding}
-use Rattle·records.specs.Records.{isRecord}
-use Rattle·ts11·specs.specs.Given.{sessionIn}
+use Rattle.std.specs.Prelude.{Bool, true, false, List, ◌≡◌, ℕ}
+use Rattle.lists.specs.Pick.{pick}
+use Rattle.index.specs.declared.Found.{Found}
+use Rattle.index.specs.declared.Found.TheVariants as found
+use Rattle.commands.specs.Answers.{number_of}
+use Rattle.commands.specs.declared.plans.Answer.TheVariants as answer
+use Rattle.worlds.specs.Calls.{blockOn, fileOn}
+use Rattle.worlds.specs.declared.Finding.{Finding}
+use Rattle.records.specs.Records.{isRecord}
+use Rattle.ts11.specs.Given.{sessionIn}
 
 -- numbers that are no transport's record are refused with 1
 abbrev pub noFinding : Finding
@@ -33,6 +30,6 @@ placeFound (found.At i) = i
 placeFound found.Nowhere = 0
 
 pub record Finds (x : Finding) (number : ℕ) (f : Bool) (i : ℕ) : Type 0 where
-  pub answer : number ≡ numberOf (x .answer)
-  pub found : f ≡ isFound (x .found)
-  pub place : i ≡ placeFound (x .found)
+  pub answer : number ≡ number_of x.answer
+  pub found : f ≡ isFound x.found
+  pub place : i ≡ placeFound x.found

@@ -1,13 +1,9 @@
 -- A call of unit k of a row: "Refusals: 12 for a unit not present, checked first" (02, [9]), and then nothing is changed. Else its own record is taken out and put back, and no
 -- other is touched.
-use mathlib.Core.Bool.{Bool, true, false}
-use mathlib.Core.List.{List}
-use mathlib.Core.Path.{_≡_}
-use Prim.Native.Nat.{ℕ, _<_}
-use lib.ListN.{getD, length, replicate, set}
-use Rattle·worlds.specs.Rows.{absentIn}
-use Rattle·records.specs.Records.{recordCount}
-use Rattle·records.specs.declared.records.UnitRecord.{UnitRecord}
+use Rattle.std.specs.Prelude.{Bool, true, false, List, ◌≡◌, ℕ, ◌<◌, get_or, length, replicate, set}
+use Rattle.worlds.specs.Rows.{absentIn}
+use Rattle.records.specs.Records.{recordCount}
+use Rattle.records.specs.declared.records.UnitRecord.{UnitRecord}
 
 -- the record that was never mounted
 abbrev pub noRecord : UnitRecord
@@ -15,13 +11,13 @@ noRecord = record { numbers = replicate recordCount 0 }
 
 -- the numbers of record k
 abbrev pub recordAt : List UnitRecord → ℕ → List ℕ
-recordAt row k = getD row k noRecord .numbers
+recordAt row k = (get_or row k noRecord).numbers
 
 -- absent, the number is 12 and Same says what stays; present, Does says what becomes of its record, and every other record stays
-pub record AtRow (row : List UnitRecord) (k number : ℕ) (row′ : List UnitRecord) (Same : Type 0) (Does : List ℕ → List ℕ → Type 0) : Type 0 where
-  pub absent : absentIn (length row) k ≡ true → (number ≡ 12) × (row′ ≡ row) × Same
-  pub present : absentIn (length row) k ≡ false → Does (recordAt row k) (recordAt row′ k)
-  pub others : row′ ≡ set row k (getD row′ k noRecord)
+pub record AtRow (row : List UnitRecord) (k number : ℕ) (row' : List UnitRecord) (Same : Type 0) (Does : List ℕ → List ℕ → Type 0) : Type 0 where
+  pub absent : absentIn (length row) k ≡ true → (number ≡ 12) × (row' ≡ row) × Same
+  pub present : absentIn (length row) k ≡ false → Does (recordAt row k) (recordAt row' k)
+  pub others : row' ≡ set row k (get_or row' k noRecord)
 
 -- a call that only looks
 pub record LooksAt (row : List UnitRecord) (k number : ℕ) (Nothing : Type 0) (Sees : List ℕ → Type 0) : Type 0 where

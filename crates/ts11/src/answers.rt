@@ -1,14 +1,15 @@
 // An answer as numbers.
+ghost use Rattle.std.specs.Prelude.{◌≡◌};
+ghost use Rattle.commands.specs.Answers.{blockIn, faultIn, interruptIn, isStep, number_of};
+ghost use Rattle.ts11.specs.Given.{actOf, registerOf};
+
 use commands::Answer;
 use state::Act;
 use unit::Register;
-ghost use mathlib.Core.Path.{_≡_};
-ghost use Rattle·commands.specs.Answers.{blockIn, faultIn, interruptIn, isStep, numberOf};
-ghost use Rattle·ts11·specs.specs.Given.{actOf, registerOf};
 
 // The block at fault, with refusal 7, else 0.
 pub fn block_in(a: Answer) -> usize
-    ensures { λ r. ⌜ r ≡ blockIn a ⌝ }
+    ensures { result ≡ blockIn a }
 {
     match a {
         Answer::BadBlock(_, k) => k,
@@ -20,7 +21,7 @@ pub fn block_in(a: Answer) -> usize
 
 // The letter of what is wrong with it, with refusal 7, else 0.
 pub fn fault_in(a: Answer) -> u8
-    ensures { λ r. ⌜ r ≡ faultIn a ⌝ }
+    ensures { result ≡ faultIn a }
 {
     match a {
         Answer::BadBlock(fault, _) => tape::letter(fault),
@@ -32,7 +33,7 @@ pub fn fault_in(a: Answer) -> u8
 
 // Whether a step was taken.
 pub fn is_step(a: Answer) -> bool
-    ensures { λ r. ⌜ r ≡ isStep a ⌝ }
+    ensures { result ≡ isStep a }
 {
     match a {
         Answer::Done(_) => true,
@@ -43,7 +44,7 @@ pub fn is_step(a: Answer) -> bool
 }
 
 pub fn interrupts(a: Answer) -> bool
-    ensures { λ r. ⌜ r ≡ interruptIn a ⌝ }
+    ensures { result ≡ interruptIn a }
 {
     match a {
         Answer::Done(i) => i,
@@ -55,7 +56,7 @@ pub fn interrupts(a: Answer) -> bool
 
 // The paper's number of an answer.
 pub fn number_in(a: Answer) -> usize
-    ensures { λ r. ⌜ r ≡ numberOf a ⌝ }
+    ensures { result ≡ number_of a }
 {
     match a {
         Answer::Done(_) => 0,
@@ -66,7 +67,7 @@ pub fn number_in(a: Answer) -> usize
 }
 
 pub fn act_of(write_lock: bool, on: bool) -> Act
-    ensures { λ r. ⌜ r ≡ actOf «write_lock» on ⌝ }
+    ensures { result ≡ actOf write_lock on }
 {
     if write_lock {
         if on { Act::Lock } else { Act::Unlock }
@@ -76,7 +77,7 @@ pub fn act_of(write_lock: bool, on: bool) -> Act
 }
 
 pub fn register_of(tssr: bool) -> Register
-    ensures { λ r. ⌜ r ≡ registerOf tssr ⌝ }
+    ensures { result ≡ registerOf tssr }
 {
     if tssr { Register::Tssr } else { Register::Tsba }
 }

@@ -1,17 +1,16 @@
 // Look-ups in a unit's table: they change nothing.
+ghost use Rattle.std.specs.Prelude.{false, ◌≡◌};
+ghost use Rattle.ts11.specs.Finds.{Finds, blockGiven, fileGiven, isFound, noFinding, placeFound};
+
 use crate::answers::number_in;
 use crate::units::session_in;
 use commands::Answer;
 use index::Found;
-use records::UnitRecord;
-use records::record_right;
+use records::{UnitRecord, record_right};
 use worlds::Finding;
-ghost use mathlib.Core.Bool.{false};
-ghost use mathlib.Core.Path.{_≡_};
-ghost use Rattle·ts11·specs.specs.Finds.{Finds, blockGiven, fileGiven, isFound, noFinding, placeFound};
 
 fn is_found(x: Found) -> bool
-    ensures { λ r. ⌜ r ≡ isFound x ⌝ }
+    ensures { result ≡ isFound x }
 {
     match x {
         Found::At(_) => true,
@@ -21,7 +20,7 @@ fn is_found(x: Found) -> bool
 
 // The place, or 0.
 fn place_found(x: Found) -> usize
-    ensures { λ r. ⌜ r ≡ placeFound x ⌝ }
+    ensures { result ≡ placeFound x }
 {
     match x {
         Found::At(i) => i,
@@ -31,7 +30,7 @@ fn place_found(x: Found) -> usize
 
 // A record that is no transport's.
 fn no_finding() -> Finding
-    ensures { λ r. ⌜ r ≡ noFinding ⌝ }
+    ensures { result ≡ noFinding }
 {
     Finding {
         answer: Answer::Refused(1),
@@ -40,7 +39,7 @@ fn no_finding() -> Finding
 }
 
 fn file_given(record: UnitRecord, shared: &[u32; 3], table: &[u8], file: usize) -> Finding
-    ensures { λ r. ⌜ r ≡ fileGiven («record» .numbers) (now (shared .entry)) (now (table .entry)) file ⌝ }
+    ensures { result ≡ fileGiven «record».numbers shared.now table.now file }
 {
     if !record_right(record) {
         return no_finding();
@@ -49,7 +48,7 @@ fn file_given(record: UnitRecord, shared: &[u32; 3], table: &[u8], file: usize) 
 }
 
 fn block_given(record: UnitRecord, shared: &[u32; 3], table: &[u8], block: usize) -> Finding
-    ensures { λ r. ⌜ r ≡ blockGiven («record» .numbers) (now (shared .entry)) (now (table .entry)) block ⌝ }
+    ensures { result ≡ blockGiven «record».numbers shared.now table.now block }
 {
     if !record_right(record) {
         return no_finding();
@@ -66,7 +65,7 @@ pub fn find_file(
     found: &mut bool,
     place: &mut usize,
 ) -> usize
-    ensures { λ r. ⌜ Finds (fileGiven («record» .numbers) (now (shared .entry)) (now (table .entry)) file) r (now (found .exit)) (now (place .exit)) ⌝ }
+    ensures { Finds (fileGiven «record».numbers shared.now table.now file) result found.new place.new }
 {
     let r = file_given(record, shared, table, file);
     let answer = r.answer;
@@ -85,7 +84,7 @@ pub fn find_block(
     found: &mut bool,
     place: &mut usize,
 ) -> usize
-    ensures { λ r. ⌜ Finds (blockGiven («record» .numbers) (now (shared .entry)) (now (table .entry)) block) r (now (found .exit)) (now (place .exit)) ⌝ }
+    ensures { Finds (blockGiven «record».numbers shared.now table.now block) result found.new place.new }
 {
     let r = block_given(record, shared, table, block);
     let answer = r.answer;
@@ -96,7 +95,7 @@ pub fn find_block(
 }
 
 pub fn not_found(found: &mut bool, place: &mut usize) -> usize
-    ensures { λ r. ⌜ (r ≡ 12) × ((now (found .exit)) ≡ false) × ((now (place .exit)) ≡ 0) ⌝ }
+    ensures { (result ≡ 12) × (found.new ≡ false) × (place.new ≡ 0) }
 {
     *found = false;
     *place = 0;

@@ -1,26 +1,17 @@
 // The exported calls of one unit of a row: it takes the unit's record out, calls the step on it by value, and puts it back. A buffer is a pointer and a length; buffers do not
 // overlap.
-use crate::finds::find_block;
-use crate::finds::find_file;
-use crate::finds::not_found;
-use crate::shared::step_back;
-use crate::shared::step_back_none;
-use crate::units::advance;
-use crate::units::mount;
-use crate::units::operate;
-use crate::units::read_register;
-use crate::units::write_tsdb;
-use crate::units::write_tssr;
+ghost use Rattle.std.specs.Prelude.{false, ◌≡◌, ◌<◌};
+ghost use Rattle.unit.specs.Asks.{Ask};
+ghost use Rattle.ts11.specs.Backs.{BackGives, four};
+ghost use Rattle.ts11.specs.Finds.{Finds, blockGiven, fileGiven};
+ghost use Rattle.ts11.specs.Given.{Gives, Mounts, Reads, Tells, actOf, holding, mountGiven, registerGiven, stepGiven, tableGiven};
+ghost use Rattle.ts11.specs.Rows.{AtRow, Clamped, LooksAt, NothingTold};
+
+use crate::finds::{find_block, find_file, not_found};
+use crate::shared::{step_back, step_back_none};
+use crate::units::{advance, mount, operate, read_register, write_tsdb, write_tssr};
 use entries::TRANSPORTS;
 use records::UnitRecord;
-ghost use mathlib.Core.Bool.{false};
-ghost use mathlib.Core.Path.{_≡_};
-ghost use Prim.Native.Nat.{_<_};
-ghost use Rattle·unit.specs.Asks.{Ask};
-ghost use Rattle·ts11·specs.specs.Backs.{BackGives, four};
-ghost use Rattle·ts11·specs.specs.Finds.{Finds, blockGiven, fileGiven};
-ghost use Rattle·ts11·specs.specs.Given.{Gives, Mounts, Reads, Tells, actOf, holding, mountGiven, registerGiven, stepGiven, tableGiven};
-ghost use Rattle·ts11·specs.specs.Rows.{AtRow, Clamped, LooksAt, NothingTold};
 
 fn nothing_told(
     stepped: &mut bool,
@@ -28,7 +19,7 @@ fn nothing_told(
     block: &mut usize,
     fault: &mut u8,
 ) -> usize
-    ensures { λ r. ⌜ (r ≡ 12) × NothingTold (now (stepped .exit)) (now (interrupt .exit)) (now (block .exit)) (now (fault .exit)) ⌝ }
+    ensures { (result ≡ 12) × NothingTold stepped.new interrupt.new block.new fault.new }
 {
     *stepped = false;
     *interrupt = false;
@@ -38,7 +29,7 @@ fn nothing_told(
 }
 
 fn no_block(block: &mut usize, fault: &mut u8) -> usize
-    ensures { λ r. ⌜ (r ≡ 12) × ((now (block .exit)) ≡ 0) × ((now (fault .exit)) ≡ 0) ⌝ }
+    ensures { (result ≡ 12) × (block.new ≡ 0) × (fault.new ≡ 0) }
 {
     *block = 0;
     *fault = 0;
@@ -46,13 +37,13 @@ fn no_block(block: &mut usize, fault: &mut u8) -> usize
 }
 
 fn no_word(word: &mut u16) -> usize
-    ensures { λ r. ⌜ (r ≡ 12) × ((now (word .exit)) ≡ 0) ⌝ }
+    ensures { (result ≡ 12) × (word.new ≡ 0) }
 {
     *word = 0;
     12
 }
 
-#[no_mangle]
+#[unsafe(no_mangle)]
 pub extern "C" fn ts11_mount(
     row: &mut [UnitRecord],
     unit: usize,
@@ -67,7 +58,7 @@ pub extern "C" fn ts11_mount(
     block: &mut usize,
     fault: &mut u8,
 ) -> usize
-    ensures { λ r. ⌜ AtRow (now (row .entry)) unit r (now (row .exit)) ((((now (shared .exit)) ≡ (now (shared .entry))) × ((now (table .exit)) ≡ (now (table .entry)))) × ((now (block .exit)) ≡ 0) × ((now (fault .exit)) ≡ 0)) (λ b b′. Mounts b (now (shared .entry)) (mountGiven b (now (shared .entry)) «memory_length» (now (reel .entry)) (now (table .entry)) «journal_length» end online locked) (tableGiven (mountGiven b (now (shared .entry)) «memory_length» (now (reel .entry)) (now (table .entry)) «journal_length» end online locked) (now (reel .entry)) (now (table .entry)) end) r b′ (now (shared .exit)) (now (table .exit)) (now (block .exit)) (now (fault .exit))) ⌝ }
+    ensures { AtRow row.old unit result row.new (((shared.new ≡ shared.old) × (table.new ≡ table.old)) × (block.new ≡ 0) × (fault.new ≡ 0)) (λ b b'. Mounts b shared.old (mountGiven b shared.old memory_length reel.now table.old journal_length end online locked) (tableGiven (mountGiven b shared.old memory_length reel.now table.old journal_length end online locked) reel.now table.old end) result b' shared.new table.new block.new fault.new) }
 {
     if (row.len() <= unit) | (TRANSPORTS <= unit) {
         return no_block(block, fault);
@@ -94,7 +85,7 @@ pub extern "C" fn ts11_mount(
     }
 }
 
-#[no_mangle]
+#[unsafe(no_mangle)]
 pub extern "C" fn ts11_write_tsdb(
     row: &mut [UnitRecord],
     unit: usize,
@@ -105,7 +96,7 @@ pub extern "C" fn ts11_write_tsdb(
     journal: &mut [u8],
     word: u16,
 ) -> usize
-    ensures { λ r. ⌜ AtRow (now (row .entry)) unit r (now (row .exit)) (((now (shared .exit)) ≡ (now (shared .entry))) × ((now (memory .exit)) ≡ (now (memory .entry))) × ((now (reel .exit)) ≡ (now (reel .entry))) × ((now (journal .exit)) ≡ (now (journal .entry)))) (λ b b′. (Gives (holding b (now (shared .entry)) (now (memory .entry)) (now (reel .entry)) (now (table .entry)) (now (journal .entry))) (stepGiven unit (Ask.write-tsdb word) (holding b (now (shared .entry)) (now (memory .entry)) (now (reel .entry)) (now (table .entry)) (now (journal .entry)))) r (holding b′ (now (shared .exit)) (now (memory .exit)) (now (reel .exit)) (now (table .entry)) (now (journal .exit))))) ⌝ }
+    ensures { AtRow row.old unit result row.new ((shared.new ≡ shared.old) × (memory.new ≡ memory.old) × (reel.new ≡ reel.old) × (journal.new ≡ journal.old)) (λ b b'. (Gives (holding b shared.old memory.old reel.old table.now journal.old) (stepGiven unit (Ask.write-tsdb word) (holding b shared.old memory.old reel.old table.now journal.old)) result (holding b' shared.new memory.new reel.new table.now journal.new))) }
 {
     if (row.len() <= unit) | (TRANSPORTS <= unit) {
         return 12;
@@ -120,7 +111,7 @@ pub extern "C" fn ts11_write_tsdb(
     }
 }
 
-#[no_mangle]
+#[unsafe(no_mangle)]
 pub extern "C" fn ts11_write_tssr(
     row: &mut [UnitRecord],
     unit: usize,
@@ -131,7 +122,7 @@ pub extern "C" fn ts11_write_tssr(
     journal: &mut [u8],
     _word: u16,
 ) -> usize
-    ensures { λ r. ⌜ AtRow (now (row .entry)) unit r (now (row .exit)) (((now (shared .exit)) ≡ (now (shared .entry))) × ((now (memory .exit)) ≡ (now (memory .entry))) × ((now (reel .exit)) ≡ (now (reel .entry))) × ((now (journal .exit)) ≡ (now (journal .entry)))) (λ b b′. (Gives (holding b (now (shared .entry)) (now (memory .entry)) (now (reel .entry)) (now (table .entry)) (now (journal .entry))) (stepGiven unit Ask.write-tssr (holding b (now (shared .entry)) (now (memory .entry)) (now (reel .entry)) (now (table .entry)) (now (journal .entry)))) r (holding b′ (now (shared .exit)) (now (memory .exit)) (now (reel .exit)) (now (table .entry)) (now (journal .exit))))) ⌝ }
+    ensures { AtRow row.old unit result row.new ((shared.new ≡ shared.old) × (memory.new ≡ memory.old) × (reel.new ≡ reel.old) × (journal.new ≡ journal.old)) (λ b b'. (Gives (holding b shared.old memory.old reel.old table.now journal.old) (stepGiven unit Ask.write-tssr (holding b shared.old memory.old reel.old table.now journal.old)) result (holding b' shared.new memory.new reel.new table.now journal.new))) }
 {
     if (row.len() <= unit) | (TRANSPORTS <= unit) {
         return 12;
@@ -146,7 +137,7 @@ pub extern "C" fn ts11_write_tssr(
     }
 }
 
-#[no_mangle]
+#[unsafe(no_mangle)]
 pub extern "C" fn ts11_operate(
     row: &mut [UnitRecord],
     unit: usize,
@@ -158,21 +149,13 @@ pub extern "C" fn ts11_operate(
     write_lock: bool,
     on: bool,
 ) -> usize
-    ensures { λ r. ⌜ AtRow (now (row .entry)) unit r (now (row .exit)) (((now (shared .exit)) ≡ (now (shared .entry))) × ((now (memory .exit)) ≡ (now (memory .entry))) × ((now (reel .exit)) ≡ (now (reel .entry))) × ((now (journal .exit)) ≡ (now (journal .entry)))) (λ b b′. (Gives (holding b (now (shared .entry)) (now (memory .entry)) (now (reel .entry)) (now (table .entry)) (now (journal .entry))) (stepGiven unit (Ask.operate (actOf «write_lock» on)) (holding b (now (shared .entry)) (now (memory .entry)) (now (reel .entry)) (now (table .entry)) (now (journal .entry)))) r (holding b′ (now (shared .exit)) (now (memory .exit)) (now (reel .exit)) (now (table .entry)) (now (journal .exit))))) ⌝ }
+    ensures { AtRow row.old unit result row.new ((shared.new ≡ shared.old) × (memory.new ≡ memory.old) × (reel.new ≡ reel.old) × (journal.new ≡ journal.old)) (λ b b'. (Gives (holding b shared.old memory.old reel.old table.now journal.old) (stepGiven unit (Ask.operate (actOf write_lock on)) (holding b shared.old memory.old reel.old table.now journal.old)) result (holding b' shared.new memory.new reel.new table.now journal.new))) }
 {
     if (row.len() <= unit) | (TRANSPORTS <= unit) {
         return 12;
     } else {
         let o = operate(
-            row[unit],
-            unit,
-            shared,
-            memory,
-            reel,
-            table,
-            journal,
-            write_lock,
-            on,
+            row[unit], unit, shared, memory, reel, table, journal, write_lock, on,
         );
         if o.stepped {
             row[unit] = o.record;
@@ -183,7 +166,7 @@ pub extern "C" fn ts11_operate(
     }
 }
 
-#[no_mangle]
+#[unsafe(no_mangle)]
 pub extern "C" fn ts11_advance(
     row: &mut [UnitRecord],
     unit: usize,
@@ -197,23 +180,13 @@ pub extern "C" fn ts11_advance(
     block: &mut usize,
     fault: &mut u8,
 ) -> usize
-    ensures { λ r. ⌜ AtRow (now (row .entry)) unit r (now (row .exit)) ((((now (shared .exit)) ≡ (now (shared .entry))) × ((now (memory .exit)) ≡ (now (memory .entry))) × ((now (reel .exit)) ≡ (now (reel .entry))) × ((now (table .exit)) ≡ (now (table .entry))) × ((now (journal .exit)) ≡ (now (journal .entry)))) × NothingTold (now (stepped .exit)) (now (interrupt .exit)) (now (block .exit)) (now (fault .exit))) (λ b b′. (Gives (holding b (now (shared .entry)) (now (memory .entry)) (now (reel .entry)) (now (table .entry)) (now (journal .entry))) (stepGiven unit Ask.advance (holding b (now (shared .entry)) (now (memory .entry)) (now (reel .entry)) (now (table .entry)) (now (journal .entry)))) r (holding b′ (now (shared .exit)) (now (memory .exit)) (now (reel .exit)) (now (table .exit)) (now (journal .exit)))) × Tells (stepGiven unit Ask.advance (holding b (now (shared .entry)) (now (memory .entry)) (now (reel .entry)) (now (table .entry)) (now (journal .entry)))) (now (stepped .exit)) (now (interrupt .exit)) (now (block .exit)) (now (fault .exit))) ⌝ }
+    ensures { AtRow row.old unit result row.new (((shared.new ≡ shared.old) × (memory.new ≡ memory.old) × (reel.new ≡ reel.old) × (table.new ≡ table.old) × (journal.new ≡ journal.old)) × NothingTold stepped.new interrupt.new block.new fault.new) (λ b b'. (Gives (holding b shared.old memory.old reel.old table.old journal.old) (stepGiven unit Ask.advance (holding b shared.old memory.old reel.old table.old journal.old)) result (holding b' shared.new memory.new reel.new table.new journal.new)) × Tells (stepGiven unit Ask.advance (holding b shared.old memory.old reel.old table.old journal.old)) stepped.new interrupt.new block.new fault.new) }
 {
     if (row.len() <= unit) | (TRANSPORTS <= unit) {
         return nothing_told(stepped, interrupt, block, fault);
     } else {
         let o = advance(
-            row[unit],
-            unit,
-            shared,
-            memory,
-            reel,
-            table,
-            journal,
-            stepped,
-            interrupt,
-            block,
-            fault,
+            row[unit], unit, shared, memory, reel, table, journal, stepped, interrupt, block, fault,
         );
         if o.stepped {
             row[unit] = o.record;
@@ -224,7 +197,7 @@ pub extern "C" fn ts11_advance(
     }
 }
 
-#[no_mangle]
+#[unsafe(no_mangle)]
 pub extern "C" fn ts11_read_register(
     row: &[UnitRecord],
     unit: usize,
@@ -232,7 +205,7 @@ pub extern "C" fn ts11_read_register(
     tssr: bool,
     word: &mut u16,
 ) -> usize
-    ensures { λ r. ⌜ LooksAt (now (row .entry)) unit r ((now (word .exit)) ≡ 0) (λ b. Reads (registerGiven b (now (shared .entry)) tssr) r (now (word .exit))) ⌝ }
+    ensures { LooksAt row.now unit result (word.new ≡ 0) (λ b. Reads (registerGiven b shared.now tssr) result word.new) }
 {
     if (row.len() <= unit) | (TRANSPORTS <= unit) {
         return no_word(word);
@@ -241,7 +214,7 @@ pub extern "C" fn ts11_read_register(
     }
 }
 
-#[no_mangle]
+#[unsafe(no_mangle)]
 pub extern "C" fn ts11_find_file(
     row: &[UnitRecord],
     unit: usize,
@@ -251,7 +224,7 @@ pub extern "C" fn ts11_find_file(
     found: &mut bool,
     place: &mut usize,
 ) -> usize
-    ensures { λ r. ⌜ LooksAt (now (row .entry)) unit r (((now (found .exit)) ≡ false) × ((now (place .exit)) ≡ 0)) (λ b. Finds (fileGiven b (now (shared .entry)) (now (table .entry)) file) r (now (found .exit)) (now (place .exit))) ⌝ }
+    ensures { LooksAt row.now unit result ((found.new ≡ false) × (place.new ≡ 0)) (λ b. Finds (fileGiven b shared.now table.now file) result found.new place.new) }
 {
     if (row.len() <= unit) | (TRANSPORTS <= unit) {
         return not_found(found, place);
@@ -260,7 +233,7 @@ pub extern "C" fn ts11_find_file(
     }
 }
 
-#[no_mangle]
+#[unsafe(no_mangle)]
 pub extern "C" fn ts11_find_block(
     row: &[UnitRecord],
     unit: usize,
@@ -270,7 +243,7 @@ pub extern "C" fn ts11_find_block(
     found: &mut bool,
     place: &mut usize,
 ) -> usize
-    ensures { λ r. ⌜ LooksAt (now (row .entry)) unit r (((now (found .exit)) ≡ false) × ((now (place .exit)) ≡ 0)) (λ b. Finds (blockGiven b (now (shared .entry)) (now (table .entry)) block) r (now (found .exit)) (now (place .exit))) ⌝ }
+    ensures { LooksAt row.now unit result ((found.new ≡ false) × (place.new ≡ 0)) (λ b. Finds (blockGiven b shared.now table.now block) result found.new place.new) }
 {
     if (row.len() <= unit) | (TRANSPORTS <= unit) {
         return not_found(found, place);
@@ -280,13 +253,13 @@ pub extern "C" fn ts11_find_block(
 }
 
 fn clamp(i: usize, n: usize) -> usize
-    requires { ⌜ 0 < n ⌝ }
-    ensures { λ r. ⌜ Clamped i n r ⌝ }
+    requires { 0 < n }
+    ensures { Clamped i n result }
 {
     if i < n { i } else { n - 1 }
 }
 
-#[no_mangle]
+#[unsafe(no_mangle)]
 pub extern "C" fn ts11_step_back(
     row: &mut [UnitRecord],
     shared: &mut [u32; 3],
@@ -301,7 +274,7 @@ pub extern "C" fn ts11_step_back(
     reel3: &mut [u8],
     table3: &mut [u8],
 ) -> usize
-    ensures { λ r. ⌜ BackGives (now (row .entry)) (now (shared .entry)) (now (memory .entry)) (now (journal .entry)) (four (now (reel0 .entry)) (now (table0 .entry)) (now (reel1 .entry)) (now (table1 .entry)) (now (reel2 .entry)) (now (table2 .entry)) (now (reel3 .entry)) (now (table3 .entry))) r (now (row .exit)) (now (shared .exit)) (now (memory .exit)) (four (now (reel0 .exit)) (now (table0 .exit)) (now (reel1 .exit)) (now (table1 .exit)) (now (reel2 .exit)) (now (table2 .exit)) (now (reel3 .exit)) (now (table3 .exit))) ⌝ }
+    ensures { BackGives row.old shared.old memory.old journal.now (four reel0.old table0.old reel1.old table1.old reel2.old table2.old reel3.old table3.old) result row.new shared.new memory.new (four reel0.new table0.new reel1.new table1.new reel2.new table2.new reel3.new table3.new) }
 {
     let n = row.len();
     if n == 0 {

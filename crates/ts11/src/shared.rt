@@ -1,38 +1,20 @@
 // The calls of no unit: the host store, and the step back on four records by value.
+ghost use Rattle.std.specs.Prelude.{[], ◌∷◌, ◌≡◌, get_or, length};
+ghost use Rattle.entries.specs.Entries.{savedFor, usedIn};
+ghost use Rattle.ts11.specs.Backs.{BringReady, GivesNone, RestoredAt, StoreGives, TakesBack, couplerAfter, four, givenBack, keptBack, lookIn, rowFrom, storeGiven};
+ghost use Rattle.ts11.specs.Rows.{noRecord};
+
 use crate::answers::number_in;
 use commands::Answer;
-use coupler::looks_refusal;
-use coupler::named;
-use entries::Entry;
-use entries::TRANSPORTS;
-use entries::bring_entry_back;
-use entries::entry_length;
-use entries::newest_entry;
-use records::UnitRecord;
-use records::coupler_in;
-use records::put_coupler;
-use records::record_of;
-use records::record_right;
-use records::transport_in;
-use steps::undo_none;
-use steps::undo_refusal;
+use coupler::{looks_refusal, named};
+use entries::{Entry, TRANSPORTS, bring_entry_back, entry_length, newest_entry};
+use records::{UnitRecord, coupler_in, put_coupler, record_of, record_right, transport_in};
+use steps::{undo_none, undo_refusal};
 use touched::Touched;
-use worlds::Coupler;
-use worlds::Look;
-use worlds::Session;
-use worlds::look_at;
-use worlds::no_look;
-use worlds::session_over;
-use worlds::transport_of;
-ghost use mathlib.Core.List.{[], _∷_};
-ghost use mathlib.Core.Path.{_≡_};
-ghost use lib.ListN.{getD, length};
-ghost use Rattle·entries.specs.Entries.{savedFor, usedIn};
-ghost use Rattle·ts11·specs.specs.Backs.{BringReady, GivesNone, RestoredAt, StoreGives, TakesBack, couplerAfter, four, givenBack, keptBack, lookIn, rowFrom, storeGiven};
-ghost use Rattle·ts11·specs.specs.Rows.{noRecord};
+use worlds::{Coupler, Look, Session, look_at, no_look, session_over, transport_of};
 
 fn share(shared: &mut [u32; 3], answer: Answer, c: Coupler)
-    ensures { λ _. ⌜ now (shared .exit) ≡ couplerAfter (now (shared .entry)) answer c ⌝ }
+    ensures { shared.new ≡ couplerAfter shared.old answer c }
 {
     match answer {
         Answer::Done(_) => put_coupler(shared, c),
@@ -40,7 +22,7 @@ fn share(shared: &mut [u32; 3], answer: Answer, c: Coupler)
     }
 }
 
-#[no_mangle]
+#[unsafe(no_mangle)]
 pub extern "C" fn ts11_host_store(
     shared: &mut [u32; 3],
     memory: &mut [u8],
@@ -48,7 +30,7 @@ pub extern "C" fn ts11_host_store(
     place: usize,
     bytes: &[u8],
 ) -> usize
-    ensures { λ r. ⌜ StoreGives (now (shared .entry)) (now (memory .entry)) (now (journal .entry)) (storeGiven (now (shared .entry)) (now (memory .entry)) (now (journal .entry)) place (now (bytes .entry))) r (now (shared .exit)) (now (memory .exit)) (now (journal .exit)) ⌝ }
+    ensures { StoreGives shared.old memory.old journal.old (storeGiven shared.old memory.old journal.old place bytes.now) result shared.new memory.new journal.new }
 {
     let o = coupler::host_store(coupler_in(shared), memory, journal, place, bytes);
     let answer = o.answer;
@@ -57,6 +39,7 @@ pub extern "C" fn ts11_host_store(
 }
 
 // What a step back hands back: its number, and which record comes back if one does.
+#[derive(Drop)]
 pub struct Back {
     pub put: bool,
     pub unit: usize,
@@ -65,7 +48,7 @@ pub struct Back {
 }
 
 fn kept(number: usize, record: UnitRecord) -> Back
-    ensures { λ r. ⌜ r ≡ keptBack number «record» ⌝ }
+    ensures { result ≡ keptBack number «record» }
 {
     Back {
         put: false,
@@ -77,7 +60,7 @@ fn kept(number: usize, record: UnitRecord) -> Back
 
 // What is asked of a record: of one that is not in the row, or not mounted, nothing.
 fn look(present: bool, u: UnitRecord, reel: usize, memory: usize) -> Look
-    ensures { λ r. ⌜ r ≡ lookIn present memory u reel ⌝ }
+    ensures { result ≡ lookIn present memory u reel }
 {
     if present & (u.numbers[19] != 0) {
         let l = look_at(transport_in(u), reel, memory);
@@ -91,7 +74,7 @@ fn look(present: bool, u: UnitRecord, reel: usize, memory: usize) -> Look
 }
 
 fn chosen(k: usize, a: UnitRecord, b: UnitRecord, c: UnitRecord, d: UnitRecord) -> UnitRecord
-    ensures { λ r. ⌜ r ≡ getD (a ∷ b ∷ c ∷ d ∷ []) k noRecord ⌝ }
+    ensures { result ≡ get_or (a ∷ b ∷ c ∷ d ∷ []) k noRecord }
 {
     match k {
         0 => a,
@@ -103,7 +86,7 @@ fn chosen(k: usize, a: UnitRecord, b: UnitRecord, c: UnitRecord, d: UnitRecord) 
 }
 
 fn length_of(k: usize, a: usize, b: usize, c: usize, d: usize) -> usize
-    ensures { λ r. ⌜ r ≡ getD (a ∷ b ∷ c ∷ d ∷ []) k 0 ⌝ }
+    ensures { result ≡ get_or (a ∷ b ∷ c ∷ d ∷ []) k 0 }
 {
     match k {
         0 => a,
@@ -130,8 +113,8 @@ fn bring_back_at(
     reel3: &mut [u8],
     table3: &mut [u8],
 )
-    requires { ⌜ BringReady k used t (length (now journal)) (length (now memory)) (four (now reel0) (now table0) (now reel1) (now table1) (now reel2) (now table2) (now reel3) (now table3)) ⌝ }
-    ensures { λ _. ⌜ RestoredAt k t (savedFor t (usedIn used (now (journal .entry)))) (now (memory .entry)) (four (now (reel0 .entry)) (now (table0 .entry)) (now (reel1 .entry)) (now (table1 .entry)) (now (reel2 .entry)) (now (table2 .entry)) (now (reel3 .entry)) (now (table3 .entry))) (now (memory .exit)) (four (now (reel0 .exit)) (now (table0 .exit)) (now (reel1 .exit)) (now (table1 .exit)) (now (reel2 .exit)) (now (table2 .exit)) (now (reel3 .exit)) (now (table3 .exit))) ⌝ }
+    requires { BringReady k used t (length journal.now) (length memory.old) (four reel0.old table0.old reel1.old table1.old reel2.old table2.old reel3.old table3.old) }
+    ensures { RestoredAt k t (savedFor t (usedIn used journal.now)) memory.old (four reel0.old table0.old reel1.old table1.old reel2.old table2.old reel3.old table3.old) memory.new (four reel0.new table0.new reel1.new table1.new reel2.new table2.new reel3.new table3.new) }
 {
     match k {
         0 => bring_entry_back(journal, used, t, memory, reel0, table0),
@@ -148,7 +131,7 @@ fn bring_back_at(
 
 // What the entry of transport k brings back of the row: its record.
 fn given_back(k: usize, e: Entry) -> Back
-    ensures { λ r. ⌜ r ≡ givenBack k e ⌝ }
+    ensures { result ≡ givenBack k e }
 {
     let unit = e.unit;
     let s = Session {
@@ -183,7 +166,7 @@ pub fn step_back(
     reel3: &mut [u8],
     table3: &mut [u8],
 ) -> Back
-    ensures { λ r. ⌜ TakesBack (rowFrom n a b c d) (now (shared .entry)) (now (memory .entry)) (now (journal .entry)) (four (now (reel0 .entry)) (now (table0 .entry)) (now (reel1 .entry)) (now (table1 .entry)) (now (reel2 .entry)) (now (table2 .entry)) (now (reel3 .entry)) (now (table3 .entry))) r (now (shared .exit)) (now (memory .exit)) (four (now (reel0 .exit)) (now (table0 .exit)) (now (reel1 .exit)) (now (table1 .exit)) (now (reel2 .exit)) (now (table2 .exit)) (now (reel3 .exit)) (now (table3 .exit))) ⌝ }
+    ensures { TakesBack (rowFrom n a b c d) shared.old memory.old journal.now (four reel0.old table0.old reel1.old table1.old reel2.old table2.old reel3.old table3.old) result shared.new memory.new (four reel0.new table0.new reel1.new table1.new reel2.new table2.new reel3.new table3.new) }
 {
     let co = coupler_in(shared);
     let m = memory.len();
@@ -218,18 +201,7 @@ pub fn step_back(
         },
     );
     bring_back_at(
-        k,
-        journal,
-        co.used,
-        e.touched,
-        memory,
-        reel0,
-        table0,
-        reel1,
-        table1,
-        reel2,
-        table2,
-        reel3,
+        k, journal, co.used, e.touched, memory, reel0, table0, reel1, table1, reel2, table2, reel3,
         table3,
     );
     given_back(k, e)
@@ -237,7 +209,7 @@ pub fn step_back(
 
 // The step back over a row of none, which is lent no reel and no table.
 pub fn step_back_none(shared: &mut [u32; 3], memory: &mut [u8], journal: &[u8]) -> usize
-    ensures { λ r. ⌜ GivesNone (now (shared .entry)) (now (memory .entry)) (now (journal .entry)) r (now (shared .exit)) (now (memory .exit)) ⌝ }
+    ensures { GivesNone shared.old memory.old journal.now result shared.new memory.new }
 {
     let c = coupler_in(shared);
     let none = no_look();
@@ -252,7 +224,7 @@ pub fn step_back_none(shared: &mut [u32; 3], memory: &mut [u8], journal: &[u8]) 
 }
 
 fn no_record() -> UnitRecord
-    ensures { λ r. ⌜ r ≡ noRecord ⌝ }
+    ensures { result ≡ noRecord }
 {
     UnitRecord {
         numbers: [0u32; 21],

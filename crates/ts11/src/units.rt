@@ -1,29 +1,16 @@
 // The calls of one unit, on its record by value: the journal's, between the record and what is shared.
-use crate::answers::act_of;
-use crate::answers::block_in;
-use crate::answers::fault_in;
-use crate::answers::interrupts;
-use crate::answers::is_step;
-use crate::answers::number_in;
-use crate::answers::register_of;
+ghost use Rattle.std.specs.Prelude.{false, ◌≡◌};
+ghost use Rattle.commands.specs.Answers.{isStep, number_of};
+ghost use Rattle.unit.specs.Asks.{Ask};
+ghost use Rattle.ts11.specs.Given.{Reads, Takes, TakesMount, TakesTelling, actOf, holding, mountGiven, recordAfter, registerGiven, sessionIn, sharedAfter, stepGiven, tableGiven};
+
+use crate::answers::{act_of, block_in, fault_in, interrupts, is_step, number_in, register_of};
 use commands::Answer;
-use records::UnitRecord;
-use records::coupler_in;
-use records::put_coupler;
-use records::record_of;
-use records::record_right;
-use records::transport_in;
-use worlds::Session;
-use worlds::coupler_of;
-use worlds::session_over;
-use worlds::transport_of;
-ghost use mathlib.Core.Bool.{false};
-ghost use mathlib.Core.Path.{_≡_};
-ghost use Rattle·commands.specs.Answers.{isStep, numberOf};
-ghost use Rattle·unit.specs.Asks.{Ask};
-ghost use Rattle·ts11·specs.specs.Given.{Reads, Takes, TakesMount, TakesTelling, actOf, holding, mountGiven, recordAfter, registerGiven, sessionIn, sharedAfter, stepGiven, tableGiven};
+use records::{UnitRecord, coupler_in, put_coupler, record_of, record_right, transport_in};
+use worlds::{Session, coupler_of, session_over, transport_of};
 
 // What a call of a unit hands back: its number, and the record if it took a step.
+#[derive(Drop)]
 pub struct Given {
     pub stepped: bool,
     pub number: usize,
@@ -32,14 +19,14 @@ pub struct Given {
 
 // A session taken out of the row.
 pub fn session_in(record: UnitRecord, shared: &[u32; 3]) -> Session
-    ensures { λ r. ⌜ r ≡ sessionIn («record» .numbers) (now (shared .entry)) ⌝ }
+    ensures { result ≡ sessionIn «record».numbers shared.now }
 {
     session_over(transport_in(record), coupler_in(shared))
 }
 
 // The session after a step is put back; any other answer leaves both alone.
 pub fn close(record: UnitRecord, shared: &mut [u32; 3], answer: Answer, s: Session) -> Given
-    ensures { λ r. ⌜ (r .stepped ≡ isStep answer) × (r .number ≡ numberOf answer) × (r .record .numbers ≡ recordAfter («record» .numbers) answer s) × (now (shared .exit) ≡ sharedAfter (now (shared .entry)) answer s) ⌝ }
+    ensures { (result.stepped ≡ isStep answer) × (result.number ≡ number_of answer) × (result.record.numbers ≡ recordAfter «record».numbers answer s) × (shared.new ≡ sharedAfter shared.old answer s) }
 {
     match answer {
         Answer::Done(_) => {
@@ -60,7 +47,7 @@ pub fn close(record: UnitRecord, shared: &mut [u32; 3], answer: Answer, s: Sessi
 
 // A record that is no transport's is refused with 1.
 fn no_record(record: UnitRecord) -> Given
-    ensures { λ r. ⌜ (r .stepped ≡ false) × (r .number ≡ 1) × (r .record ≡ «record») ⌝ }
+    ensures { (result.stepped ≡ false) × (result.number ≡ 1) × (result.record ≡ «record») }
 {
     Given {
         stepped: false,
@@ -82,7 +69,7 @@ pub fn mount(
     block: &mut usize,
     fault: &mut u8,
 ) -> Given
-    ensures { λ r. ⌜ TakesMount («record» .numbers) (now (shared .entry)) (mountGiven («record» .numbers) (now (shared .entry)) «memory_length» (now (reel .entry)) (now (table .entry)) «journal_length» end online locked) (tableGiven (mountGiven («record» .numbers) (now (shared .entry)) «memory_length» (now (reel .entry)) (now (table .entry)) «journal_length» end online locked) (now (reel .entry)) (now (table .entry)) end) r (now (shared .exit)) (now (table .exit)) (now (block .exit)) (now (fault .exit)) ⌝ }
+    ensures { TakesMount «record».numbers shared.old (mountGiven «record».numbers shared.old memory_length reel.now table.old journal_length end online locked) (tableGiven (mountGiven «record».numbers shared.old memory_length reel.now table.old journal_length end online locked) reel.now table.old end) result shared.new table.new block.new fault.new }
 {
     let session = session_in(record, shared);
     let o = journal::mount(
@@ -111,7 +98,7 @@ pub fn write_tsdb(
     journal: &mut [u8],
     word: u16,
 ) -> Given
-    ensures { λ r. ⌜ Takes (holding («record» .numbers) (now (shared .entry)) (now (memory .entry)) (now (reel .entry)) (now (table .entry)) (now (journal .entry))) (stepGiven unit (Ask.write-tsdb word) (holding («record» .numbers) (now (shared .entry)) (now (memory .entry)) (now (reel .entry)) (now (table .entry)) (now (journal .entry)))) r (now (shared .exit)) (now (memory .exit)) (now (reel .exit)) (now (table .entry)) (now (journal .exit)) ⌝ }
+    ensures { Takes (holding «record».numbers shared.old memory.old reel.old table.now journal.old) (stepGiven unit (Ask.write-tsdb word) (holding «record».numbers shared.old memory.old reel.old table.now journal.old)) result shared.new memory.new reel.new table.now journal.new }
 {
     if !record_right(record) {
         return no_record(record);
@@ -138,7 +125,7 @@ pub fn write_tssr(
     table: &[u8],
     journal: &mut [u8],
 ) -> Given
-    ensures { λ r. ⌜ Takes (holding («record» .numbers) (now (shared .entry)) (now (memory .entry)) (now (reel .entry)) (now (table .entry)) (now (journal .entry))) (stepGiven unit Ask.write-tssr (holding («record» .numbers) (now (shared .entry)) (now (memory .entry)) (now (reel .entry)) (now (table .entry)) (now (journal .entry)))) r (now (shared .exit)) (now (memory .exit)) (now (reel .exit)) (now (table .entry)) (now (journal .exit)) ⌝ }
+    ensures { Takes (holding «record».numbers shared.old memory.old reel.old table.now journal.old) (stepGiven unit Ask.write-tssr (holding «record».numbers shared.old memory.old reel.old table.now journal.old)) result shared.new memory.new reel.new table.now journal.new }
 {
     if !record_right(record) {
         return no_record(record);
@@ -166,7 +153,7 @@ pub fn operate(
     write_lock: bool,
     on: bool,
 ) -> Given
-    ensures { λ r. ⌜ Takes (holding («record» .numbers) (now (shared .entry)) (now (memory .entry)) (now (reel .entry)) (now (table .entry)) (now (journal .entry))) (stepGiven unit (Ask.operate (actOf «write_lock» on)) (holding («record» .numbers) (now (shared .entry)) (now (memory .entry)) (now (reel .entry)) (now (table .entry)) (now (journal .entry)))) r (now (shared .exit)) (now (memory .exit)) (now (reel .exit)) (now (table .entry)) (now (journal .exit)) ⌝ }
+    ensures { Takes (holding «record».numbers shared.old memory.old reel.old table.now journal.old) (stepGiven unit (Ask.operate (actOf write_lock on)) (holding «record».numbers shared.old memory.old reel.old table.now journal.old)) result shared.new memory.new reel.new table.now journal.new }
 {
     if !record_right(record) {
         return no_record(record);
@@ -197,7 +184,7 @@ pub fn advance(
     block: &mut usize,
     fault: &mut u8,
 ) -> Given
-    ensures { λ r. ⌜ TakesTelling (holding («record» .numbers) (now (shared .entry)) (now (memory .entry)) (now (reel .entry)) (now (table .entry)) (now (journal .entry))) (stepGiven unit Ask.advance (holding («record» .numbers) (now (shared .entry)) (now (memory .entry)) (now (reel .entry)) (now (table .entry)) (now (journal .entry)))) r (now (shared .exit)) (now (memory .exit)) (now (reel .exit)) (now (table .exit)) (now (journal .exit)) (now (stepped .exit)) (now (interrupt .exit)) (now (block .exit)) (now (fault .exit)) ⌝ }
+    ensures { TakesTelling (holding «record».numbers shared.old memory.old reel.old table.old journal.old) (stepGiven unit Ask.advance (holding «record».numbers shared.old memory.old reel.old table.old journal.old)) result shared.new memory.new reel.new table.new journal.new stepped.new interrupt.new block.new fault.new }
 {
     if !record_right(record) {
         *stepped = false;
@@ -217,7 +204,7 @@ pub fn advance(
 }
 
 pub fn read_register(record: UnitRecord, shared: &[u32; 3], tssr: bool, word: &mut u16) -> usize
-    ensures { λ r. ⌜ Reads (registerGiven («record» .numbers) (now (shared .entry)) tssr) r (now (word .exit)) ⌝ }
+    ensures { Reads (registerGiven «record».numbers shared.now tssr) result word.new }
 {
     if !record_right(record) {
         *word = 0;

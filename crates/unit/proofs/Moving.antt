@@ -1,28 +1,28 @@
 -- Where a Read's bytes go, by the test that the code makes.
-use mathlib.Core.Path.{_≡_, refl}
-use mathlib.Core.Bool.{Bool, true, false, _&&_, and-eq-true-iff}
-use Prim.Native.Nat.{ℕ, _+_, _-_, _<_}
+use mathlib.Core.Path.{◌≡◌, refl}
+use mathlib.Core.Bool.{Bool, true, false, ◌&&◌, and-eq-true_iff}
+use Prim.Native.Nat.{ℕ, ◌+◌, ◌-◌, ◌<◌}
 use native.Mathlib.Omega.{arith}
 use borrow.Author.Tests.{ltb-false, ltb-true}
 use lib.Dec.{ltb}
-use Rattle·tape.specs.Bytes.{movedTo}
-use Rattle·motions.specs.declared.parts.Moved.{Moved}
-use Rattle·unit·specs.specs.Touching.{movedPlace}
+use Rattle.tape.specs.Bytes.{moved_to}
+use Rattle.motions.specs.declared.parts.Moved.{Moved}
+use Rattle.unit.specs.Touching.{movedPlace}
 
-place-by : (reverse : Bool) (pointer count n : ℕ) → (reverse && ltb n count) ≡ false → pointer ≡ movedTo reverse pointer count n
-unfolding movedTo
+place-by : (reverse : Bool) (pointer count n : ℕ) → (reverse && ltb n count) ≡ false → pointer ≡ moved_to reverse pointer count n
+unfolding moved_to
 place-by true pointer count n h = omega (arith, ltb-false n count h)
 place-by false pointer count n h = refl
 
-pub place-low : (x : Moved) → (x .reverse && ltb (x .length) (x .count)) ≡ false → x .pointer ≡ movedPlace x
+pub place-low : (x : Moved) → (x.reverse && ltb x.length x.count) ≡ false → x.pointer ≡ movedPlace x
 unfolding movedPlace
-place-low x h = place-by (x .reverse) (x .pointer) (x .count) (x .length) h
+place-low x h = place-by x.reverse x.pointer x.count x.length h
 
-pub short : (x : Moved) → (x .reverse && ltb (x .length) (x .count)) ≡ true → (x .reverse ≡ true) × (x .length < x .count)
+pub short : (x : Moved) → (x.reverse && ltb x.length x.count) ≡ true → (x.reverse ≡ true) × (x.length < x.count)
 short x h =
-    let p = and-eq-true-iff (x .reverse) (ltb (x .length) (x .count)) .0 h in
-    (p .0, ltb-true (x .length) (x .count) (p .1))
+    let p = (and-eq-true_iff x.reverse (ltb x.length x.count)).0 h in
+    (p.0, ltb-true x.length x.count p.1)
 
-pub place-high : (x : Moved) → (x .reverse && ltb (x .length) (x .count)) ≡ true → x .pointer + (x .count - x .length) ≡ movedPlace x
-unfolding movedPlace movedTo
-place-high x h = rw (short x h .0)
+pub place-high : (x : Moved) → (x.reverse && ltb x.length x.count) ≡ true → x.pointer + (x.count - x.length) ≡ movedPlace x
+unfolding movedPlace moved_to
+place-high x h = rw (short x h).0

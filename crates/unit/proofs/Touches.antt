@@ -1,35 +1,35 @@
 -- Carrying out a plan changes nothing but what it touches, and that lies inside memory and reel; a host store likewise.
-use mathlib.Core.Path.{_≡_, refl, sym}
+use mathlib.Core.Path.{◌≡◌, refl, sym}
 use mathlib.Core.Bool.{Bool, true, false, true≢false}
 use mathlib.Core.List.{List}
 use mathlib.Core.Logic.{inl, inr}
-use Prim.Native.Nat.{ℕ, _+_, _-_, _*_, _%_, _≤_, _<_}
+use Prim.Native.Nat.{ℕ, ◌+◌, ◌-◌, ◌*◌, ◌%◌, ◌≤◌, ◌<◌}
 use native.Mathlib.Omega.{arith}
 use borrow.Author.Tests.{ltb-false, ltb-true}
 use lib.Dec.{ltb}
-use lib.ListN.{getD, length}
+use lib.ListN.{get_or, length}
 use lib.Seq.{length-sets, sets}
-use Rattle·lists.specs.Pick.{pick}
-use Rattle·lists.proofs.Cases.{by-test}
-use Rattle·lists.proofs.Placed.{placed-other, placed-plain}
-use Rattle·tape.specs.Numbers.{blockBytes}
-use Rattle·index.specs.Cutting.{extended}
-use Rattle·index.specs.Table.{placeLength}
-use Rattle·index.specs.declared.Cut.{Cut}
-use Rattle·index.proofs.Cuts.{extended-other, length-extended}
-use Rattle·signals.specs.Message.{messageBytes}
-use Rattle·state.specs.declared.Unit.{Unit}
-use Rattle·motions.specs.Parts.{laidBlocks, objectBlocks}
-use Rattle·commands.specs.Ends.{still}
-use Rattle·commands.specs.declared.plans.Answer.{Answer}
-use Rattle·commands.specs.declared.plans.Plan.{Plan}
-use Rattle·storing.specs.Stored.{Storable, laidObjects, memoryAfter, reelAfter}
-use Rattle·storing.proofs.DataPlaces.{data-inside}
-use Rattle·storing.proofs.Lengths.{length-memory, length-reel}
-use Rattle·storing.proofs.Staying.{memory-kept, reel-kept-above, reel-kept-below}
-use Rattle·touched.specs.Touches.{OffRun, Only, Sizes, TouchedIn, runOf}
-use Rattle·unit·specs.specs.Touching.{hostTouched, laidPlaces, movedPlace, touchedBy}
-use Rattle·unit·proofs.proofs.Rows.{places-laid}
+use Rattle.lists.specs.Pick.{pick}
+use Rattle.lists.proofs.Cases.{by-test}
+use Rattle.lists.proofs.Placed.{placed-other, placed-plain}
+use Rattle.tape.specs.Numbers.{blockBytes}
+use Rattle.index.specs.Cutting.{extended}
+use Rattle.index.specs.Table.{placeLength}
+use Rattle.index.specs.declared.Cut.{Cut}
+use Rattle.index.proofs.Cuts.{extended-other, length-extended}
+use Rattle.signals.specs.Message.{messageBytes}
+use Rattle.state.specs.declared.Unit.{Unit}
+use Rattle.motions.specs.Parts.{laidBlocks, objectBlocks}
+use Rattle.commands.specs.Ends.{still}
+use Rattle.commands.specs.declared.plans.Answer.{Answer}
+use Rattle.commands.specs.declared.plans.Plan.{Plan}
+use Rattle.storing.specs.Stored.{Storable, laidObjects, memoryAfter, reelAfter}
+use Rattle.storing.proofs.DataPlaces.{data-inside}
+use Rattle.storing.proofs.Lengths.{length-memory, length-reel}
+use Rattle.storing.proofs.Staying.{memory_kept, reel-kept-above, reel-kept-below}
+use Rattle.touched.specs.Touches.{OffRun, Only, Sizes, TouchedIn, run_of}
+use Rattle.unit.specs.Touching.{hostTouched, laidPlaces, movedPlace, touchedBy}
+use Rattle.unit.proofs.Rows.{places-laid}
 
 -- no place of the message's run, where one goes out
 off-message : (b : Bool) (a n j : ℕ) → OffRun false (pick b a 0) (pick b n 0) j → b ≡ true → (i : ℕ) → i < n → j ≡ a + i → ⊥
@@ -52,33 +52,33 @@ message-in false a n f = omega arith
 
 module _ (p : Plan) (m s : List ℕ) (fits : Storable p (length m) (length s)) where
   -- with a table that it cuts at c
-  pub plan-only : (tb : List ℕ) (c : Cut) → length (p .message) ≡ 7 → Only (touchedBy p (c .place)) m s tb (memoryAfter p m s) (reelAfter p m s) (extended tb c (p .laid .at) (laidObjects m (p .laid)))
+  pub plan-only : (tb : List ℕ) (c : Cut) → length p.message ≡ 7 → Only (touchedBy p c.place) m s tb (memoryAfter p m s) (reelAfter p m s) (extended tb c p.laid.at (laidObjects m p.laid))
   unfolding touchedBy movedPlace reelAfter
   plan-only tb c seven =
-      let l = p .laid in
+      let l = p.laid in
       let os = laidObjects m l in
       record {
         long-memory = length-memory p m s;
         long-reel = length-reel p m s;
-        long-table = length-extended tb c (l .at) os;
-        memory = λ j f g. memory-kept p m s fits seven j f (off-message (p .sends) (p .unit .characteristics .address) messageBytes j g);
+        long-table = length-extended tb c l.at os;
+        memory = λ j f g. memory_kept p m s fits seven j f (off-message p.sends p.unit.characteristics.address messageBytes j g);
         reel =
-            λ j f. off-blocks (getD (reelAfter p m s) j 0 ≡ getD s j 0) (blockBytes * l .at) (blockBytes * laidBlocks l) j f
+            λ j f. off-blocks (get_or (reelAfter p m s) j 0 ≡ get_or s j 0) (blockBytes * l.at) (blockBytes * laidBlocks l) j f
             (λ h. reel-kept-below m s l j h)
             (λ h. reel-kept-above m s l j (omega (arith, h)));
         table =
-            λ j f. off-blocks (getD (extended tb c (l .at) os) j 0 ≡ getD tb j 0) (placeLength * c .place) (placeLength * laidPlaces l) j f
-            (λ h. extended-other tb c (l .at) os j (inl h))
-            (λ h. extended-other tb c (l .at) os j (inr (omega (arith, h, places-laid m l))));
+            λ j f. off-blocks (get_or (extended tb c l.at os) j 0 ≡ get_or tb j 0) (placeLength * c.place) (placeLength * laidPlaces l) j f
+            (λ h. extended-other tb c l.at os j (inl h))
+            (λ h. extended-other tb c l.at os j (inr (omega (arith, h, places-laid m l))));
       }
 
   pub plan-in : (k : ℕ) → Sizes (length m) (length s) → TouchedIn (touchedBy p k) (length m) (length s)
   unfolding touchedBy movedPlace
   plan-in k z =
       record {
-        in-memory = data-inside s (p .moved) m (fits .moved);
-        message-in-memory = message-in (p .sends) (p .unit .characteristics .address) (length m) (fits .message);
-        in-reel = fits .laid .room;
+        in_memory = data-inside s p.moved m fits.moved;
+        message-in-memory = message-in p.sends p.unit.characteristics.address (length m) fits.message;
+        in-reel = fits.laid.room;
         sizes = z;
       }
 
@@ -108,9 +108,9 @@ module _ (m s : List ℕ) (place : ℕ) (bytes : List ℕ) where
 
   pub host-in : Sizes (length m) (length s) → place + length bytes ≤ length m → TouchedIn (hostTouched place (length bytes)) (length m) (length s)
   unfolding hostTouched
-  host-in z h = record { in-memory = h; message-in-memory = omega arith; in-reel = omega arith; sizes = z }
+  host-in z h = record { in_memory = h; message-in-memory = omega arith; in-reel = omega arith; sizes = z }
 
 -- what a host store touches is a run of memory
-pub host-run : (place n : ℕ) → hostTouched place n ≡ runOf place n
+pub host-run : (place n : ℕ) → hostTouched place n ≡ run_of place n
 unfolding hostTouched
 host-run place n = refl

@@ -1,8 +1,7 @@
 -- "A step is a TSDB or TSSR write, host store, operator act or advance" (01, Calls): what can be asked of the unit.
-use mathlib.Core.List.{List}
-use Prim.Native.Nat.{ℕ, _<_}
-use Rattle·lists.specs.Pick.{Always}
-use Rattle·state.specs.declared.act.Act.{Act}
+use Rattle.std.specs.Prelude.{List, ℕ, ◌<◌}
+use Rattle.lists.specs.Pick.{Always}
+use Rattle.state.specs.declared.act.Act.{Act}
 
 pub data Ask : Type 0 where
   write-tsdb : ℕ → Ask

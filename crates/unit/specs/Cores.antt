@@ -1,11 +1,8 @@
 -- All that steps change and steps back bring back: the unit's state with the used places of the table, memory, reel and table.
-use mathlib.Core.List.{List}
-use mathlib.Core.Path.{_≡_}
-use Prim.Native.Nat.{ℕ, _*_}
-use lib.ListN.{length}
-use Rattle·tape.specs.Numbers.{blockBytes}
-use Rattle·state.specs.Legal.{Legal}
-use Rattle·state.specs.declared.Unit.{Unit}
+use Rattle.std.specs.Prelude.{List, ◌≡◌, ℕ, ◌*◌, length}
+use Rattle.tape.specs.Numbers.{blockBytes}
+use Rattle.state.specs.Legal.{Legal}
+use Rattle.state.specs.declared.Unit.{Unit}
 
 pub record Core : Type 0 where
   pub unit : Unit
@@ -16,6 +13,6 @@ pub record Core : Type 0 where
 
 -- refusals 1 to 3 let it pass
 pub record Admitted (c : Core) : Type 0 where
-  pub legal : Legal (c .unit)
-  pub memory-is : length (c .memory) ≡ c .unit .lengths .memory
-  pub reel-is : length (c .reel) ≡ blockBytes * c .unit .lengths .blocks
+  pub legal : Legal c.unit
+  pub memory-is : length c.memory ≡ c.unit.lengths.memory
+  pub reel-is : length c.reel ≡ blockBytes * c.unit.lengths.blocks

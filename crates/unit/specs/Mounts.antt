@@ -1,20 +1,16 @@
 -- Mounting a reel: refusals 2, 3 and 7. (01, "Calls" and the table)
-use mathlib.Core.Bool.{Bool, true, false, _||_, not}
-use mathlib.Core.List.{List}
-use Prim.Native.Nat.{ℕ, _/_, _%_}
-use lib.Dec.{eqb, ltb}
-use lib.ListN.{length}
-use Rattle·lists.specs.Pick.{pick}
-use Rattle·tape.specs.Numbers.{blockBytes, recordLimit}
-use Rattle·tape.specs.Sweep.{sweptBelowUnder}
-use Rattle·tape.specs.declared.Swept.{Swept}
-use Rattle·tape.specs.declared.Swept.the-variants as swept
-use Rattle·state.specs.Changes.{mountedAs}
-use Rattle·state.specs.Checks.{blocksRight, memoryRight}
-use Rattle·state.specs.declared.Unit.{Unit}
-use Rattle·commands.specs.declared.plans.Answer.{Answer}
-use Rattle·commands.specs.declared.plans.Answer.the-variants as answer
-use Rattle·unit·specs.specs.declared.mounting.Mounted.{Mounted}
+use Rattle.std.specs.Prelude.{Bool, true, false, ◌||◌, not, List, ℕ, ◌/◌, ◌%◌, eqb, ltb, length}
+use Rattle.lists.specs.Pick.{pick}
+use Rattle.tape.specs.Numbers.{blockBytes, recordLimit}
+use Rattle.tape.specs.Sweep.{sweptBelowUnder}
+use Rattle.tape.specs.declared.Swept.{Swept}
+use Rattle.tape.specs.declared.Swept.TheVariants as swept
+use Rattle.state.specs.Changes.{mountedAs}
+use Rattle.state.specs.Checks.{blocksRight, memoryRight}
+use Rattle.state.specs.declared.Unit.{Unit}
+use Rattle.commands.specs.declared.plans.Answer.{Answer}
+use Rattle.commands.specs.declared.plans.Answer.TheVariants as answer
+use Rattle.unit.specs.declared.mounting.Mounted.{Mounted}
 
 abbrev pub mountedWith : Answer → Unit → Mounted
 mountedWith a u = record { answer = a; unit = u }

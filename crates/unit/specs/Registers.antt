@@ -1,9 +1,9 @@
 -- The registers as they read. (01, "Registers")
-use Prim.Native.Nat.{ℕ}
-use Rattle·state.specs.Readings.{tsbaOf, tssrOf}
-use Rattle·state.specs.declared.Unit.{Unit}
-use Rattle·unit·specs.specs.declared.registers.Register.{Register}
-use Rattle·unit·specs.specs.declared.registers.Register.the-variants as register
+use Rattle.std.specs.Prelude.{ℕ}
+use Rattle.state.specs.Readings.{tsbaOf, tssrOf}
+use Rattle.state.specs.declared.Unit.{Unit}
+use Rattle.unit.specs.declared.registers.Register.{Register}
+use Rattle.unit.specs.declared.registers.Register.TheVariants as register
 
 unfoldable pub registerWord : Unit → Register → ℕ
 registerWord u register.Tsba = tsbaOf u

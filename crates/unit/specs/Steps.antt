@@ -1,31 +1,26 @@
 -- What an ask comes to in a core that refusals 1 to 3 let pass: its answer, what it touches, and the core after it. Only a step answered
 -- "done" is taken; for any other answer nothing changes.
-use mathlib.Core.Bool.{Bool, false, _||_}
-use mathlib.Core.List.{List}
-use mathlib.Core.Path.{_≡_}
-use Prim.Native.Nat.{ℕ, _+_, _≤_}
-use lib.Dec.{eqb, ltb}
-use lib.ListN.{length}
-use lib.Seq.{sets}
-use Rattle·lists.specs.Pick.{pick}
-use Rattle·index.specs.Cutting.{cutAt, extended}
-use Rattle·index.specs.Table.{placesIn}
-use Rattle·index.specs.declared.Cut.{Cut}
-use Rattle·state.specs.Changes.{initialized, operated, tsdbWritten}
-use Rattle·state.specs.Legal.{Legal}
-use Rattle·state.specs.declared.Unit.{Unit}
-use Rattle·commands.specs.Ends.{still}
-use Rattle·commands.specs.declared.plans.Answer.{Answer}
-use Rattle·commands.specs.declared.plans.Answer.the-variants as answer
-use Rattle·commands.specs.declared.plans.Plan.{Plan}
-use Rattle·motions.specs.declared.parts.Laid.{Laid}
-use Rattle·storing.specs.Stored.{laidObjects, memoryAfter, reelAfter}
-use Rattle·advance.specs.Steps.{advanced}
-use Rattle·touched.specs.Touches.{Only, TouchedIn, none, placeBelow}
-use Rattle·touched.specs.declared.Touched.{Touched}
-use Rattle·unit·specs.specs.Asks.{Ask, advance, host-store, operate, write-tsdb, write-tssr}
-use Rattle·unit·specs.specs.Cores.{Core}
-use Rattle·unit·specs.specs.Touching.{hostTouched, laidPlaces, touchedBy}
+use Rattle.std.specs.Prelude.{Bool, false, ◌||◌, List, ◌≡◌, ℕ, ◌+◌, ◌≤◌, eqb, ltb, length}
+use Rattle.std.proofs.lemmas.List.Edits.{sets}
+use Rattle.lists.specs.Pick.{pick}
+use Rattle.index.specs.Cutting.{cut_at, extended}
+use Rattle.index.specs.Table.{placesIn}
+use Rattle.index.specs.declared.Cut.{Cut}
+use Rattle.state.specs.Changes.{initialized, operated, tsdbWritten}
+use Rattle.state.specs.Legal.{Legal}
+use Rattle.state.specs.declared.Unit.{Unit}
+use Rattle.commands.specs.Ends.{still}
+use Rattle.commands.specs.declared.plans.Answer.{Answer}
+use Rattle.commands.specs.declared.plans.Answer.TheVariants as answer
+use Rattle.commands.specs.declared.plans.Plan.{Plan}
+use Rattle.motions.specs.declared.parts.Laid.{Laid}
+use Rattle.storing.specs.Stored.{laidObjects, memoryAfter, reelAfter}
+use Rattle.advance.specs.Steps.{advanced}
+use Rattle.touched.specs.Touches.{Only, TouchedIn, none, placeBelow}
+use Rattle.touched.specs.declared.Touched.{Touched}
+use Rattle.unit.specs.Asks.{Ask, advance, host-store, operate, write-tsdb, write-tssr}
+use Rattle.unit.specs.Cores.{Core}
+use Rattle.unit.specs.Touching.{hostTouched, laidPlaces, touchedBy}
 
 pub record Step : Type 0 where
   pub answer : Answer
@@ -46,35 +41,35 @@ abbrev pub noCut : Cut
 noCut = record { place = 0; marks = 0 }
 
 unfoldable pub cutFor : Laid → List ℕ → ℕ → List ℕ → Cut
-cutFor l tb n s = pick (eqb (laidPlaces l) 0) noCut (cutAt tb n s (l .at))
+cutFor l tb n s = pick (eqb (laidPlaces l) 0) noCut (cut_at tb n s l.at)
 
 unfoldable pub objectsAfter : Laid → Cut → ℕ → ℕ
-objectsAfter l c n = pick (eqb (laidPlaces l) 0) n (c .place + laidPlaces l)
+objectsAfter l c n = pick (eqb (laidPlaces l) 0) n (c.place + laidPlaces l)
 
 -- the same of a core, and its table then
-abbrev pub cutOf : Core → Laid → Cut
-cutOf c l = cutFor l (c .table) (c .objects) (c .reel)
+abbrev pub cut_of : Core → Laid → Cut
+cut_of c l = cutFor l c.table c.objects c.reel
 
 unfoldable pub tableAfter : Core → Laid → List ℕ
-tableAfter c l = extended (c .table) (cutOf c l) (l .at) (laidObjects (c .memory) l)
+tableAfter c l = extended c.table (cut_of c l) l.at (laidObjects c.memory l)
 
 -- "11 when the table is too small for the objects": for those that it holds, or for those that it is to hold
 unfoldable pub tooSmall : ℕ → ℕ → ℕ → Bool
-tooSmall table n n′ = ltb (placesIn table) n || ltb (placesIn table) n′
+tooSmall table n n' = ltb (placesIn table) n || ltb (placesIn table) n'
 
 -- a plan carried out
 unfoldable pub carried : Core → Plan → Step
 carried c p =
     record {
-      answer = p .answer;
-      touched = touchedBy p (cutOf c (p .laid) .place);
+      answer = p.answer;
+      touched = touchedBy p (cut_of c p.laid).place;
       after =
           record {
-            unit = p .unit;
-            objects = objectsAfter (p .laid) (cutOf c (p .laid)) (c .objects);
-            memory = memoryAfter p (c .memory) (c .reel);
-            reel = reelAfter p (c .memory) (c .reel);
-            table = tableAfter c (p .laid);
+            unit = p.unit;
+            objects = objectsAfter p.laid (cut_of c p.laid) c.objects;
+            memory = memoryAfter p c.memory c.reel;
+            reel = reelAfter p c.memory c.reel;
+            table = tableAfter c p.laid;
           };
     }
 
@@ -84,26 +79,26 @@ changed u = still u (answer.Done false)
 
 unfoldable pub stored : Core → ℕ → List ℕ → Step
 stored c place bytes =
-    pick (storeWrong (length (c .memory)) place (length bytes)) (record { answer = answer.Refused 5; touched = none; after = c })
+    pick (storeWrong (length c.memory) place (length bytes)) (record { answer = answer.Refused 5; touched = none; after = c })
     (record {
       answer = answer.Done false;
       touched = hostTouched place (length bytes);
-      after = record { unit = c .unit; objects = c .objects; memory = sets (c .memory) place bytes; reel = c .reel; table = c .table };
+      after = record { unit = c.unit; objects = c.objects; memory = sets c.memory place bytes; reel = c.reel; table = c.table };
     })
 
-unfoldable pub stepOf : Ask → Core → Step
-stepOf (write-tsdb word) c = carried c (changed (tsdbWritten (c .unit) word))
-stepOf write-tssr c = carried c (changed (initialized (c .unit)))
-stepOf (operate a) c = carried c (changed (operated (c .unit) a))
-stepOf (host-store place bytes) c = stored c place bytes
-stepOf advance c = carried c (advanced (c .unit) (c .memory) (c .reel))
+unfoldable pub step_of : Ask → Core → Step
+step_of (write-tsdb word) c = carried c (changed (tsdbWritten c.unit word))
+step_of write-tssr c = carried c (changed (initialized c.unit))
+step_of (operate a) c = carried c (changed (operated c.unit a))
+step_of (host-store place bytes) c = stored c place bytes
+step_of advance c = carried c (advanced c.unit c.memory c.reel)
 
 -- what every step keeps to: nothing but what it touches changes, that lies inside memory and reel, a state that 1 accepts stays one, and the places that
 -- it fills end where the used part of the table does
 pub record Sound (c : Core) (x : Step) : Type 0 where
-  pub only : Only (x .touched) (c .memory) (c .reel) (c .table) (x .after .memory) (x .after .reel) (x .after .table)
-  pub within : TouchedIn (x .touched) (length (c .memory)) (length (c .reel))
-  pub legal : Legal (x .after .unit)
-  pub lengths : x .after .unit .lengths ≡ c .unit .lengths
-  pub filled : x .touched .«place_at» ≡ placeBelow (x .after .objects) (x .touched .places)
-  pub fewer : x .touched .places ≤ x .after .objects
+  pub only : Only x.touched c.memory c.reel c.table x.after.memory x.after.reel x.after.table
+  pub within : TouchedIn x.touched (length c.memory) (length c.reel)
+  pub legal : Legal x.after.unit
+  pub lengths : x.after.unit.lengths ≡ c.unit.lengths
+  pub filled : x.touched.place_at ≡ placeBelow x.after.objects x.touched.places
+  pub fewer : x.touched.places ≤ x.after.objects

@@ -1,31 +1,23 @@
 // What is asked of the unit: a plan first, as a value, with what it will touch, and then carrying it out.
+ghost use Rattle.std.specs.Prelude.{◌≡◌, ◌+◌, ◌*◌, ◌≤◌, ◌<◌, ◌%◌, length};
+ghost use Rattle.std.proofs.lemmas.List.Edits.{sets};
+ghost use Rattle.index.specs.Table.{placeLength, placesRow};
+ghost use Rattle.unit.specs.Touching.{hostTouched, laidPlaces, movedPlace, objectPlaces, touchedBy};
+ghost use Rattle.unit.specs.Steps.{cutFor, objectsAfter, storeWrong, tooSmall};
+
 use commands::Plan;
-use index::Cut;
-use index::cut_at;
-use index::places;
-use index::put_places;
+use index::{Cut, cut_at, places, put_places};
 use lists::scatter;
-use motions::Laid;
-use motions::Moved;
-use motions::ObjectKind;
-use motions::laid_blocks;
-use motions::moved_bytes;
+use motions::{Laid, Moved, ObjectKind, laid_blocks, moved_bytes};
 use touched::Touched;
-ghost use mathlib.Core.Path.{_≡_};
-ghost use Prim.Native.Nat.{_+_, _*_, _≤_, _<_, _%_};
-ghost use lib.ListN.{length};
-ghost use lib.Seq.{sets};
-ghost use Rattle·index.specs.Table.{placeLength, placesRow};
-ghost use Rattle·unit·specs.specs.Touching.{hostTouched, laidPlaces, movedPlace, objectPlaces, touchedBy};
-ghost use Rattle·unit·specs.specs.Steps.{cutFor, objectsAfter, storeWrong, tooSmall};
 
 // "Host store: 0 to 65,535 bytes."
 pub const HOST_LIMIT: usize = 65535;
 
 // Where a Read's bytes go, of its buffer.
 fn moved_place(m: Moved) -> usize
-    requires { ⌜ m .pointer < 18446744073709486080 ⌝ }
-    ensures { λ r. ⌜ r ≡ movedPlace m ⌝ }
+    requires { m.pointer < 18446744073709486080 }
+    ensures { result ≡ movedPlace m }
 {
     let count = m.count as usize;
     if m.reverse & (m.length < count) {
@@ -35,8 +27,8 @@ fn moved_place(m: Moved) -> usize
 }
 
 fn object_places(o: ObjectKind) -> u32
-    ensures is { λ r. ⌜ r ≡ objectPlaces o ⌝ }
-    ensures low { λ r. ⌜ r ≤ 1 ⌝ }
+    ensures is { result ≡ objectPlaces o }
+    ensures low { result ≤ 1 }
 {
     match o {
         ObjectKind::Nothing => 0,
@@ -48,8 +40,8 @@ fn object_places(o: ObjectKind) -> u32
 
 // How many places of the table are filled: one for each object that is laid.
 pub fn laid_places(l: Laid) -> u32
-    ensures is { λ r. ⌜ r ≡ laidPlaces l ⌝ }
-    ensures low { λ r. ⌜ r ≤ 2 ⌝ }
+    ensures is { result ≡ laidPlaces l }
+    ensures low { result ≤ 2 }
 {
     let o = l.object;
     let n = object_places(o);
@@ -58,8 +50,8 @@ pub fn laid_places(l: Laid) -> u32
 
 // Where what is laid cuts a table of n places; what lays nothing cuts nothing, and is spared the search.
 pub fn cut_for(l: Laid, table: &[u8], n: usize, reel: &[u8]) -> Cut
-    requires { ⌜ placeLength * n ≤ length (now table) ⌝ }
-    ensures { λ r. ⌜ r ≡ cutFor l (now (table .entry)) n (now (reel .entry)) ⌝ }
+    requires { placeLength * n ≤ length table.now }
+    ensures { result ≡ cutFor l table.now n reel.now }
 {
     if laid_places(l) == 0 {
         return Cut { place: 0, marks: 0 };
@@ -69,8 +61,8 @@ pub fn cut_for(l: Laid, table: &[u8], n: usize, reel: &[u8]) -> Cut
 
 // How many places are used after it.
 pub fn objects_after(l: Laid, c: Cut, n: usize) -> usize
-    requires { ⌜ c .place ≤ 4294967295 ⌝ }
-    ensures { λ r. ⌜ r ≡ objectsAfter l c n ⌝ }
+    requires { c.place ≤ 4294967295 }
+    ensures { result ≡ objectsAfter l c n }
 {
     let f = laid_places(l);
     if f == 0 {
@@ -81,7 +73,7 @@ pub fn objects_after(l: Laid, c: Cut, n: usize) -> usize
 
 // Refusal 11: has a table of so many bytes fewer places than n, or than n2?
 pub fn too_small(table: usize, n: usize, n2: usize) -> bool
-    ensures { λ r. ⌜ r ≡ tooSmall table n n2 ⌝ }
+    ensures { result ≡ tooSmall table n n2 }
 {
     let have = places(table);
     (have < n) | (have < n2)
@@ -89,8 +81,8 @@ pub fn too_small(table: usize, n: usize, n2: usize) -> bool
 
 // The places of what is laid, in a table that is cut at c.
 pub fn fill_places(table: &mut [u8], l: Laid, c: Cut)
-    requires { ⌜ (placeLength * (c .place + laidPlaces l) ≤ length (now table)) × (l .at + 2 ≤ 4294967295) ⌝ }
-    ensures { λ _. ⌜ now (table .exit) ≡ sets (now (table .entry)) (placeLength * c .place) (placesRow (l .at) (c .marks) (laidPlaces l)) ⌝ }
+    requires { (placeLength * (c.place + laidPlaces l) ≤ length table.old) × (l.at + 2 ≤ 4294967295) }
+    ensures { table.new ≡ sets table.old (placeLength * c.place) (placesRow l.at c.marks (laidPlaces l)) }
 {
     let n = laid_places(l);
     put_places(table, c, l.at, n as usize);
@@ -98,8 +90,8 @@ pub fn fill_places(table: &mut [u8], l: Laid, c: Cut)
 
 // What carrying out a plan will change, where it fills the table's places from place m on.
 pub fn touched_by(p: Plan, m: usize) -> Touched
-    requires { ⌜ p .moved .pointer < 18446744073709486080 ⌝ }
-    ensures { λ r. ⌜ r ≡ touchedBy p m ⌝ }
+    requires { p.moved.pointer < 18446744073709486080 }
+    ensures { result ≡ touchedBy p m }
 {
     let d = p.moved;
     let l = p.laid;
@@ -136,7 +128,7 @@ pub fn touched_by(p: Plan, m: usize) -> Touched
 
 // Refusal 5: too long, or past the end of memory. A difference and no sum: the place may be made up.
 pub fn store_wrong(memory: usize, place: usize, n: usize) -> bool
-    ensures { λ r. ⌜ r ≡ storeWrong memory place n ⌝ }
+    ensures { result ≡ storeWrong memory place n }
 {
     if (HOST_LIMIT < n) | (memory < n) {
         return true;
@@ -146,7 +138,7 @@ pub fn store_wrong(memory: usize, place: usize, n: usize) -> bool
 
 // What a host store of n bytes at a place will change.
 pub fn host_touched(place: usize, n: usize) -> Touched
-    ensures { λ r. ⌜ r ≡ hostTouched place n ⌝ }
+    ensures { result ≡ hostTouched place n }
 {
     Touched {
         data_at: place,
@@ -163,8 +155,8 @@ pub fn host_touched(place: usize, n: usize) -> Touched
 
 // The host's bytes are stored.
 pub fn put_host(mem: &mut [u8], place: usize, bytes: &[u8])
-    requires { ⌜ (place + length (now bytes) ≤ length (now mem)) × (length (now mem) % 2 ≡ 0) ⌝ }
-    ensures { λ _. ⌜ now (mem .exit) ≡ sets (now (mem .entry)) place (now (bytes .entry)) ⌝ }
+    requires { (place + length bytes.now ≤ length mem.old) × (length mem.old % 2 ≡ 0) }
+    ensures { mem.new ≡ sets mem.old place bytes.now }
 {
     scatter(bytes, mem, place, false);
 }

@@ -4,18 +4,10 @@ mod mounting;
 mod registers;
 
 pub use advance::plan_advance;
-pub use asking::HOST_LIMIT;
-pub use asking::cut_for;
-pub use asking::fill_places;
-pub use asking::host_touched;
-pub use asking::objects_after;
-pub use asking::put_host;
-pub use asking::store_wrong;
-pub use asking::too_small;
-pub use asking::touched_by;
-pub use mounting::Mounted;
-pub use mounting::mount;
-pub use mounting::mount_refusal;
-pub use registers::Register;
-pub use registers::register_word;
+pub use asking::{
+    HOST_LIMIT, cut_for, fill_places, host_touched, objects_after, put_host, store_wrong,
+    too_small, touched_by,
+};
+pub use mounting::{Mounted, mount, mount_refusal};
+pub use registers::{Register, register_word};
 pub use storing::store;

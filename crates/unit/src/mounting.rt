@@ -1,13 +1,13 @@
 // Mounting a reel: refusals 2, 3 and 7.
+ghost use Rattle.std.specs.Prelude.{◌≡◌};
+ghost use Rattle.unit.specs.Mounts.{mountCall, mountRefusal};
+
 use commands::Answer;
-use state::Lengths;
-use state::Unit;
-use tape::Geometry;
-use tape::Swept;
-ghost use mathlib.Core.Path.{_≡_};
-ghost use Rattle·unit·specs.specs.Mounts.{mountCall, mountRefusal};
+use state::{Lengths, Unit};
+use tape::{Geometry, Swept};
 
 // What a mount hands back: its answer and the state after it.
+#[derive(Drop)]
 pub struct Mounted {
     pub answer: Answer,
     pub unit: Unit,
@@ -15,7 +15,7 @@ pub struct Mounted {
 
 // Lengths of memory, in bytes, and of the reel, with the end that is to be taken.
 pub fn mount_refusal(memory: usize, reel: usize, e: usize) -> usize
-    ensures { λ r. ⌜ r ≡ mountRefusal memory reel e ⌝ }
+    ensures { result ≡ mountRefusal memory reel e }
 {
     if !state::memory_right(memory) {
         return 2;
@@ -29,7 +29,7 @@ pub fn mount_refusal(memory: usize, reel: usize, e: usize) -> usize
 
 // The state it replaces is not looked at; refused, that is handed back.
 pub fn mount(old: Unit, memory: usize, reel: &[u8], e: usize, online: bool, locked: bool) -> Mounted
-    ensures { λ r. ⌜ r ≡ mountCall old memory (now (reel .entry)) e online locked ⌝ }
+    ensures { result ≡ mountCall old memory reel.now e online locked }
 {
     let n = mount_refusal(memory, reel.len(), e);
     if n != 0 {

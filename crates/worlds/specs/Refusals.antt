@@ -1,10 +1,8 @@
 -- Refusals 1 to 4 of a step. (01, the table)
-use mathlib.Core.Bool.{Bool, _||_, not}
-use Prim.Native.Nat.{ℕ}
-use lib.Dec.{eqb, ltb}
-use Rattle·lists.specs.Pick.{pick}
-use Rattle·state.specs.Checks.{refusalOf, stateWrong}
-use Rattle·worlds·specs.specs.declared.Session.{Session}
+use Rattle.std.specs.Prelude.{Bool, ◌||◌, not, ℕ, eqb, ltb}
+use Rattle.lists.specs.Pick.{pick}
+use Rattle.state.specs.Checks.{refusalOf, stateWrong}
+use Rattle.worlds.specs.declared.Session.{Session}
 
 -- "Journal: 0 to 16,777,216 bytes."
 abbrev pub journalLimit : ℕ
@@ -12,11 +10,11 @@ journalLimit = 16777216
 
 -- "1 .. or used journal or a mounted length out of range"
 unfoldable pub sessionWrong : Session → Bool
-sessionWrong s = stateWrong (s .unit) || (ltb (s .journal) (s .used) || ltb journalLimit (s .journal))
+sessionWrong s = stateWrong s.unit || (ltb s.journal s.used || ltb journalLimit s.journal)
 
 -- the first of 1 to 4 that holds, for lengths in bytes; "4 journal too long, or not of the mount's length"
 unfoldable pub checked : Session → ℕ → ℕ → ℕ → ℕ
 checked s memory reel journal =
     pick (sessionWrong s) 1
-    (pick (not (eqb (refusalOf (s .unit) memory reel) 0)) (refusalOf (s .unit) memory reel)
-    (pick (not (eqb journal (s .journal))) 4 0))
+    (pick (not (eqb (refusalOf s.unit memory reel) 0)) (refusalOf s.unit memory reel)
+    (pick (not (eqb journal s.journal)) 4 0))

@@ -1,19 +1,15 @@
 -- A row of transports over one coupler: their records, what they share, and the refusals of calls over them. (02, [9])
-use mathlib.Core.Bool.{Bool, false, _&&_, _||_, not}
-use mathlib.Core.List.{List, [], _∷_}
-use Prim.Native.Nat.{ℕ, _*_}
-use lib.Dec.{eqb, leb, ltb}
-use lib.ListN.{getD, length, take}
-use Rattle·lists.specs.Pick.{pick}
-use Rattle·tape.specs.Numbers.{blockBytes}
-use Rattle·state.specs.Checks.{memoryRight, stateWrong}
-use Rattle·state.specs.declared.Unit.{Unit}
-use Rattle·entries.specs.Entries.{entryBare, transports}
-use Rattle·worlds·specs.specs.Refusals.{journalLimit}
-use Rattle·worlds·specs.specs.declared.Coupler.{Coupler}
-use Rattle·worlds·specs.specs.declared.Seat.{Seat}
-use Rattle·worlds·specs.specs.declared.Session.{Session}
-use Rattle·worlds·specs.specs.declared.Transport.{Transport}
+use Rattle.std.specs.Prelude.{Bool, false, ◌&&◌, ◌||◌, not, List, [], ◌∷◌, ℕ, ◌*◌, eqb, leb, ltb, get_or, length, take}
+use Rattle.lists.specs.Pick.{pick}
+use Rattle.tape.specs.Numbers.{blockBytes}
+use Rattle.state.specs.Checks.{memoryRight, stateWrong}
+use Rattle.state.specs.declared.Unit.{Unit}
+use Rattle.entries.specs.Entries.{entryBare, transports}
+use Rattle.worlds.specs.Refusals.{journalLimit}
+use Rattle.worlds.specs.declared.Coupler.{Coupler}
+use Rattle.worlds.specs.declared.Seat.{Seat}
+use Rattle.worlds.specs.declared.Session.{Session}
+use Rattle.worlds.specs.declared.Transport.{Transport}
 
 -- "12 for a unit not present, checked first": "Document 002 allows units 0 to 3", and the row may have fewer
 unfoldable pub absentIn : ℕ → ℕ → Bool
@@ -23,32 +19,32 @@ absentIn n k = leb n k || leb transports k
 abbrev pub unitOver : ℕ → Transport → Unit
 unitOver memory t =
     record {
-      tape = t .tape;
-      registers = t .registers;
-      panel = t .panel;
-      attention = t .attention;
-      characteristics = t .characteristics;
-      lengths = record { memory = memory; blocks = t .blocks };
+      tape = t.tape;
+      registers = t.registers;
+      panel = t.panel;
+      attention = t.attention;
+      characteristics = t.characteristics;
+      lengths = record { memory = memory; blocks = t.blocks };
     }
 
 -- a record taken out of the row, with what it shares; and what is put back
 abbrev pub sessionOver : Coupler → Transport → Session
-sessionOver c t = record { unit = unitOver (c .memory) t; objects = t .objects; used = c .used; journal = c .journal }
+sessionOver c t = record { unit = unitOver c.memory t; objects = t.objects; used = c.used; journal = c.journal }
 
 abbrev pub transportOf : Session → Transport
 transportOf s =
     record {
-      tape = s .unit .tape;
-      registers = s .unit .registers;
-      panel = s .unit .panel;
-      attention = s .unit .attention;
-      characteristics = s .unit .characteristics;
-      blocks = s .unit .lengths .blocks;
-      objects = s .objects;
+      tape = s.unit.tape;
+      registers = s.unit.registers;
+      panel = s.unit.panel;
+      attention = s.unit.attention;
+      characteristics = s.unit.characteristics;
+      blocks = s.unit.lengths.blocks;
+      objects = s.objects;
     }
 
 abbrev pub couplerOf : Session → Coupler
-couplerOf s = record { used = s .used; memory = s .unit .lengths .memory; journal = s .journal }
+couplerOf s = record { used = s.used; memory = s.unit.lengths.memory; journal = s.journal }
 
 -- the record of one that was never mounted
 abbrev pub noTransport : Transport
@@ -57,61 +53,61 @@ noTransport =
       tape = record { position = 0; end = 0 };
       registers = record { pointer = 0; class = 0; rmr = false; nxm = false; nba = false; ssr = false };
       panel = record { online = false; locked = false; vck = false };
-      attention = record { «unit_owns» = false; pending = false; «release_ie» = false };
+      attention = record { unit_owns = false; pending = false; release_ie = false };
       characteristics = record { address = 0; length = 0; eai = false; ess = false; enb = false };
       blocks = 0;
       objects = 0;
     }
 
 abbrev pub isMounted : Transport → Bool
-isMounted t = not (eqb (t .blocks) 0)
+isMounted t = not (eqb t.blocks 0)
 
 -- refusal 1 of what is shared: "used journal or a mounted length out of range"
 unfoldable pub couplerWrong : Coupler → Bool
-couplerWrong c = not (memoryRight (c .memory)) || (ltb (c .journal) (c .used) || ltb journalLimit (c .journal))
+couplerWrong c = not (memoryRight c.memory) || (ltb c.journal c.used || ltb journalLimit c.journal)
 
 -- refusals 1, 2 and 4, for lengths in bytes: "Host stores belong to no unit", so no record of the row and no reel is asked
 unfoldable pub couplerChecked : Coupler → ℕ → ℕ → ℕ
 couplerChecked c memory journal =
     pick (couplerWrong c) 1
-    (pick (not (eqb memory (c .memory))) 2
-    (pick (not (eqb journal (c .journal))) 4 0))
+    (pick (not (eqb memory c.memory)) 2
+    (pick (not (eqb journal c.journal)) 4 0))
 
 -- a transport that is mounted and whose state 1 refuses, or whose reel is not of the mount's length
 unfoldable pub stateSeatWrong : ℕ → Seat → Bool
-stateSeatWrong memory s = isMounted (s .transport) && stateWrong (unitOver memory (s .transport))
+stateSeatWrong memory s = isMounted s.transport && stateWrong (unitOver memory s.transport)
 
 unfoldable pub reelSeatWrong : Seat → Bool
-reelSeatWrong s = isMounted (s .transport) && not (eqb (s .reel) (blockBytes * s .transport .blocks))
+reelSeatWrong s = isMounted s.transport && not (eqb s.reel (blockBytes * s.transport.blocks))
 
 -- it is so of one in the list
-unfoldable pub anyOf : (Seat → Bool) → List Seat → Bool
-anyOf p [] = false
-anyOf p (s ∷ l) = p s || anyOf p l
+unfoldable pub any_of : (Seat → Bool) → List Seat → Bool
+any_of p [] = false
+any_of p (s ∷ l) = p s || any_of p l
 
 -- the first n of four
-abbrev pub rowOf : ℕ → Seat → Seat → Seat → Seat → List Seat
-rowOf n s0 s1 s2 s3 = take n (s0 ∷ s1 ∷ s2 ∷ s3 ∷ [])
+abbrev pub row_of : ℕ → Seat → Seat → Seat → Seat → List Seat
+row_of n s0 s1 s2 s3 = take n (s0 ∷ s1 ∷ s2 ∷ s3 ∷ [])
 
 -- refusals 1 to 4 of a step back, which is lent every reel: 1 and 3 for every transport of the row that is mounted
 unfoldable pub rowChecked : Coupler → List Seat → ℕ → ℕ → ℕ
 rowChecked c row memory journal =
-    pick (couplerWrong c || anyOf (stateSeatWrong (c .memory)) row) 1
-    (pick (not (eqb memory (c .memory))) 2
-    (pick (anyOf reelSeatWrong row) 3
-    (pick (not (eqb journal (c .journal))) 4 0)))
+    pick (couplerWrong c || any_of (stateSeatWrong c.memory) row) 1
+    (pick (not (eqb memory c.memory)) 2
+    (pick (any_of reelSeatWrong row) 3
+    (pick (not (eqb journal c.journal)) 4 0)))
 
 abbrev pub noSeat : Seat
 noSeat = record { transport = noTransport; reel = 0 }
 
 -- transport k is in the row, and mounted
 unfoldable pub standingIn : List Seat → ℕ → Bool
-standingIn row k = not (absentIn (length row) k) && isMounted (getD row k noSeat .transport)
+standingIn row k = not (absentIn (length row) k) && isMounted (get_or row k noSeat).transport
 
 -- refusals 1 to 4, then 6 and 8 of a step back whose newest entry names k: 8 where the used journal is too short for an entry, or where its transport is not present
 -- or not mounted, so that the entry doesn't fit
 unfoldable pub backRefusal : Coupler → List Seat → ℕ → ℕ → ℕ → ℕ
 backRefusal c row memory journal k =
     pick (not (eqb (rowChecked c row memory journal) 0)) (rowChecked c row memory journal)
-    (pick (eqb (c .used) 0) 6
-    (pick (ltb (c .used) entryBare || not (eqb k transports || standingIn row k)) 8 0))
+    (pick (eqb c.used 0) 6
+    (pick (ltb c.used entryBare || not (eqb k transports || standingIn row k)) 8 0))

@@ -1,14 +1,11 @@
 -- All that a call can change, in two parts: the core that steps change and steps back bring back, and the ledger of the steps that stand.
-use mathlib.Core.Bool.{false}
-use mathlib.Core.Path.{_≡_}
-use mathlib.Core.List.{List}
-use Prim.Native.Nat.{ℕ}
-use Rattle·commands.specs.Answers.{isStep}
-use Rattle·commands.specs.declared.plans.Answer.{Answer}
-use Rattle·unit.specs.Cores.{Core}
-use Rattle·entries.specs.Entries.{usedIn}
-use Rattle·worlds·specs.specs.declared.Session.{Session}
-use Rattle·worlds·specs.specs.declared.Outcome.{Outcome}
+use Rattle.std.specs.Prelude.{false, ◌≡◌, List, ℕ}
+use Rattle.commands.specs.Answers.{isStep}
+use Rattle.commands.specs.declared.plans.Answer.{Answer}
+use Rattle.unit.specs.Cores.{Core}
+use Rattle.entries.specs.Entries.{usedIn}
+use Rattle.worlds.specs.declared.Session.{Session}
+use Rattle.worlds.specs.declared.Outcome.{Outcome}
 
 -- the used journal: how many bytes, of how many at the mount, and which
 pub record Ledger : Type 0 where
@@ -35,17 +32,17 @@ abbrev pub worldOf : ℕ → Session → List ℕ → List ℕ → List ℕ → 
 worldOf k s m r tb j =
     record {
       number = k;
-      core = record { unit = s .unit; objects = s .objects; memory = m; reel = r; table = tb };
-      ledger = record { used = s .used; length = s .journal; bytes = usedIn (s .used) j };
+      core = record { unit = s.unit; objects = s.objects; memory = m; reel = r; table = tb };
+      ledger = record { used = s.used; length = s.journal; bytes = usedIn s.used j };
     }
 
 -- the numbers of a world that a call is handed and hands back
 abbrev pub sessionOf : World → Session
-sessionOf w = record { unit = w .core .unit; objects = w .core .objects; used = w .ledger .used; journal = w .ledger .length }
+sessionOf w = record { unit = w.core.unit; objects = w.core.objects; used = w.ledger.used; journal = w.ledger.length }
 
 -- what a call that was lent the journal j hands back and leaves in the slices is the definition's answer and world; and where it takes no step,
 -- it leaves every byte of the journal, the unused ones too
-pub record Leaves (x : Answered) (j : List ℕ) (o : Outcome) (m r tb j′ : List ℕ) : Type 0 where
-  pub answer : o .answer ≡ x .answer
-  pub world : worldOf (x .world .number) (o .session) m r tb j′ ≡ x .world
-  pub unless-step : isStep (x .answer) ≡ false → j′ ≡ j
+pub record Leaves (x : Answered) (j : List ℕ) (o : Outcome) (m r tb j' : List ℕ) : Type 0 where
+  pub answer : o.answer ≡ x.answer
+  pub world : worldOf x.world.number o.session m r tb j' ≡ x.world
+  pub unless-step : isStep x.answer ≡ false → j' ≡ j

@@ -1,12 +1,12 @@
 // Refusals 1 to 4, which every step of a transport makes first.
-use crate::JOURNAL_LIMIT;
-use crate::Session;
-ghost use mathlib.Core.Path.{_≡_};
-ghost use Rattle·worlds·specs.specs.Refusals.{checked, sessionWrong};
+ghost use Rattle.std.specs.Prelude.{◌≡◌};
+ghost use Rattle.worlds.specs.Refusals.{checked, sessionWrong};
+
+use crate::{JOURNAL_LIMIT, Session};
 
 // Refusal 1: the state's own numbers, the used journal and the mounted lengths.
 pub fn session_wrong(s: Session) -> bool
-    ensures { λ r. ⌜ r ≡ sessionWrong s ⌝ }
+    ensures { result ≡ sessionWrong s }
 {
     let u = s.unit;
     state::state_wrong(u) | ((s.journal < s.used) | (JOURNAL_LIMIT < s.journal))
@@ -14,7 +14,7 @@ pub fn session_wrong(s: Session) -> bool
 
 // The first of refusals 1 to 4 that holds, or 0. The lengths are in bytes.
 pub fn check(s: Session, memory: usize, reel: usize, journal: usize) -> usize
-    ensures { λ r. ⌜ r ≡ checked s memory reel journal ⌝ }
+    ensures { result ≡ checked s memory reel journal }
 {
     if session_wrong(s) {
         return 1;

@@ -4,29 +4,15 @@ mod checks;
 mod looks;
 mod rows;
 
-pub use checks::check;
-pub use checks::session_wrong;
+pub use checks::{check, session_wrong};
 use commands::Answer;
 use index::Found;
-pub use looks::look_at;
-pub use looks::look_of;
-pub use looks::looks_check;
-pub use looks::looks_standing;
-pub use looks::no_look;
-pub use rows::absent;
-pub use rows::coupler_check;
-pub use rows::coupler_of;
-pub use rows::no_transport;
-pub use rows::session_over;
-pub use rows::transport_of;
-use state::Attention;
-use state::Characteristics;
-use state::Panel;
-use state::Registers;
-use state::Tape;
-use state::Unit;
+pub use looks::{look_at, look_of, looks_check, looks_standing, no_look};
+pub use rows::{absent, coupler_check, coupler_of, no_transport, session_over, transport_of};
+use state::{Attention, Characteristics, Panel, Registers, Tape, Unit};
 
 // The unit's state, the used places of the table, and the used journal and the mount's journal length, in bytes.
+#[derive(Drop)]
 pub struct Session {
     pub unit: Unit,
     pub objects: usize,
@@ -37,6 +23,7 @@ pub struct Session {
 pub const JOURNAL_LIMIT: usize = 16777216;
 
 // A unit's record in the row: its state, the mount's reel length in blocks, and the used places of its table. Memory's length is the coupler's.
+#[derive(Drop)]
 pub struct Transport {
     pub tape: Tape,
     pub registers: Registers,
@@ -48,6 +35,7 @@ pub struct Transport {
 }
 
 // What the transports share: the used journal, and the last mount's lengths of memory and journal, in bytes.
+#[derive(Drop)]
 pub struct Coupler {
     pub used: usize,
     pub memory: usize,
@@ -55,12 +43,14 @@ pub struct Coupler {
 }
 
 // A transport with the length in bytes of the reel that it is lent.
+#[derive(Drop)]
 pub struct Seat {
     pub transport: Transport,
     pub reel: usize,
 }
 
 // What a step back asks of a transport: whether it is in the row and mounted, and then whether refusal 1 and 3 hold for it.
+#[derive(Drop)]
 pub struct Look {
     pub mounted: bool,
     pub wrong: bool,
@@ -68,24 +58,28 @@ pub struct Look {
 }
 
 // What a call hands back.
+#[derive(Drop)]
 pub struct Outcome {
     pub answer: Answer,
     pub session: Session,
 }
 
 // What a call of no transport hands back.
+#[derive(Drop)]
 pub struct Shared {
     pub answer: Answer,
     pub coupler: Coupler,
 }
 
 // What reading a register hands back.
+#[derive(Drop)]
 pub struct RegisterRead {
     pub answer: Answer,
     pub word: u16,
 }
 
 // What a look-up in the table hands back.
+#[derive(Drop)]
 pub struct Finding {
     pub answer: Answer,
     pub found: Found,

@@ -1,17 +1,14 @@
 // What a step back asks of each transport of a row, and the refusals that it makes of the answers of four. One that is not in the row, or not mounted, is passed over.
-use crate::Coupler;
-use crate::Look;
-use crate::Seat;
-use crate::Transport;
-use crate::rows::coupler_wrong;
-use crate::rows::unit_over;
+ghost use Rattle.std.specs.Prelude.{◌≡◌};
+ghost use Rattle.worlds.specs.Looks.{lookAt, look_of, looksChecked, looksStanding, noLook};
+
+use crate::rows::{coupler_wrong, unit_over};
+use crate::{Coupler, Look, Seat, Transport};
 use tape::Geometry;
-ghost use mathlib.Core.Path.{_≡_};
-ghost use Rattle·worlds·specs.specs.Looks.{lookAt, lookOf, looksChecked, looksStanding, noLook};
 
 // Nothing is asked.
 pub fn no_look() -> Look
-    ensures { λ r. ⌜ r ≡ noLook ⌝ }
+    ensures { result ≡ noLook }
 {
     Look {
         mounted: false,
@@ -22,7 +19,7 @@ pub fn no_look() -> Look
 
 // Of a transport that is mounted: refusals 1 and 3.
 pub fn look_at(t: Transport, reel: usize, memory: usize) -> Look
-    ensures { λ r. ⌜ r ≡ lookAt memory t reel ⌝ }
+    ensures { result ≡ lookAt memory t reel }
 {
     let whole = (reel % Geometry::BLOCK == 0) & (reel / Geometry::BLOCK == t.blocks);
     let wrong = state::state_wrong(unit_over(t, memory));
@@ -35,7 +32,7 @@ pub fn look_at(t: Transport, reel: usize, memory: usize) -> Look
 
 // Of any, which may be in the row or not.
 pub fn look_of(present: bool, s: Seat, memory: usize) -> Look
-    ensures { λ r. ⌜ r ≡ lookOf present memory s ⌝ }
+    ensures { result ≡ look_of present memory s }
 {
     let t = s.transport;
     if present & (t.blocks != 0) {
@@ -54,7 +51,7 @@ pub fn looks_check(
     memory: usize,
     journal: usize,
 ) -> usize
-    ensures { λ r. ⌜ r ≡ looksChecked c l0 l1 l2 l3 memory journal ⌝ }
+    ensures { result ≡ looksChecked c l0 l1 l2 l3 memory journal }
 {
     if coupler_wrong(c) | ((l0.wrong | l1.wrong) | (l2.wrong | l3.wrong)) {
         return 1;
@@ -73,7 +70,7 @@ pub fn looks_check(
 
 // Is the transport with number k among them mounted?
 pub fn looks_standing(k: usize, l0: Look, l1: Look, l2: Look, l3: Look) -> bool
-    ensures { λ r. ⌜ r ≡ looksStanding k l0 l1 l2 l3 ⌝ }
+    ensures { result ≡ looksStanding k l0 l1 l2 l3 }
 {
     let low = ((k == 0) & l0.mounted) | ((k == 1) & l1.mounted);
     let high = ((k == 2) & l2.mounted) | ((k == 3) & l3.mounted);

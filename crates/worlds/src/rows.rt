@@ -1,28 +1,20 @@
 // A row of transports over one coupler: a record taken out of it as a session and put back, and the refusals that a call over the row makes first.
-use crate::Coupler;
-use crate::JOURNAL_LIMIT;
-use crate::Session;
-use crate::Transport;
+ghost use Rattle.std.specs.Prelude.{◌≡◌};
+ghost use Rattle.worlds.specs.Rows.{absentIn, couplerChecked, couplerOf, couplerWrong, noTransport, sessionOver, transportOf, unitOver};
+
+use crate::{Coupler, JOURNAL_LIMIT, Session, Transport};
 use entries::TRANSPORTS;
-use state::Attention;
-use state::Characteristics;
-use state::Lengths;
-use state::Panel;
-use state::Registers;
-use state::Tape;
-use state::Unit;
-ghost use mathlib.Core.Path.{_≡_};
-ghost use Rattle·worlds·specs.specs.Rows.{absentIn, couplerChecked, couplerOf, couplerWrong, noTransport, sessionOver, transportOf, unitOver};
+use state::{Attention, Characteristics, Lengths, Panel, Registers, Tape, Unit};
 
 // 12: "a unit not present".
 pub fn absent(n: usize, k: usize) -> bool
-    ensures { λ r. ⌜ r ≡ absentIn n k ⌝ }
+    ensures { result ≡ absentIn n k }
 {
     (n <= k) | (TRANSPORTS <= k)
 }
 
 pub fn unit_over(t: Transport, memory: usize) -> Unit
-    ensures { λ r. ⌜ r ≡ unitOver memory t ⌝ }
+    ensures { result ≡ unitOver memory t }
 {
     let tape = t.tape;
     let registers = t.registers;
@@ -45,7 +37,7 @@ pub fn unit_over(t: Transport, memory: usize) -> Unit
 
 // The record of a transport taken out, with what it shares.
 pub fn session_over(t: Transport, c: Coupler) -> Session
-    ensures { λ r. ⌜ r ≡ sessionOver c t ⌝ }
+    ensures { result ≡ sessionOver c t }
 {
     let unit = unit_over(t, c.memory);
     Session {
@@ -58,7 +50,7 @@ pub fn session_over(t: Transport, c: Coupler) -> Session
 
 // What is put back: the record, and what it shares.
 pub fn transport_of(s: Session) -> Transport
-    ensures { λ r. ⌜ r ≡ transportOf s ⌝ }
+    ensures { result ≡ transportOf s }
 {
     let u = s.unit;
     let tape = u.tape;
@@ -78,7 +70,7 @@ pub fn transport_of(s: Session) -> Transport
 }
 
 pub fn coupler_of(s: Session) -> Coupler
-    ensures { λ r. ⌜ r ≡ couplerOf s ⌝ }
+    ensures { result ≡ couplerOf s }
 {
     Coupler {
         used: s.used,
@@ -89,7 +81,7 @@ pub fn coupler_of(s: Session) -> Coupler
 
 // The record of a transport that was never mounted: all 0.
 pub fn no_transport() -> Transport
-    ensures { λ r. ⌜ r ≡ noTransport ⌝ }
+    ensures { result ≡ noTransport }
 {
     let tape = Tape {
         position: 0,
@@ -133,14 +125,14 @@ pub fn no_transport() -> Transport
 
 // Refusal 1 of what is shared.
 pub fn coupler_wrong(c: Coupler) -> bool
-    ensures { λ r. ⌜ r ≡ couplerWrong c ⌝ }
+    ensures { result ≡ couplerWrong c }
 {
     (!state::memory_right(c.memory)) | ((c.journal < c.used) | (JOURNAL_LIMIT < c.journal))
 }
 
 // Refusals 1, 2 and 4 of a call of no transport, or 0.
 pub fn coupler_check(c: Coupler, memory: usize, journal: usize) -> usize
-    ensures { λ r. ⌜ r ≡ couplerChecked c memory journal ⌝ }
+    ensures { result ≡ couplerChecked c memory journal }
 {
     if coupler_wrong(c) {
         return 1;

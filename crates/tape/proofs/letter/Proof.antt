@@ -1,49 +1,49 @@
 -- `letter` meets its contract, fault by fault.
-use borrow.Author.Needs.{needs}
-use Rattle·tape·specs.specs.Letters.{letterOf}
-use Rattle·tape·proofs.proofs.letter.Statement.{statement}
-use Rattle·tape·proofs.proofs.letter.Tie as tie
+use borrow.Author.Rules.{rules}
+use Rattle.tape.specs.Letters.{letterOf}
+use Rattle.tape.proofs.letter.Statement.{statement}
+use Rattle.tape.proofs.letter.Tie as tie
 
-enum-told : tie.Need-enum-told
-enum-told c = search needs
+enum_told : tie.Need-enum-told
+enum_told c = search rules
 
 enum-told-2 : tie.Need-enum-told-2
-enum-told-2 c = search needs
+enum-told-2 c = search rules
 
 enum-told-3 : tie.Need-enum-told-3
-enum-told-3 c = search needs
+enum-told-3 c = search rules
 
 enum-told-4 : tie.Need-enum-told-4
-enum-told-4 c = search needs
+enum-told-4 c = search rules
 
 enum-told-5 : tie.Need-enum-told-5
-enum-told-5 c = search needs
+enum-told-5 c = search rules
 
 returns : tie.Need-returns
 unfolding letterOf
-returns c = search needs
+returns c = search rules
 
 returns-2 : tie.Need-returns-2
 unfolding letterOf
-returns-2 c = search needs
+returns-2 c = search rules
 
 returns-3 : tie.Need-returns-3
 unfolding letterOf
-returns-3 c = search needs
+returns-3 c = search rules
 
 returns-4 : tie.Need-returns-4
 unfolding letterOf
-returns-4 c = search needs
+returns-4 c = search rules
 
 returns-5 : tie.Need-returns-5
 unfolding letterOf
-returns-5 c = search needs
+returns-5 c = search rules
 
 pub letter-spec : {M : Type 1} → statement M
 letter-spec =
     tie.close
     (tie.spec
-    enum-told
+    enum_told
     enum-told-2
     enum-told-3
     enum-told-4

@@ -1,18 +1,18 @@
 -- `not_executable` meets its contract: both tests are what their functions ensure.
-use borrow.Author.Needs.{needs}
-use Rattle·advance·specs.specs.Rules.{notExecutableUnder}
-use Rattle·advance·proofs.proofs.steps.not_executable.Statement.{statement}
-use Rattle·advance·proofs.proofs.steps.not_executable.Tie as tie
+use borrow.Author.Rules.{rules}
+use Rattle.advance.specs.Rules.{notExecutableUnder}
+use Rattle.advance.proofs.steps.not_executable.Statement.{statement}
+use Rattle.advance.proofs.steps.not_executable.Tie as tie
 
 reverse-first-requires : tie.Need-reverse-first-requires
-reverse-first-requires c κs = search needs
+reverse-first-requires c κs = search rules
 
 length-wrong-requires : tie.Need-length-wrong-requires
-length-wrong-requires c κs = search needs
+length-wrong-requires c κs = search rules
 
 returns : tie.Need-returns
 unfolding notExecutableUnder
-returns c = rw (c .length-wrong .ensures, c .before .before .reverse-first .ensures)
+returns c = rw (c.length-wrong.ensures, c.before.before.reverse-first.ensures)
 
 pub not-executable-spec : {M : Type 1} → statement M
 not-executable-spec = tie.close (tie.spec reverse-first-requires length-wrong-requires returns)

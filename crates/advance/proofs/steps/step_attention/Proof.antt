@@ -1,22 +1,22 @@
 -- `step_attention` meets its contract: its test is the definition's.
-use borrow.Author.Needs.{needs}
-use Rattle·advance·specs.specs.Steps.{stepAttentionUnder}
-use Rattle·advance·proofs.proofs.steps.step_attention.Statement.{statement}
-use Rattle·advance·proofs.proofs.steps.step_attention.Tie as tie
+use borrow.Author.Rules.{rules}
+use Rattle.advance.specs.Steps.{stepAttentionUnder}
+use Rattle.advance.proofs.steps.step_attention.Statement.{statement}
+use Rattle.advance.proofs.steps.step_attention.Tie as tie
 
 attend-requires : tie.Need-attend-requires
-attend-requires c κs = search needs
+attend-requires c κs = search rules
 
 returns : tie.Need-returns
 unfolding stepAttentionUnder
-returns c = rw (← c .attend .ensures, c .before .if1 .taken)
+returns c = rw (← c.attend.ensures, c.before.if1.true)
 
 step-volume-requires : tie.Need-step-volume-requires
-step-volume-requires c κs = search needs
+step-volume-requires c κs = search rules
 
 returns-2 : tie.Need-returns-2
 unfolding stepAttentionUnder
-returns-2 c = rw (← c .step-volume .ensures, c .before .if1 .left)
+returns-2 c = rw (← c.step-volume.ensures, c.before.if1.false)
 
 pub step-attention-spec : {M : Type 1} → statement M
 step-attention-spec = tie.close (tie.spec attend-requires returns step-volume-requires returns-2)

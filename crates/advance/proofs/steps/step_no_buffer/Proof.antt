@@ -1,22 +1,22 @@
 -- `step_no_buffer` meets its contract: its test is the definition's.
-use borrow.Author.Needs.{needs}
-use Rattle·advance·specs.specs.Steps.{stepNoBufferUnder}
-use Rattle·advance·proofs.proofs.steps.step_no_buffer.Statement.{statement}
-use Rattle·advance·proofs.proofs.steps.step_no_buffer.Tie as tie
+use borrow.Author.Rules.{rules}
+use Rattle.advance.specs.Steps.{stepNoBufferUnder}
+use Rattle.advance.proofs.steps.step_no_buffer.Statement.{statement}
+use Rattle.advance.proofs.steps.step_no_buffer.Tie as tie
 
 reject-requires : tie.Need-reject-requires
-reject-requires c κs = search needs
+reject-requires c κs = search rules
 
 returns : tie.Need-returns
 unfolding stepNoBufferUnder
-returns c = rw (← c .reject .ensures, c .before .if1 .taken)
+returns c = rw (← c.reject.ensures, c.before.if1.true)
 
 step-fetch-requires : tie.Need-step-fetch-requires
-step-fetch-requires c κs = search needs
+step-fetch-requires c κs = search rules
 
 returns-2 : tie.Need-returns-2
 unfolding stepNoBufferUnder
-returns-2 c = rw (← c .step-fetch .ensures, c .before .if1 .left)
+returns-2 c = rw (← c.step-fetch.ensures, c.before.if1.false)
 
 pub step-no-buffer-spec : {M : Type 1} → statement M
 step-no-buffer-spec = tie.close (tie.spec reject-requires returns step-fetch-requires returns-2)

@@ -1,26 +1,26 @@
 -- `step_owner` meets its contract: its test is the definition's, and what goes on is the unit of the definition.
-use borrow.Author.Needs.{needs}
-use mathlib.Core.Bool.{_||_}
+use borrow.Author.Rules.{rules}
+use mathlib.Core.Bool.{◌||◌}
 use borrow.Author.Tests.{not-true, not-false}
-use Rattle·commands.specs.Ends.{planByUnder, planOfUnder}
-use Rattle·advance·specs.specs.Steps.{stepOwnerUnder}
-use Rattle·advance·proofs.proofs.steps.step_owner.Statement.{statement}
-use Rattle·advance·proofs.proofs.steps.step_owner.Tie as tie
+use Rattle.commands.specs.Ends.{planByUnder, planOfUnder}
+use Rattle.advance.specs.Steps.{stepOwnerUnder}
+use Rattle.advance.proofs.steps.step_owner.Statement.{statement}
+use Rattle.advance.proofs.steps.step_owner.Tie as tie
 
 returns : tie.Need-returns
 unfolding stepOwnerUnder planOfUnder planByUnder
 returns c =
-    let a = c .before .before .before .before .before .before .args in
-    rw (not-true (a .u .attention .«unit_owns» || a .h .ack) (c .if1 .taken))
+    let a = c.before.before.before.before.before.before.args in
+    rw (not-true (a.u.attention.unit_owns || a.h.ack) c.if1.true)
 
 step-attention-requires : tie.Need-step-attention-requires
-step-attention-requires c κs = search needs
+step-attention-requires c κs = search rules
 
 returns-2 : tie.Need-returns-2
 unfolding stepOwnerUnder
 returns-2 c =
-    let a = c .before .before .before .before .before .before .before .args in
-    rw (← c .step-attention .ensures, not-false (a .u .attention .«unit_owns» || a .h .ack) (c .before .if1 .left))
+    let a = c.before.before.before.before.before.before.before.args in
+    rw (← c.step-attention.ensures, not-false (a.u.attention.unit_owns || a.h.ack) c.before.if1.false)
 
 pub step-owner-spec : {M : Type 1} → statement M
 step-owner-spec = tie.close (tie.spec returns step-attention-requires returns-2)

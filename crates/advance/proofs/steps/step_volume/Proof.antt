@@ -1,15 +1,15 @@
 -- `step_volume` meets its contract: the next step is given the unit of the definition.
-use borrow.Author.Needs.{needs}
-use Rattle·advance·specs.specs.Steps.{stepVolumeUnder}
-use Rattle·advance·proofs.proofs.steps.step_volume.Statement.{statement}
-use Rattle·advance·proofs.proofs.steps.step_volume.Tie as tie
+use borrow.Author.Rules.{rules}
+use Rattle.advance.specs.Steps.{stepVolumeUnder}
+use Rattle.advance.proofs.steps.step_volume.Statement.{statement}
+use Rattle.advance.proofs.steps.step_volume.Tie as tie
 
 step-illegal-requires : tie.Need-step-illegal-requires
-step-illegal-requires c κs = search needs
+step-illegal-requires c κs = search rules
 
 returns : tie.Need-returns
 unfolding stepVolumeUnder
-returns c = rw (c .step-illegal .ensures)
+returns c = rw c.step-illegal.ensures
 
 pub step-volume-spec : {M : Type 1} → statement M
 step-volume-spec = tie.close (tie.spec step-illegal-requires returns)

@@ -1,25 +1,25 @@
 -- `whole_count` meets its contract: the tests on the way are the definition's.
 use native.Mathlib.Omega.{arith}
-use borrow.Author.Tests.{eq-eqb, ne-eqb}
-use Rattle·advance·specs.specs.Rules.{wholeCount}
-use Rattle·advance·proofs.proofs.steps.whole_count.Statement.{statement}
-use Rattle·advance·proofs.proofs.steps.whole_count.Tie as tie
+use borrow.Author.Tests.{eq-eqb, ne_eqb}
+use Rattle.advance.specs.Rules.{wholeCount}
+use Rattle.advance.proofs.steps.whole_count.Statement.{statement}
+use Rattle.advance.proofs.steps.whole_count.Tie as tie
 
 returns : tie.Need-returns
 unfolding wholeCount
-returns c = rw (eq-eqb _ _ (c .if1 .taken))
+returns c = rw (eq-eqb _ _ c.if1.true)
 
 returns-2 : tie.Need-returns-2
 unfolding wholeCount
-returns-2 c = rw (ne-eqb _ _ (c .before .before .before .if1 .left), c .if2 .taken)
+returns-2 c = rw (ne_eqb _ _ c.before.before.before.if1.false, c.if2.true)
 
 returns-3 : tie.Need-returns-3
 unfolding wholeCount
-returns-3 c = rw (ne-eqb _ _ (c .before .before .before .before .before .before .if1 .left), c .before .before .before .if2 .left, c .if3 .taken)
+returns-3 c = rw (ne_eqb _ _ c.before.before.before.before.before.before.if1.false, c.before.before.before.if2.false, c.if3.true)
 
 returns-4 : tie.Need-returns-4
 unfolding wholeCount
-returns-4 c = rw (ne-eqb _ _ (c .before .before .before .before .before .before .if1 .left), c .before .before .before .if2 .left, c .if3 .left)
+returns-4 c = rw (ne_eqb _ _ c.before.before.before.before.before.before.if1.false, c.before.before.before.if2.false, c.if3.false)
 
 pub whole-count-spec : {M : Type 1} → statement M
 whole-count-spec = tie.close (tie.spec returns returns-2 returns-3 returns-4)

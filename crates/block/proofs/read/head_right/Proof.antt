@@ -1,17 +1,17 @@
 -- `head_right` meets its contract: its three answers joined.
-use borrow.Author.Needs.{needs}
-use Rattle·block·specs.specs.Halves.{headRight}
-use Rattle·block·proofs.proofs.read.head_right.Statement.{statement}
-use Rattle·block·proofs.proofs.read.head_right.Tie as tie
+use borrow.Author.Rules.{rules}
+use Rattle.block.specs.Halves.{headRight}
+use Rattle.block.proofs.read.head_right.Statement.{statement}
+use Rattle.block.proofs.read.head_right.Tie as tie
 
 kind-right-requires : tie.Need-kind-right-requires
-kind-right-requires c κs = search needs
+kind-right-requires c κs = search rules
 
 length-right-requires : tie.Need-length-right-requires
-length-right-requires c κs = search needs
+length-right-requires c κs = search rules
 
 index-right-requires : tie.Need-index-right-requires
-index-right-requires c κs = search needs
+index-right-requires c κs = search rules
 
 returns : tie.Need-returns
 unfolding headRight

@@ -1,63 +1,63 @@
 -- `padded_right` meets its contract: what it has read decides padding and check.
-use borrow.Author.Needs.{needs}
+use borrow.Author.Rules.{rules}
 use native.Mathlib.Omega.{arith}
-use Rattle·block·proofs.proofs.Bodies.{body-read}
-use Rattle·block·proofs.proofs.read.padded_right.Statement.{statement}
-use Rattle·block·proofs.proofs.read.padded_right.Tie as tie
+use Rattle.block.proofs.Bodies.{body-read}
+use Rattle.block.proofs.read.padded_right.Statement.{statement}
+use Rattle.block.proofs.read.padded_right.Tie as tie
 
-add-words : tie.Need-add-words
-add-words c = search needs
+add_words : tie.Need-overflow-add-words
+add_words c = search rules
 
-add-words-2 : tie.Need-add-words-2
-add-words-2 c = search needs
+add-words-2 : tie.Need-overflow-add-words-2
+add-words-2 c = search rules
 
-mul-cut : tie.Need-mul-cut
-mul-cut c = search needs
+mul-cut : tie.Need-overflow-mul-cut
+mul-cut c = search rules
 
 check-sum-requires : tie.Need-check-sum-requires
-check-sum-requires c κs = search needs
+check-sum-requires c κs = search rules
 
-sub-check-sum : tie.Need-sub-check-sum
-sub-check-sum c = search needs
+sub-check-sum : tie.Need-overflow-sub-check-sum
+sub-check-sum c = search rules
 
-part-check-sum-start : tie.Need-part-check-sum-start
-part-check-sum-start c = search needs
+part-check-sum-start : tie.Need-slice-bounds-check-sum-start
+part-check-sum-start c = search rules
 
-part-check-sum-end : tie.Need-part-check-sum-end
-part-check-sum-end c = search needs
+part-check-sum-end : tie.Need-slice-bounds-check-sum-end
+part-check-sum-end c = search rules
 
-sub-check-sum-2 : tie.Need-sub-check-sum-2
-sub-check-sum-2 c = search needs
+sub-check-sum-2 : tie.Need-overflow-sub-check-sum-2
+sub-check-sum-2 c = search rules
 
 check-sum-requires-2 : tie.Need-check-sum-requires-2
-check-sum-requires-2 c κs = search needs
+check-sum-requires-2 c κs = search rules
 
-add-wide : tie.Need-add-wide
-add-wide c = search needs
+add_wide : tie.Need-overflow-add-wide
+add_wide c = search rules
 
 shared-slice-read-wide : tie.Need-shared-slice-read-wide
-shared-slice-read-wide c = search needs
+shared-slice-read-wide c = search rules
 
 wide-requires : tie.Need-wide-requires
-wide-requires c κs = search needs
+wide-requires c κs = search rules
 
 word-requires : tie.Need-word-requires
-word-requires c κs = search needs
+word-requires c κs = search rules
 
-add-result : tie.Need-add-result
-add-result c = search needs
+add-result : tie.Need-overflow-add-result
+add-result c = search rules
 
 returns : tie.Need-returns
 returns c =
-    let w = c .before .before .before .before .before in
-    let a = w .before .before .args in
-    body-read (a .b .now) (a .used) _ _ _ _ (omega arith) (omega arith) (c .before .wide .ensures .0) (w .check-sum .ensures .0) (c .before .before .before .check-sum2 .ensures .0) (c .before .before .before .check-sum2 .ensures .1 .0) (c .word .ensures .0)
+    let w = c.before.before.before.before.before in
+    let a = w.before.before.args in
+    body-read a.b.now a.used _ _ _ _ (omega arith) (omega arith) c.before.wide.ensures.0 w.check-sum.ensures.0 c.before.before.before.check-sum2.ensures.0 c.before.before.before.check-sum2.ensures.1.0 c.word.ensures.0
 
 pub padded-right-spec : {M : Type 1} → statement M
 padded-right-spec =
     tie.close
     (tie.spec
-    add-words
+    add_words
     add-words-2
     mul-cut
     check-sum-requires
@@ -66,7 +66,7 @@ padded-right-spec =
     part-check-sum-end
     sub-check-sum-2
     check-sum-requires-2
-    add-wide
+    add_wide
     shared-slice-read-wide
     wide-requires
     word-requires

@@ -1,36 +1,36 @@
 -- `check_sum` meets its contract: what the two sums differ by is a multiple of 65,535, and 0 where the words are.
 use native.Mathlib.Omega.{arith}
-use Rattle·block·proofs.proofs.Longs.{fold-none, fold-same, summed-lent}
-use borrow.Author.Needs.{needs}
-use Rattle·block·proofs.proofs.sum.check_sum.Statement.{statement}
-use Rattle·block·proofs.proofs.sum.check_sum.Tie as tie
+use Rattle.block.proofs.Longs.{fold-none, fold_same, summed-lent}
+use borrow.Author.Rules.{rules}
+use Rattle.block.proofs.sum.check_sum.Statement.{statement}
+use Rattle.block.proofs.sum.check_sum.Tie as tie
 
-mul-cut : tie.Need-mul-cut
-mul-cut c = search needs
+mul-cut : tie.Need-overflow-mul-cut
+mul-cut c = search rules
 
 long-sum-requires : tie.Need-long-sum-requires
-long-sum-requires c κs = search needs
+long-sum-requires c κs = search rules
 
-sub-word-sum : tie.Need-sub-word-sum
-sub-word-sum c = search needs
+sub-word-sum : tie.Need-overflow-sub-word-sum
+sub-word-sum c = search rules
 
-part-word-sum-start : tie.Need-part-word-sum-start
-part-word-sum-start c = search needs
+part-word-sum-start : tie.Need-slice-bounds-word-sum-start
+part-word-sum-start c = search rules
 
-part-word-sum-end : tie.Need-part-word-sum-end
-part-word-sum-end c = search needs
+part-word-sum-end : tie.Need-slice-bounds-word-sum-end
+part-word-sum-end c = search rules
 
 word-sum-requires : tie.Need-word-sum-requires
-word-sum-requires c κs = search needs
+word-sum-requires c κs = search rules
 
-add-result : tie.Need-add-result
-add-result c = search needs
+add-result : tie.Need-overflow-add-result
+add-result c = search rules
 
 returns : tie.Need-returns
 returns c =
-    let a = c .before .before .before .before .args in
-    let f = summed-lent (a .b .now) (a .n) (c .before .before .before .before .pre .0) _ _ (c .before .before .long-sum .ensures .0) (c .word-sum .ensures .0) in
-    (fold-same _ _ f, (fold-none _ _ f, omega arith))
+    let a = c.before.before.before.before.args in
+    let f = summed-lent a.b.now a.n c.before.before.before.before.requires.0 _ _ c.before.before.long-sum.ensures.0 c.word_sum.ensures.0 in
+    (fold_same _ _ f, (fold-none _ _ f, omega arith))
 
 pub check-sum-spec : {M : Type 1} → statement M
 check-sum-spec =

@@ -1,60 +1,60 @@
 -- `carry_out` meets its contract: three commands apart, and all else by its motion.
-use mathlib.Core.Path.{ap, _∙_}
-use Rattle·commands·specs.specs.Ends.{motionPlan}
-use Rattle·commands·specs.specs.Commands.{carriedOutUnder}
-use Rattle·commands·proofs.proofs.Moving.{ends-as-moved}
-use borrow.Author.Needs.{needs}
-use Rattle·commands·proofs.proofs.carried.carry_out.Statement.{statement}
-use Rattle·commands·proofs.proofs.carried.carry_out.Tie as tie
+use mathlib.Core.Path.{ap, ◌∙◌}
+use Rattle.commands.specs.Ends.{motionPlan}
+use Rattle.commands.specs.Commands.{carriedOutUnder}
+use Rattle.commands.proofs.Moving.{ends-as-moved}
+use borrow.Author.Rules.{rules}
+use Rattle.commands.proofs.carried.carry_out.Statement.{statement}
+use Rattle.commands.proofs.carried.carry_out.Tie as tie
 
-enum-told : tie.Need-enum-told
-enum-told c = search needs
+enum_told : tie.Need-enum-told
+enum_told c = search rules
 
 characterize-requires : tie.Need-characterize-requires
-characterize-requires c κs = c .before .before .before .before .pre .1 (c .enum-told .given .1)
+characterize-requires c κs = c.before.before.before.before.requires.1 c.enum_told.given.1
 
 returns : tie.Need-returns
 unfolding carriedOutUnder
-returns c = rw (c .before .enum-told .given .1) (c .characterize .ensures)
+returns c = rw c.before.enum_told.given.1 c.characterize.ensures
 
 enum-told-2 : tie.Need-enum-told-2
-enum-told-2 c = search needs
+enum-told-2 c = search rules
 
 release-requires : tie.Need-release-requires
-release-requires c κs = search needs
+release-requires c κs = search rules
 
 returns-2 : tie.Need-returns-2
 unfolding carriedOutUnder
-returns-2 c = rw (c .before .enum-told2 .given .1) (c .release .ensures)
+returns-2 c = rw c.before.enum-told2.given.1 c.release.ensures
 
 enum-told-3 : tie.Need-enum-told-3
-enum-told-3 c = search needs
+enum-told-3 c = search rules
 
 unload-requires : tie.Need-unload-requires
-unload-requires c κs = search needs
+unload-requires c κs = search rules
 
 returns-3 : tie.Need-returns-3
 unfolding carriedOutUnder
-returns-3 c = rw (c .before .enum-told3 .given .1) (c .unload .ensures)
+returns-3 c = rw c.before.enum-told3.given.1 c.unload.ensures
 
 move-tape-requires : tie.Need-move-tape-requires
-move-tape-requires c κs = search needs
+move-tape-requires c κs = search rules
 
 told-course-requires : tie.Need-told-course-requires
-told-course-requires c κs = search needs
+told-course-requires c κs = search rules
 
 returns-4 : tie.Need-returns-4
 returns-4 c =
-    let s = c .before .before .before .before .before .before .before .args in
-    c .told-course .ensures
-    ∙ ap (motionPlan (s .u) (s .h .ie)) (c .before .move-tape .ensures)
-    ∙ ends-as-moved (s .u) (s .mem .now) (s .reel .now) (s .h) (s .p) (s .c) (c .before .before .before .before .match .keys2) (c .before .before .before .match2 .keys2) (c .before .before .match3 .keys2)
+    let s = c.before.before.before.before.before.before.before.args in
+    c.told-course.ensures
+    ∙ ap (motionPlan s.u s.h.ie) c.before.move-tape.ensures
+    ∙ ends-as-moved s.u s.mem.now s.reel.now s.h s.p s.c c.before.before.before.before.match.keys2 c.before.before.before.match2.keys2 c.before.before.match3.keys2
 
 pub carry-out-spec : {M : Type 1} → statement M
 carry-out-spec =
     tie.close
     (tie.spec
-    enum-told
+    enum_told
     characterize-requires
     returns
     enum-told-2

@@ -1,23 +1,23 @@
 -- `mode_word` meets its contract: a word where the count leaves room for it.
-use borrow.Author.Needs.{needs}
+use borrow.Author.Rules.{rules}
 use borrow.Author.Tests.{le-ltb, lt-ltb}
-use Rattle·commands·specs.specs.Commands.{modeWord}
-use Rattle·commands·proofs.proofs.carried.mode_word.Statement.{statement}
-use Rattle·commands·proofs.proofs.carried.mode_word.Tie as tie
+use Rattle.commands.specs.Commands.{modeWord}
+use Rattle.commands.proofs.carried.mode_word.Statement.{statement}
+use Rattle.commands.proofs.carried.mode_word.Tie as tie
 
 returns : tie.Need-returns
 unfolding modeWord
-returns c = rw (lt-ltb _ _ (c .if1 .taken))
+returns c = rw (lt-ltb _ _ c.if1.true)
 
-add-word : tie.Need-add-word
-add-word c = search needs
+add-word : tie.Need-overflow-add-word
+add-word c = search rules
 
 word-requires : tie.Need-word-requires
-word-requires c κs = search needs
+word-requires c κs = search rules
 
 returns-2 : tie.Need-returns-2
 unfolding modeWord
-returns-2 c = rw (le-ltb _ _ (c .before .before .if1 .left)) (c .word .ensures .0)
+returns-2 c = rw (le-ltb _ _ c.before.before.if1.false) c.word.ensures.0
 
 pub mode-word-spec : {M : Type 1} → statement M
 mode-word-spec = tie.close (tie.spec returns add-word word-requires returns-2)

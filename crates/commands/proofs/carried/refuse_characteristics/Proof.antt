@@ -1,19 +1,19 @@
 -- `refuse_characteristics` meets its contract: NBA is set, and the end is of class 3.
-use borrow.Author.Needs.{needs}
-use Rattle·commands·specs.specs.Commands.{refusedCharacteristicsUnder}
-use Rattle·commands·specs.specs.Ends.{motionPlanUnder}
-use Rattle·commands·proofs.proofs.carried.refuse_characteristics.Statement.{statement}
-use Rattle·commands·proofs.proofs.carried.refuse_characteristics.Tie as tie
+use borrow.Author.Rules.{rules}
+use Rattle.commands.specs.Commands.{refusedCharacteristicsUnder}
+use Rattle.commands.specs.Ends.{motionPlanUnder}
+use Rattle.commands.proofs.carried.refuse_characteristics.Statement.{statement}
+use Rattle.commands.proofs.carried.refuse_characteristics.Tie as tie
 
 rest-requires : tie.Need-rest-requires
-rest-requires c κs = search needs
+rest-requires c κs = search rules
 
 told-course-requires : tie.Need-told-course-requires
-told-course-requires c κs = search needs
+told-course-requires c κs = search rules
 
 returns : tie.Need-returns
 unfolding refusedCharacteristicsUnder motionPlanUnder
-returns c = rw (← c .before .rest .ensures) (c .told-course .ensures)
+returns c = rw (← c.before.rest.ensures) c.told-course.ensures
 
 pub refuse-characteristics-spec : {M : Type 1} → statement M
 refuse-characteristics-spec = tie.close (tie.spec rest-requires told-course-requires returns)

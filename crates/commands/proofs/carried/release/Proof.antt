@@ -1,13 +1,13 @@
 -- `release` meets its contract: an end that is not told, of the unit with its IE.
 use mathlib.Core.Path.{refl}
-use Rattle·commands·specs.specs.Commands.{released}
-use Rattle·commands·specs.specs.Ends.{planByUnder, planOfUnder}
-use Rattle·commands·proofs.proofs.carried.release.Statement.{statement}
-use Rattle·commands·proofs.proofs.carried.release.Tie as tie
+use Rattle.commands.specs.Commands.{released}
+use Rattle.commands.specs.Ends.{planByUnder, planOfUnder}
+use Rattle.commands.proofs.carried.release.Statement.{statement}
+use Rattle.commands.proofs.carried.release.Tie as tie
 
 returns : tie.Need-returns
 unfolding released planOfUnder planByUnder
 returns c = refl
 
-pub release-spec : {M : Type 1} → statement M
-release-spec = tie.close (tie.spec returns)
+pub release_spec : {M : Type 1} → statement M
+release_spec = tie.close (tie.spec returns)

@@ -1,22 +1,22 @@
 -- `take_characteristics` meets its contract: NBA is clear, and all are taken.
-use borrow.Author.Needs.{needs}
-use Rattle·commands·specs.specs.Commands.{takenCharacteristicsUnder}
-use Rattle·commands·specs.specs.Ends.{motionPlanUnder}
-use Rattle·commands·proofs.proofs.carried.take_characteristics.Statement.{statement}
-use Rattle·commands·proofs.proofs.carried.take_characteristics.Tie as tie
+use borrow.Author.Rules.{rules}
+use Rattle.commands.specs.Commands.{takenCharacteristicsUnder}
+use Rattle.commands.specs.Ends.{motionPlanUnder}
+use Rattle.commands.proofs.carried.take_characteristics.Statement.{statement}
+use Rattle.commands.proofs.carried.take_characteristics.Tie as tie
 
 plain-end-requires : tie.Need-plain-end-requires
-plain-end-requires c κs = search needs
+plain-end-requires c κs = search rules
 
 rest-requires : tie.Need-rest-requires
-rest-requires c κs = search needs
+rest-requires c κs = search rules
 
 told-course-requires : tie.Need-told-course-requires
-told-course-requires c κs = search needs
+told-course-requires c κs = search rules
 
 returns : tie.Need-returns
 unfolding takenCharacteristicsUnder motionPlanUnder
-returns c = rw (← c .before .before .plain-end .ensures, ← c .before .rest .ensures) (c .told-course .ensures)
+returns c = rw (← c.before.before.plain-end.ensures, ← c.before.rest.ensures) c.told-course.ensures
 
 pub take-characteristics-spec : {M : Type 1} → statement M
 take-characteristics-spec =

@@ -1,22 +1,22 @@
 -- `unload` meets its contract: a plain end at block 0, off line.
-use borrow.Author.Needs.{needs}
-use Rattle·commands·specs.specs.Commands.{unloadedUnder}
-use Rattle·commands·specs.specs.Ends.{motionPlanUnder}
-use Rattle·commands·proofs.proofs.carried.unload.Statement.{statement}
-use Rattle·commands·proofs.proofs.carried.unload.Tie as tie
+use borrow.Author.Rules.{rules}
+use Rattle.commands.specs.Commands.{unloadedUnder}
+use Rattle.commands.specs.Ends.{motionPlanUnder}
+use Rattle.commands.proofs.carried.unload.Statement.{statement}
+use Rattle.commands.proofs.carried.unload.Tie as tie
 
 plain-end-requires : tie.Need-plain-end-requires
-plain-end-requires c κs = search needs
+plain-end-requires c κs = search rules
 
 rest-requires : tie.Need-rest-requires
-rest-requires c κs = search needs
+rest-requires c κs = search rules
 
 told-course-requires : tie.Need-told-course-requires
-told-course-requires c κs = search needs
+told-course-requires c κs = search rules
 
 returns : tie.Need-returns
 unfolding unloadedUnder motionPlanUnder
-returns c = rw (← c .before .before .plain-end .ensures, ← c .before .rest .ensures) (c .told-course .ensures)
+returns c = rw (← c.before.before.plain-end.ensures, ← c.before.rest.ensures) c.told-course.ensures
 
 pub unload-spec : {M : Type 1} → statement M
 unload-spec = tie.close (tie.spec plain-end-requires rest-requires told-course-requires returns)

@@ -1,28 +1,28 @@
 -- `plan_motion` meets its contract: an arm for an end and one for a fault.
-use borrow.Author.Needs.{needs}
-use Rattle·commands·specs.specs.Ends.{motionPlanUnder}
-use Rattle·commands·proofs.proofs.ends.plan_motion.Statement.{statement}
-use Rattle·commands·proofs.proofs.ends.plan_motion.Tie as tie
+use borrow.Author.Rules.{rules}
+use Rattle.commands.specs.Ends.{motionPlanUnder}
+use Rattle.commands.proofs.ends.plan_motion.Statement.{statement}
+use Rattle.commands.proofs.ends.plan_motion.Tie as tie
 
 enum-known-m : tie.Need-enum-known-m
-enum-known-m c = search needs
+enum-known-m c = search rules
 
 tell-requires : tie.Need-tell-requires
-tell-requires c κs = search needs
+tell-requires c κs = search rules
 
 enum-known-m-2 : tie.Need-enum-known-m-2
-enum-known-m-2 c = search needs
+enum-known-m-2 c = search rules
 
 still-plan-requires : tie.Need-still-plan-requires
-still-plan-requires c κs = search needs
+still-plan-requires c κs = search rules
 
 returns : tie.Need-returns
 unfolding motionPlanUnder
-returns c = rw (c .before .before .m .given .1) (c .tell .ensures)
+returns c = rw c.before.before.m.given.1 c.tell.ensures
 
 returns-2 : tie.Need-returns-2
 unfolding motionPlanUnder
-returns-2 c = rw (c .before .before .m2 .given .1) (c .still-plan .ensures)
+returns-2 c = rw c.before.before.m2.given.1 c.still-plan.ensures
 
 pub plan-motion-spec : {M : Type 1} → statement M
 plan-motion-spec =

@@ -1,15 +1,15 @@
 -- `status_of` meets its contract: the tests are those of the definition.
-use borrow.Author.Needs.{needs}
-use Rattle·commands·specs.specs.Ends.{statusOfUnder}
-use Rattle·commands·proofs.proofs.ends.status_of.Statement.{statement}
-use Rattle·commands·proofs.proofs.ends.status_of.Tie as tie
+use borrow.Author.Rules.{rules}
+use Rattle.commands.specs.Ends.{statusOfUnder}
+use Rattle.commands.proofs.ends.status_of.Statement.{statement}
+use Rattle.commands.proofs.ends.status_of.Tie as tie
 
 marker-requires : tie.Need-marker-requires
-marker-requires c κs = search needs
+marker-requires c κs = search rules
 
 returns : tie.Need-returns
 unfolding statusOfUnder
-returns c = rw (c .before .before .marker .ensures)
+returns c = rw c.before.before.marker.ensures
 
 pub status-of-spec : {M : Type 1} → statement M
 status-of-spec = tie.close (tie.spec marker-requires returns)

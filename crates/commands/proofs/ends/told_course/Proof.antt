@@ -1,8 +1,8 @@
 -- `told_course` meets its contract: by computing.
 use mathlib.Core.Path.{refl}
-use Rattle·commands·specs.specs.Ends.{planByUnder, planOfUnder}
-use Rattle·commands·proofs.proofs.ends.told_course.Statement.{statement}
-use Rattle·commands·proofs.proofs.ends.told_course.Tie as tie
+use Rattle.commands.specs.Ends.{planByUnder, planOfUnder}
+use Rattle.commands.proofs.ends.told_course.Statement.{statement}
+use Rattle.commands.proofs.ends.told_course.Tie as tie
 
 returns : tie.Need-returns
 unfolding planOfUnder planByUnder

@@ -1,13 +1,13 @@
 -- `unmounted_station` is its definition.
-use borrow.Author.Needs.{needs}
-use Rattle·desk·proofs.proofs.arranges.unmounted_station.Statement.{statement}
-use Rattle·desk·proofs.proofs.arranges.unmounted_station.Tie as tie
+use borrow.Author.Rules.{rules}
+use Rattle.desk.proofs.arranges.unmounted_station.Statement.{statement}
+use Rattle.desk.proofs.arranges.unmounted_station.Tie as tie
 
 no-transport-requires : tie.Need-no-transport-requires
-no-transport-requires c κs = search needs
+no-transport-requires c κs = search rules
 
 returns : tie.Need-returns
-returns c = rw (c .no-transport .ensures)
+returns c = rw c.no-transport.ensures
 
 pub unmounted-station-spec : {M : Type 1} → statement M
 unmounted-station-spec = tie.close (tie.spec no-transport-requires returns)

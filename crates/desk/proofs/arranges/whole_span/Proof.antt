@@ -1,13 +1,13 @@
 -- `whole_span` is its definition.
-use borrow.Author.Needs.{needs}
-use Rattle·desk·proofs.proofs.arranges.whole_span.Statement.{statement}
-use Rattle·desk·proofs.proofs.arranges.whole_span.Tie as tie
+use borrow.Author.Rules.{rules}
+use Rattle.desk.proofs.arranges.whole_span.Statement.{statement}
+use Rattle.desk.proofs.arranges.whole_span.Tie as tie
 
 no-sizes-requires : tie.Need-no-sizes-requires
-no-sizes-requires c κs = search needs
+no-sizes-requires c κs = search rules
 
 returns : tie.Need-returns
-returns c = rw (c .no-sizes .ensures)
+returns c = rw c.no-sizes.ensures
 
 pub whole-span-spec : {M : Type 1} → statement M
 whole-span-spec = tie.close (tie.spec no-sizes-requires returns)

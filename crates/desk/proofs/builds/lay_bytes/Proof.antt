@@ -1,54 +1,54 @@
 -- `lay_bytes` meets its contract, for each way that it returns.
 use native.Mathlib.Omega.{arith}
 use lib.ListN.{take}
-use Rattle·tape.specs.Objects.{Object}
-use Rattle·desk·specs.specs.Builds.{laidAt}
-use Rattle·desk·proofs.proofs.Built.{laid-front, record-done, record-long, record-odd, record-out, record-unheld}
-use borrow.Author.Needs.{needs}
-use Rattle·desk·proofs.proofs.builds.lay_bytes.Statement.{statement}
-use Rattle·desk·proofs.proofs.builds.lay_bytes.Tie as tie
+use Rattle.tape.specs.Objects.{Object}
+use Rattle.desk.specs.Builds.{laidAt}
+use Rattle.desk.proofs.Built.{laid-front, record-done, record-long, record-odd, record-out, record-unheld}
+use borrow.Author.Rules.{rules}
+use Rattle.desk.proofs.builds.lay_bytes.Statement.{statement}
+use Rattle.desk.proofs.builds.lay_bytes.Tie as tie
 
 returns : tie.Need-returns
 returns c =
-    let a = c .before .before .before .args in
-    record-long (a .reel .now) (a .«data» .now) (laidAt (a .reel .now) (a .p) (Object.record-of (take (a .n) (a .«data» .now)))) (a .p) (a .n) (omega arith)
+    let a = c.before.before.before.args in
+    record-long a.reel.now a.«data».now (laidAt a.reel.now a.p (Object.record_of (take a.n a.«data».now))) a.p a.n (omega arith)
 
 returns-2 : tie.Need-returns-2
 returns-2 c =
-    let a = c .before .before .before .before .args in
-    record-unheld (a .reel .now) (a .«data» .now) (laidAt (a .reel .now) (a .p) (Object.record-of (take (a .n) (a .«data» .now)))) (a .p) (a .n) (omega arith) (omega arith)
+    let a = c.before.before.before.before.args in
+    record-unheld a.reel.now a.«data».now (laidAt a.reel.now a.p (Object.record_of (take a.n a.«data».now))) a.p a.n (omega arith) (omega arith)
 
 returns-3 : tie.Need-returns-3
 returns-3 c =
-    let a = c .before .before .before .before .before .args in
-    record-odd (a .reel .now) (a .«data» .now) (laidAt (a .reel .now) (a .p) (Object.record-of (take (a .n) (a .«data» .now)))) (a .p) (a .n) (omega arith) (omega arith) (λ e. omega arith)
+    let a = c.before.before.before.before.before.args in
+    record-odd a.reel.now a.«data».now (laidAt a.reel.now a.p (Object.record_of (take a.n a.«data».now))) a.p a.n (omega arith) (omega arith) (λ e. omega arith)
 
 pieces-requires : tie.Need-pieces-requires
-pieces-requires c κs = search needs
+pieces-requires c κs = search rules
 
 returns-4 : tie.Need-returns-4
 returns-4 c =
-    let a = c .before .before .before .before .before .before .before .args in
-    record-out (a .reel .now) (a .«data» .now) (laidAt (a .reel .now) (a .p) (Object.record-of (take (a .n) (a .«data» .now)))) (a .p) (a .n) (omega arith) (omega arith) (omega arith) (omega arith)
+    let a = c.before.before.before.before.before.before.before.args in
+    record-out a.reel.now a.«data».now (laidAt a.reel.now a.p (Object.record_of (take a.n a.«data».now))) a.p a.n (omega arith) (omega arith) (omega arith) (omega arith)
 
 returns-5 : tie.Need-returns-5
 returns-5 c =
-    let a = c .before .before .before .before .before .before .before .before .args in
-    record-out (a .reel .now) (a .«data» .now) (laidAt (a .reel .now) (a .p) (Object.record-of (take (a .n) (a .«data» .now)))) (a .p) (a .n) (omega arith) (omega arith) (omega arith) (omega arith)
+    let a = c.before.before.before.before.before.before.before.before.args in
+    record-out a.reel.now a.«data».now (laidAt a.reel.now a.p (Object.record_of (take a.n a.«data».now))) a.p a.n (omega arith) (omega arith) (omega arith) (omega arith)
 
 lay-record-requires : tie.Need-lay-record-requires
-lay-record-requires c κs = search needs
+lay-record-requires c κs = search rules
 
-add-t9 : tie.Need-add-t9
-add-t9 c = search needs
+add-t9 : tie.Need-overflow-add-t9
+add-t9 c = search rules
 
-same-length : tie.Need-same-length
-same-length c = search needs
+same_length : tie.Need-same-length
+same_length c = search rules
 
 returns-6 : tie.Need-returns-6
 returns-6 c =
-    let a = c .before .before .before .before .before .before .before .before .before .before .before .before .args in
-    rw (c .before .before .before .before .before .before .pieces .ensures) (record-done (a .reel .now) (a .«data» .now) (laidAt (a .reel .now) (a .p) (Object.record-of (take (a .n) (a .«data» .now)))) (a .p) (a .n) _ (omega arith) (omega arith) (omega arith) (omega arith) (laid-front (a .reel .now) (a .«data» .now) _ (a .p) (a .n) (omega arith) (c .before .before .lay-record .ensures)))
+    let a = c.before.before.before.before.before.before.before.before.before.before.before.before.args in
+    rw c.before.before.before.before.before.before.pieces.ensures (record-done a.reel.now a.«data».now (laidAt a.reel.now a.p (Object.record_of (take a.n a.«data».now))) a.p a.n _ (omega arith) (omega arith) (omega arith) (omega arith) (laid-front a.reel.now a.«data».now _ a.p a.n (omega arith) c.before.before.lay-record.ensures))
 
 pub lay-bytes-spec : {M : Type 1} → statement M
 lay-bytes-spec =
@@ -62,5 +62,5 @@ lay-bytes-spec =
     returns-5
     lay-record-requires
     add-t9
-    same-length
+    same_length
     returns-6)

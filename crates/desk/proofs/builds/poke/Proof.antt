@@ -1,45 +1,45 @@
 -- `poke` meets its contract: the bytes fit, or nothing is stored.
 use native.Mathlib.Omega.{arith}
-use Rattle·desk·proofs.proofs.Built.{poke-done, poke-not}
-use borrow.Author.Needs.{needs}
-use Rattle·desk·proofs.proofs.builds.poke.Statement.{statement}
-use Rattle·desk·proofs.proofs.builds.poke.Tie as tie
+use Rattle.desk.proofs.Built.{poke-done, poke-not}
+use borrow.Author.Rules.{rules}
+use Rattle.desk.proofs.builds.poke.Statement.{statement}
+use Rattle.desk.proofs.builds.poke.Tie as tie
 
 returns : tie.Need-returns
 returns c =
-    let a = c .before .before .before .args in
-    poke-not (a .b .now) (a .d .now) (a .at) (a .p) (a .outside) (omega arith)
+    let a = c.before.before.before.args in
+    poke-not a.b.now a.d.now a.at a.p a.outside (omega arith)
 
-sub-if2 : tie.Need-sub-if2
-sub-if2 c = search needs
+sub-if2 : tie.Need-overflow-sub-if2
+sub-if2 c = search rules
 
 returns-2 : tie.Need-returns-2
 returns-2 c =
-    let a = c .before .before .before .before .args in
-    poke-not (a .b .now) (a .d .now) (a .at) (a .p) (a .outside) (omega arith)
+    let a = c.before.before.before.before.args in
+    poke-not a.b.now a.d.now a.at a.p a.outside (omega arith)
 
-sub-copy : tie.Need-sub-copy
-sub-copy c = search needs
+sub-copy : tie.Need-overflow-sub-copy
+sub-copy c = search rules
 
-part-copy-start : tie.Need-part-copy-start
-part-copy-start c = search needs
+part-copy-start : tie.Need-slice-bounds-copy-start
+part-copy-start c = search rules
 
-part-copy-end : tie.Need-part-copy-end
-part-copy-end c = search needs
+part-copy-end : tie.Need-slice-bounds-copy-end
+part-copy-end c = search rules
 
 copy-requires : tie.Need-copy-requires
-copy-requires c κs = search needs
+copy-requires c κs = search rules
 
-same-length : tie.Need-same-length
-same-length c = search needs
+same_length : tie.Need-same-length
+same_length c = search rules
 
 returns-3 : tie.Need-returns-3
 returns-3 c =
-    let a = c .before .before .before .before .before .before .before .before .args in
-    poke-done (a .b .now) (a .d .now) (a .at) (a .p) (a .outside) _ (omega arith) (c .before .before .copy .ensures)
+    let a = c.before.before.before.before.before.before.before.before.args in
+    poke-done a.b.now a.d.now a.at a.p a.outside _ (omega arith) c.before.before.copy.ensures
 
-pub poke-spec : {M : Type 1} → statement M
-poke-spec =
+pub poke_spec : {M : Type 1} → statement M
+poke_spec =
     tie.close
     (tie.spec
     returns
@@ -49,5 +49,5 @@ poke-spec =
     part-copy-start
     part-copy-end
     copy-requires
-    same-length
+    same_length
     returns-3)

@@ -1,9 +1,9 @@
 -- `beyond` is its definition.
 use mathlib.Core.Path.{refl}
-use Rattle·desk·specs.specs.Desks.{sizesBeyond}
-use borrow.Author.Needs.{needs}
-use Rattle·desk·proofs.proofs.desk.beyond.Statement.{statement}
-use Rattle·desk·proofs.proofs.desk.beyond.Tie as tie
+use Rattle.desk.specs.Desks.{sizesBeyond}
+use borrow.Author.Rules.{rules}
+use Rattle.desk.proofs.desk.beyond.Statement.{statement}
+use Rattle.desk.proofs.desk.beyond.Tie as tie
 
 returns : tie.Need-returns
 unfolding sizesBeyond

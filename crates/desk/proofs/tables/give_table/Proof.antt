@@ -2,34 +2,34 @@
 use native.Mathlib.Omega.{arith}
 use borrow.Author.Tests.{le-ltb, lt-ltb}
 use lib.ListN.{length}
-use Rattle·desk·specs.specs.Tables.{givenBytes, givenTurn}
-use borrow.Author.Needs.{needs}
-use Rattle·desk·proofs.proofs.tables.give_table.Statement.{statement}
-use Rattle·desk·proofs.proofs.tables.give_table.Tie as tie
+use Rattle.desk.specs.Tables.{givenBytes, givenTurn}
+use borrow.Author.Rules.{rules}
+use Rattle.desk.proofs.tables.give_table.Statement.{statement}
+use Rattle.desk.proofs.tables.give_table.Tie as tie
 
 wrong-requires : tie.Need-wrong-requires
-wrong-requires c κs = search needs
+wrong-requires c κs = search rules
 
 returns : tie.Need-returns
 unfolding givenBytes givenTurn
 returns c =
-    let a = c .before .before .before .args in
-    (rw (lt-ltb (length (a .table .now)) (a .n) (omega arith)) (c .wrong .ensures), rw (lt-ltb (length (a .table .now)) (a .n) (omega arith)))
+    let a = c.before.before.before.args in
+    (rw (lt-ltb (length a.table.now) a.n (omega arith)) c.wrong.ensures, rw (lt-ltb (length a.table.now) a.n (omega arith)))
 
 wipe-requires : tie.Need-wipe-requires
-wipe-requires c κs = search needs
+wipe-requires c κs = search rules
 
 unsaid-requires : tie.Need-unsaid-requires
-unsaid-requires c κs = search needs
+unsaid-requires c κs = search rules
 
-same-length : tie.Need-same-length
-same-length c = search needs
+same_length : tie.Need-same-length
+same_length c = search rules
 
 returns-2 : tie.Need-returns-2
 unfolding givenBytes givenTurn
 returns-2 c =
-    let a = c .before .before .before .before .before .before .before .before .args in
-    (rw (le-ltb (length (a .table .now)) (a .n) (omega arith)) (c .unsaid .ensures), rw (le-ltb (length (a .table .now)) (a .n) (omega arith)) (c .before .before .before .before .wipe .ensures))
+    let a = c.before.before.before.before.before.before.before.before.args in
+    (rw (le-ltb (length a.table.now) a.n (omega arith)) c.unsaid.ensures, rw (le-ltb (length a.table.now) a.n (omega arith)) c.before.before.before.before.wipe.ensures)
 
 pub give-table-spec : {M : Type 1} → statement M
 give-table-spec =
@@ -39,5 +39,5 @@ give-table-spec =
     returns
     wipe-requires
     unsaid-requires
-    same-length
+    same_length
     returns-2)

@@ -1,60 +1,60 @@
 -- `touched_of` is its definition.
-use Rattle·entries·specs.specs.Numbers.{touchedOf}
-use borrow.Author.Needs.{needs}
-use Rattle·entries·proofs.proofs.numbers.touched_of.Statement.{statement}
-use Rattle·entries·proofs.proofs.numbers.touched_of.Tie as tie
+use Rattle.entries.specs.Numbers.{touchedOf}
+use borrow.Author.Rules.{rules}
+use Rattle.entries.proofs.numbers.touched_of.Statement.{statement}
+use Rattle.entries.proofs.numbers.touched_of.Tie as tie
 
 array-read-t6 : tie.Need-array-read-t6
-array-read-t6 c = search needs
+array-read-t6 c = search rules
 
-cast-t7 : tie.Need-cast-t7
-cast-t7 c = search needs
+cast-t7 : tie.Need-overflow-cast-t7
+cast-t7 c = search rules
 
 array-read-t10 : tie.Need-array-read-t10
-array-read-t10 c = search needs
+array-read-t10 c = search rules
 
-cast-t11 : tie.Need-cast-t11
-cast-t11 c = search needs
+cast-t11 : tie.Need-overflow-cast-t11
+cast-t11 c = search rules
 
 array-read-t14 : tie.Need-array-read-t14
-array-read-t14 c = search needs
+array-read-t14 c = search rules
 
 array-read-t18 : tie.Need-array-read-t18
-array-read-t18 c = search needs
+array-read-t18 c = search rules
 
-cast-t19 : tie.Need-cast-t19
-cast-t19 c = search needs
+cast-t19 : tie.Need-overflow-cast-t19
+cast-t19 c = search rules
 
 array-read-t22 : tie.Need-array-read-t22
-array-read-t22 c = search needs
+array-read-t22 c = search rules
 
-cast-t23 : tie.Need-cast-t23
-cast-t23 c = search needs
+cast-t23 : tie.Need-overflow-cast-t23
+cast-t23 c = search rules
 
 array-read-t26 : tie.Need-array-read-t26
-array-read-t26 c = search needs
+array-read-t26 c = search rules
 
-cast-t27 : tie.Need-cast-t27
-cast-t27 c = search needs
+cast-t27 : tie.Need-overflow-cast-t27
+cast-t27 c = search rules
 
 array-read-t30 : tie.Need-array-read-t30
-array-read-t30 c = search needs
+array-read-t30 c = search rules
 
-cast-t31 : tie.Need-cast-t31
-cast-t31 c = search needs
+cast-t31 : tie.Need-overflow-cast-t31
+cast-t31 c = search rules
 
 array-read-place-below : tie.Need-array-read-place-below
-array-read-place-below c = search needs
+array-read-place-below c = search rules
 
 place-below-requires : tie.Need-place-below-requires
-place-below-requires c κs = search needs
+place-below-requires c κs = search rules
 
 array-read-t38 : tie.Need-array-read-t38
-array-read-t38 c = search needs
+array-read-t38 c = search rules
 
 returns : tie.Need-returns
 unfolding touchedOf
-returns c = rw (c .place-below .ensures)
+returns c = rw c.place-below.ensures
 
 pub touched-of-spec : {M : Type 1} → statement M
 touched-of-spec =

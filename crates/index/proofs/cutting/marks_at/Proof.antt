@@ -1,67 +1,67 @@
 -- `marks_at` meets its contract.
-use borrow.Author.Needs.{needs}
+use borrow.Author.Rules.{rules}
 use native.Mathlib.Omega.{arith}
-use Rattle·index·specs.specs.Cutting.{marksAt}
-use Rattle·index·proofs.proofs.Counted.{mark-counted, none-counted}
-use Rattle·index·proofs.proofs.cutting.marks_at.Statement.{statement}
-use Rattle·index·proofs.proofs.cutting.marks_at.Tie as tie
+use Rattle.index.specs.Cutting.{marksAt}
+use Rattle.index.proofs.Counted.{mark-counted, none-counted}
+use Rattle.index.proofs.cutting.marks_at.Statement.{statement}
+use Rattle.index.proofs.cutting.marks_at.Tie as tie
 
 returns : tie.Need-returns
 unfolding marksAt
-returns c = search needs
+returns c = search rules
 
-sub-at : tie.Need-sub-at
-sub-at c = search needs
+sub_at : tie.Need-overflow-sub-at
+sub_at c = search rules
 
-mul-at : tie.Need-mul-at
-mul-at c = search needs
+mul_at : tie.Need-overflow-mul-at
+mul_at c = search rules
 
-add-number-at : tie.Need-add-number-at
-add-number-at c = search needs
+add-number-at : tie.Need-overflow-add-number-at
+add-number-at c = search rules
 
 number-at-requires : tie.Need-number-at-requires
-number-at-requires c κs = search needs
+number-at-requires c κs = search rules
 
-cast-marks : tie.Need-cast-marks
-cast-marks c = search needs
+cast-marks : tie.Need-overflow-cast-marks
+cast-marks c = search rules
 
 number-at-requires-2 : tie.Need-number-at-requires-2
-number-at-requires-2 c κs = search needs
+number-at-requires-2 c κs = search rules
 
-cast-kind-at : tie.Need-cast-kind-at
-cast-kind-at c = search needs
+cast-kind-at : tie.Need-overflow-cast-kind-at
+cast-kind-at c = search rules
 
 kind-at-requires : tie.Need-kind-at-requires
-kind-at-requires c κs = search needs
+kind-at-requires c κs = search rules
 
-add-result : tie.Need-add-result
-add-result c = search needs
+add-result : tie.Need-overflow-add-result
+add-result c = search rules
 
-cast-result : tie.Need-cast-result
-cast-result c = search needs
+cast-result : tie.Need-overflow-cast-result
+cast-result c = search rules
 
 returns-2 : tie.Need-returns-2
 returns-2 c =
-    let b = c .before .before in
-    let a = b .before .before .before .before .before .args in
-    mark-counted (a .table .now) (a .reel .now) (a .m) _ _ _ (b .before .before .if1 .left) (b .before .number-at .ensures) (b .number-at2 .ensures) (c .before .kind-at .ensures) (c .if2 .taken)
+    let b = c.before.before in
+    let a = b.before.before.before.before.before.args in
+    mark-counted a.table.now a.reel.now a.m _ _ _ b.before.before.if1.false b.before.number_at.ensures b.number-at2.ensures c.before.kind_at.ensures c.if2.true
 
-cast-result-2 : tie.Need-cast-result-2
-cast-result-2 c = search needs
+cast-result-2 : tie.Need-overflow-cast-result-2
+cast-result-2 c = search rules
 
 returns-3 : tie.Need-returns-3
 returns-3 c =
-    let b = c .before .before in
-    let a = b .before .before .before .before .before .args in
-    none-counted (a .table .now) (a .reel .now) (a .m) _ _ _ (b .before .before .if1 .left) (b .before .number-at .ensures) (b .number-at2 .ensures) (c .before .kind-at .ensures) (c .if2 .left) (omega (arith, b .before .number-at .ok))
+    let b = c.before.before in
+    let a = b.before.before.before.before.before.args in
+    none-counted a.table.now a.reel.now a.m _ _ _ b.before.before.if1.false b.before.number_at.ensures b.number-at2.ensures c.before.kind_at.ensures c.if2.false (omega (arith, b.before.number_at.type-inv))
 
 pub marks-at-spec : {M : Type 1} → statement M
 marks-at-spec =
     tie.close
     (tie.spec
     returns
-    sub-at
-    mul-at
+    sub_at
+    mul_at
     add-number-at
     number-at-requires
     cast-marks

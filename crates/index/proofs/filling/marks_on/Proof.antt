@@ -1,33 +1,33 @@
 -- `marks_on` meets its contract.
-use borrow.Author.Needs.{needs}
-use borrow.Author.Tests.{eq-eqb, ne-eqb}
+use borrow.Author.Rules.{rules}
+use borrow.Author.Tests.{eq-eqb, ne_eqb}
 use native.Mathlib.Omega.{arith}
-use mathlib.Core.Path.{_∙_}
-use Prim.Native.Nat.{_*_}
-use Rattle·lists.specs.Words.{wordAt}
-use Rattle·tape.specs.Layout.{markKind}
-use Rattle·tape.specs.Numbers.{blockBytes}
-use Rattle·index·specs.specs.Heads.{marksOn}
-use Rattle·index·proofs.proofs.filling.marks_on.Statement.{statement}
-use Rattle·index·proofs.proofs.filling.marks_on.Tie as tie
+use mathlib.Core.Path.{◌∙◌}
+use Prim.Native.Nat.{◌*◌}
+use Rattle.lists.specs.Words.{word_at}
+use Rattle.tape.specs.Layout.{markKind}
+use Rattle.tape.specs.Numbers.{blockBytes}
+use Rattle.index.specs.Heads.{marksOn}
+use Rattle.index.proofs.filling.marks_on.Statement.{statement}
+use Rattle.index.proofs.filling.marks_on.Tie as tie
 
-mul-word : tie.Need-mul-word
-mul-word c = search needs
+mul-word : tie.Need-overflow-mul-word
+mul-word c = search rules
 
 word-requires : tie.Need-word-requires
-word-requires c κs = search needs
+word-requires c κs = search rules
 
 returns : tie.Need-returns
 unfolding marksOn
 returns c =
-    let a = c .before .before .before .args in
-    rw (eq-eqb (wordAt (a .reel .now) (blockBytes * a .p)) markKind (omega arith))
+    let a = c.before.before.before.args in
+    rw (eq-eqb (word_at a.reel.now (blockBytes * a.p)) markKind (omega arith))
 
 returns-2 : tie.Need-returns-2
 unfolding marksOn
 returns-2 c =
-    let a = c .before .before .before .args in
-    rw (ne-eqb (wordAt (a .reel .now) (blockBytes * a .p)) markKind (λ e. c .if1 .left (c .before .word .ensures .0 ∙ e)))
+    let a = c.before.before.before.args in
+    rw (ne_eqb (word_at a.reel.now (blockBytes * a.p)) markKind (λ e. c.if1.false (c.before.word.ensures.0 ∙ e)))
 
 pub marks-on-spec : {M : Type 1} → statement M
 marks-on-spec = tie.close (tie.spec mul-word word-requires returns returns-2)

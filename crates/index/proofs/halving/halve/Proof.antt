@@ -1,105 +1,105 @@
 -- `halve` meets its contract: no place, the last one below v, or a loop: what is left from here gives the whole, and needs as many turns as places are left.
-use borrow.Author.Needs.{needs}
+use borrow.Author.Rules.{rules}
 use native.Mathlib.Omega.{arith}
-use mathlib.Core.Path.{_≡_, sym, _∙_}
-use Prim.Native.Nat.{_+_, _≤_}
-use Rattle·index·specs.specs.Halving.{halved, searched}
-use Rattle·index·proofs.proofs.Halves.{halved-all, halved-else, halved-none, none-left, turn-before, turn-behind}
-use Rattle·index·proofs.proofs.halving.halve.Statement.{statement}
-use Rattle·index·proofs.proofs.halving.halve.Tie as tie
+use mathlib.Core.Path.{◌≡◌, sym, ◌∙◌}
+use Prim.Native.Nat.{◌+◌, ◌≤◌}
+use Rattle.index.specs.Halving.{halved, searched}
+use Rattle.index.proofs.Halves.{halved-all, halved-else, halved_none, none_left, turn-before, turn-behind}
+use Rattle.index.proofs.halving.halve.Statement.{statement}
+use Rattle.index.proofs.halving.halve.Tie as tie
 
-abbrev Inv-loop : tie.InvT-loop
-Inv-loop table field v n last low₀ left₀ low left = (searched left table field v low left ≡ halved table field v n) × (low + left ≤ n)
+abbrev invariant-loop : tie.invariant-loop
+invariant-loop table field v n last low₀ left₀ low left = (searched left table field v low left ≡ halved table field v n) × (low + left ≤ n)
 
-abbrev μ-loop : tie.MeasureT-loop
-μ-loop table field v n last low₀ left₀ low left = left
+abbrev decreases-loop : tie.decreases-loop
+decreases-loop table field v n last low₀ left₀ low left = left
 
-returns : tie.Need-returns Inv-loop μ-loop
+returns : tie.Need-returns invariant-loop decreases-loop
 returns c =
-    let a = c .before .before .args in
-    (halved-none (a .table .now) (a .field) (a .v) (a .n) (c .if1 .taken), omega arith)
+    let a = c.before.before.args in
+    (halved_none a.table.now a.field a.v a.n c.if1.true, omega arith)
 
-sub-number-at : tie.Need-sub-number-at Inv-loop μ-loop
-sub-number-at c = search needs
+sub-number-at : tie.Need-overflow-sub-number-at invariant-loop decreases-loop
+sub-number-at c = search rules
 
-mul-number-at : tie.Need-mul-number-at Inv-loop μ-loop
-mul-number-at c = search needs
+mul-number-at : tie.Need-overflow-mul-number-at invariant-loop decreases-loop
+mul-number-at c = search rules
 
-add-number-at : tie.Need-add-number-at Inv-loop μ-loop
-add-number-at c = search needs
+add-number-at : tie.Need-overflow-add-number-at invariant-loop decreases-loop
+add-number-at c = search rules
 
-number-at-requires : tie.Need-number-at-requires Inv-loop μ-loop
-number-at-requires c κs = search needs
+number-at-requires : tie.Need-number-at-requires invariant-loop decreases-loop
+number-at-requires c κs = search rules
 
-cast-last : tie.Need-cast-last Inv-loop μ-loop
-cast-last c = search needs
+cast-last : tie.Need-overflow-cast-last invariant-loop decreases-loop
+cast-last c = search rules
 
-returns-2 : tie.Need-returns-2 Inv-loop μ-loop
+returns-2 : tie.Need-returns-2 invariant-loop decreases-loop
 returns-2 c =
-    let b = c .before in
-    let a = b .before .before .before .args in
-    (halved-all (a .table .now) (a .field) (a .v) (a .n) _ (b .before .if1 .left) (b .number-at .ensures) (c .if2 .taken), omega arith)
+    let b = c.before in
+    let a = b.before.before.before.args in
+    (halved-all a.table.now a.field a.v a.n _ b.before.if1.false b.number_at.ensures c.if2.true, omega arith)
 
-loop-holds : tie.Need-loop-holds Inv-loop μ-loop
+loop-holds : tie.Need-loop-init invariant-loop decreases-loop
 loop-holds c =
-    let b = c .before in
-    let a = b .before .before .before .args in
-    (halved-else (a .table .now) (a .field) (a .v) (a .n) _ (b .before .if1 .left) (b .number-at .ensures) (c .if2 .left), omega arith)
+    let b = c.before in
+    let a = b.before.before.before.args in
+    (halved-else a.table.now a.field a.v a.n _ b.before.if1.false b.number_at.ensures c.if2.false, omega arith)
 
-add-at : tie.Need-add-at Inv-loop μ-loop
-add-at c = search needs
+add_at : tie.Need-overflow-add-at invariant-loop decreases-loop
+add_at c = search rules
 
-mul-number-at-2 : tie.Need-mul-number-at-2 Inv-loop μ-loop
-mul-number-at-2 c = search needs
+mul-number-at-2 : tie.Need-overflow-mul-number-at-2 invariant-loop decreases-loop
+mul-number-at-2 c = search rules
 
-add-number-at-2 : tie.Need-add-number-at-2 Inv-loop μ-loop
-add-number-at-2 c = search needs
+add-number-at-2 : tie.Need-overflow-add-number-at-2 invariant-loop decreases-loop
+add-number-at-2 c = search rules
 
-number-at-requires-2 : tie.Need-number-at-requires-2 Inv-loop μ-loop
-number-at-requires-2 c κs = search needs
+number-at-requires-2 : tie.Need-number-at-requires-2 invariant-loop decreases-loop
+number-at-requires-2 c κs = search rules
 
-cast-number : tie.Need-cast-number Inv-loop μ-loop
-cast-number c = search needs
+cast-number : tie.Need-overflow-cast-number invariant-loop decreases-loop
+cast-number c = search rules
 
-add-low : tie.Need-add-low Inv-loop μ-loop
-add-low c = search needs
+add_low : tie.Need-overflow-add-low invariant-loop decreases-loop
+add_low c = search rules
 
-sub-left : tie.Need-sub-left Inv-loop μ-loop
-sub-left c = search needs
+sub-left : tie.Need-overflow-sub-left invariant-loop decreases-loop
+sub-left c = search rules
 
-sub-left-2 : tie.Need-sub-left-2 Inv-loop μ-loop
-sub-left-2 c = search needs
+sub-left-2 : tie.Need-overflow-sub-left-2 invariant-loop decreases-loop
+sub-left-2 c = search rules
 
-loop-less : tie.Need-loop-less Inv-loop μ-loop
-loop-less c = search needs
+loop-less : tie.Need-loop-smaller invariant-loop decreases-loop
+loop-less c = search rules
 
-loop-again : tie.Need-loop-again Inv-loop μ-loop
+loop-again : tie.Need-loop-preserved invariant-loop decreases-loop
 loop-again c =
-    let l = c .before .before .before .loop in
-    let a = c .before .before .before .before .before .before .before .before .args in
-    (turn-behind (a .table .now) (a .field) (a .v) (l .low) (l .left) (omega arith) (omega arith) ∙ l .inv .0, omega arith)
+    let l = c.before.before.before.loop in
+    let a = c.before.before.before.before.before.before.before.before.args in
+    (turn-behind a.table.now a.field a.v l.low l.left (omega arith) (omega arith) ∙ l.invariant.0, omega arith)
 
-loop-less-2 : tie.Need-loop-less-2 Inv-loop μ-loop
-loop-less-2 c = search needs
+loop-less-2 : tie.Need-loop-smaller-2 invariant-loop decreases-loop
+loop-less-2 c = search rules
 
-loop-again-2 : tie.Need-loop-again-2 Inv-loop μ-loop
+loop-again-2 : tie.Need-loop-preserved-2 invariant-loop decreases-loop
 loop-again-2 c =
-    let l = c .before .before .before .loop in
-    let a = c .before .before .before .before .before .before .before .before .args in
-    (turn-before (a .table .now) (a .field) (a .v) (l .low) (l .left) (omega arith) (omega arith) ∙ l .inv .0, omega arith)
+    let l = c.before.before.before.loop in
+    let a = c.before.before.before.before.before.before.before.before.args in
+    (turn-before a.table.now a.field a.v l.low l.left (omega arith) (omega arith) ∙ l.invariant.0, omega arith)
 
-returns-3 : tie.Need-returns-3 Inv-loop μ-loop
+returns-3 : tie.Need-returns-3 invariant-loop decreases-loop
 returns-3 c =
-    let l = c .before .loop in
-    let a = c .before .before .before .before .before .before .args in
-    (sym (none-left (a .table .now) (a .field) (a .v) (l .left) (l .low) (l .left) (omega arith)) ∙ l .inv .0, omega arith)
+    let l = c.before.loop in
+    let a = c.before.before.before.before.before.before.args in
+    (sym (none_left a.table.now a.field a.v l.left l.low l.left (omega arith)) ∙ l.invariant.0, omega arith)
 
 pub halve-spec : {M : Type 1} → statement M
 halve-spec =
     tie.close
     (tie.spec
-    Inv-loop
-    μ-loop
+    invariant-loop
+    decreases-loop
     returns
     sub-number-at
     mul-number-at
@@ -108,12 +108,12 @@ halve-spec =
     cast-last
     returns-2
     loop-holds
-    add-at
+    add_at
     mul-number-at-2
     add-number-at-2
     number-at-requires-2
     cast-number
-    add-low
+    add_low
     sub-left
     sub-left-2
     loop-less

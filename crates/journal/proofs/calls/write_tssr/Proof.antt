@@ -1,39 +1,39 @@
 -- `write_tssr` meets its contract: its refusals, else the change.
-use Rattle·steps.proofs.Changing.{change-goes, change-stops}
-use Rattle·unit.specs.Steps.{stepOf}
-use Rattle·worlds.specs.Calls.{stepOn}
-use borrow.Author.Needs.{needs}
-use Rattle·journal·proofs.proofs.calls.write_tssr.Statement.{statement}
-use Rattle·journal·proofs.proofs.calls.write_tssr.Tie as tie
+use Rattle.steps.proofs.Changing.{change-goes, change-stops}
+use Rattle.unit.specs.Steps.{step_of}
+use Rattle.worlds.specs.Calls.{stepOn}
+use borrow.Author.Rules.{rules}
+use Rattle.journal.proofs.calls.write_tssr.Statement.{statement}
+use Rattle.journal.proofs.calls.write_tssr.Tie as tie
 
 change-refusal-requires : tie.Need-change-refusal-requires
-change-refusal-requires c κs = search needs
+change-refusal-requires c κs = search rules
 
 refused-requires : tie.Need-refused-requires
-refused-requires c κs = search needs
+refused-requires c κs = search rules
 
 returns : tie.Need-returns
-unfolding stepOn stepOf
-returns c = change-stops _ _ _ _ _ _ _ _ (c .refused .ensures .1) _ (c .before .before .change-refusal .ensures) (c .before .if1 .taken) (c .refused .ensures .0)
+unfolding stepOn step_of
+returns c = change-stops _ _ _ _ _ _ _ _ c.refused.ensures.1 _ c.before.before.change-refusal.ensures c.before.if1.true c.refused.ensures.0
 
 initialize-requires : tie.Need-initialize-requires
-initialize-requires c κs = search needs
+initialize-requires c κs = search rules
 
 change-requires : tie.Need-change-requires
-change-requires c κs = search needs
+change-requires c κs = search rules
 
-same-length : tie.Need-same-length
-same-length c = search needs
+same_length : tie.Need-same-length
+same_length c = search rules
 
 same-length-2 : tie.Need-same-length-2
-same-length-2 c = search needs
+same-length-2 c = search rules
 
 same-length-3 : tie.Need-same-length-3
-same-length-3 c = search needs
+same-length-3 c = search rules
 
 returns-2 : tie.Need-returns-2
-unfolding stepOn stepOf
-returns-2 c = change-goes _ _ _ _ _ _ _ _ _ _ _ _ _ _ (c .before .before .before .before .before .before .before .before .before .before .before .before .before .change-refusal .ensures) (c .before .before .before .before .before .before .before .before .before .before .before .before .if1 .left) (c .before .before .before .before .before .before .before .before .before .before .initialize .ensures) (c .before .before .before .before .before .before .change .ensures)
+unfolding stepOn step_of
+returns-2 c = change-goes _ _ _ _ _ _ _ _ _ _ _ _ _ _ c.before.before.before.before.before.before.before.before.before.before.before.before.before.change-refusal.ensures c.before.before.before.before.before.before.before.before.before.before.before.before.if1.false c.before.before.before.before.before.before.before.before.before.before.initialize.ensures c.before.before.before.before.before.before.change.ensures
 
 pub write-tssr-spec : {M : Type 1} → statement M
 write-tssr-spec =
@@ -44,7 +44,7 @@ write-tssr-spec =
     returns
     initialize-requires
     change-requires
-    same-length
+    same_length
     same-length-2
     same-length-3
     returns-2)

@@ -1,21 +1,21 @@
 -- `block_place` is its definition.
-use Rattle·worlds.specs.Calls.{blockOn}
-use borrow.Author.Needs.{needs}
-use Rattle·journal·proofs.proofs.finds.block_place.Statement.{statement}
-use Rattle·journal·proofs.proofs.finds.block_place.Tie as tie
+use Rattle.worlds.specs.Calls.{blockOn}
+use borrow.Author.Rules.{rules}
+use Rattle.journal.proofs.finds.block_place.Statement.{statement}
+use Rattle.journal.proofs.finds.block_place.Tie as tie
 
 find-refusal-requires : tie.Need-find-refusal-requires
-find-refusal-requires c κs = search needs
+find-refusal-requires c κs = search rules
 
 find-block-requires : tie.Need-find-block-requires
-find-block-requires c κs = search needs
+find-block-requires c κs = search rules
 
 finding-requires : tie.Need-finding-requires
-finding-requires c κs = search needs
+finding-requires c κs = search rules
 
 returns : tie.Need-returns
 unfolding blockOn
-returns c = rw (← c .before .before .find-refusal .ensures, ← c .before .find-block .ensures) (c .finding .ensures)
+returns c = rw (← c.before.before.find-refusal.ensures, ← c.before.find-block.ensures) c.finding.ensures
 
 pub block-place-spec : {M : Type 1} → statement M
 block-place-spec =

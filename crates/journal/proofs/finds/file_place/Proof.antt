@@ -1,21 +1,21 @@
 -- `file_place` is its definition.
-use Rattle·worlds.specs.Calls.{fileOn}
-use borrow.Author.Needs.{needs}
-use Rattle·journal·proofs.proofs.finds.file_place.Statement.{statement}
-use Rattle·journal·proofs.proofs.finds.file_place.Tie as tie
+use Rattle.worlds.specs.Calls.{fileOn}
+use borrow.Author.Rules.{rules}
+use Rattle.journal.proofs.finds.file_place.Statement.{statement}
+use Rattle.journal.proofs.finds.file_place.Tie as tie
 
 find-refusal-requires : tie.Need-find-refusal-requires
-find-refusal-requires c κs = search needs
+find-refusal-requires c κs = search rules
 
 find-file-requires : tie.Need-find-file-requires
-find-file-requires c κs = search needs
+find-file-requires c κs = search rules
 
 finding-requires : tie.Need-finding-requires
-finding-requires c κs = search needs
+finding-requires c κs = search rules
 
 returns : tie.Need-returns
 unfolding fileOn
-returns c = rw (← c .before .before .find-refusal .ensures, ← c .before .find-file .ensures) (c .finding .ensures)
+returns c = rw (← c.before.before.find-refusal.ensures, ← c.before.find-file.ensures) c.finding.ensures
 
 pub file-place-spec : {M : Type 1} → statement M
 file-place-spec =

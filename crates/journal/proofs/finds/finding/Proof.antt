@@ -1,16 +1,16 @@
 -- `finding` is its definition.
-use Rattle·worlds.specs.Calls.{findingOf}
-use borrow.Author.Tests.{eq-eqb, ne-eqb}
-use Rattle·journal·proofs.proofs.finds.finding.Statement.{statement}
-use Rattle·journal·proofs.proofs.finds.finding.Tie as tie
+use Rattle.worlds.specs.Calls.{findingOf}
+use borrow.Author.Tests.{eq-eqb, ne_eqb}
+use Rattle.journal.proofs.finds.finding.Statement.{statement}
+use Rattle.journal.proofs.finds.finding.Tie as tie
 
 returns : tie.Need-returns
 unfolding findingOf
-returns c = rw (ne-eqb _ _ (c .if1 .taken))
+returns c = rw (ne_eqb _ _ c.if1.true)
 
 returns-2 : tie.Need-returns-2
 unfolding findingOf
-returns-2 c = rw (eq-eqb _ _ (c .if1 .left))
+returns-2 c = rw (eq-eqb _ _ c.if1.false)
 
 pub finding-spec : {M : Type 1} → statement M
 finding-spec = tie.close (tie.spec returns returns-2)

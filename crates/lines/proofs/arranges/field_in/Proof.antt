@@ -1,18 +1,18 @@
 -- `field_in` meets its contract.
-use Rattle·lines·specs.specs.Arranging.{fieldOf, fieldWords}
-use borrow.Author.Needs.{needs}
-use Rattle·lines·proofs.proofs.arranges.field_in.Statement.{statement}
-use Rattle·lines·proofs.proofs.arranges.field_in.Tie as tie
+use Rattle.lines.specs.Arranging.{field_of, fieldWords}
+use borrow.Author.Rules.{rules}
+use Rattle.lines.proofs.arranges.field_in.Statement.{statement}
+use Rattle.lines.proofs.arranges.field_in.Tie as tie
 
 slice-aggregate-find-word : tie.Need-slice-aggregate-find-word
-slice-aggregate-find-word c = search needs
+slice-aggregate-find-word c = search rules
 
 find-word-requires : tie.Need-find-word-requires
-find-word-requires c κs = search needs
+find-word-requires c κs = search rules
 
 returns : tie.Need-returns
-unfolding fieldOf fieldWords
-returns c = c .find-word .ensures
+unfolding field_of fieldWords
+returns c = c.find-word.ensures
 
 pub field-in-spec : {M : Type 1} → statement M
 field-in-spec = tie.close (tie.spec slice-aggregate-find-word find-word-requires returns)

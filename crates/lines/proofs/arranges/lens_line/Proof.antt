@@ -1,45 +1,45 @@
 -- `lens_line` meets its contract: the word `off`, or three numbers.
-use Rattle·lines·specs.specs.Arranging.{lensLine}
-use Rattle·lines·proofs.proofs.Asked.{is-place, no-place, numbers-not, numbers-read}
-use borrow.Author.Needs.{needs}
-use Rattle·lines·proofs.proofs.arranges.lens_line.Statement.{statement}
-use Rattle·lines·proofs.proofs.arranges.lens_line.Tie as tie
+use Rattle.lines.specs.Arranging.{lensLine}
+use Rattle.lines.proofs.Asked.{is-place, no_place, numbers-not, numbers-read}
+use borrow.Author.Rules.{rules}
+use Rattle.lines.proofs.arranges.lens_line.Statement.{statement}
+use Rattle.lines.proofs.arranges.lens_line.Tie as tie
 
 slice-aggregate-find-word : tie.Need-slice-aggregate-find-word
-slice-aggregate-find-word c = search needs
+slice-aggregate-find-word c = search rules
 
 find-word-requires : tie.Need-find-word-requires
-find-word-requires c κs = search needs
+find-word-requires c κs = search rules
 
 arranges-requires : tie.Need-arranges-requires
-arranges-requires c κs = search needs
+arranges-requires c κs = search rules
 
 returns : tie.Need-returns
 unfolding lensLine
-returns c = rw (is-place _ _ (c .before .before .find-word .ensures) (c .before .if1 .taken)) (c .arranges .ensures)
+returns c = rw (is-place _ _ c.before.before.find-word.ensures c.before.if1.true) c.arranges.ensures
 
 numbers-requires : tie.Need-numbers-requires
-numbers-requires c κs = search needs
+numbers-requires c κs = search rules
 
 enum-known-f : tie.Need-enum-known-f
-enum-known-f c = search needs
+enum-known-f c = search rules
 
 wrong-requires : tie.Need-wrong-requires
-wrong-requires c κs = search needs
+wrong-requires c κs = search rules
 
 enum-known-m : tie.Need-enum-known-m
-enum-known-m c = search needs
+enum-known-m c = search rules
 
 cut-line-requires : tie.Need-cut-line-requires
-cut-line-requires c κs = search needs
+cut-line-requires c κs = search rules
 
 returns-2 : tie.Need-returns-2
 unfolding lensLine
-returns-2 c = rw (no-place _ _ (c .before .before .before .before .before .before .find-word .ensures) (c .before .before .before .before .before .if1 .left)) (numbers-not _ _ _ _ (c .before .before .before .before .numbers .ensures) _ (c .before .before .f .given .1) (c .wrong .ensures))
+returns-2 c = rw (no_place _ _ c.before.before.before.before.before.before.find-word.ensures c.before.before.before.before.before.if1.false) (numbers-not _ _ _ _ c.before.before.before.before.numbers.ensures _ c.before.before.f.given.1 c.wrong.ensures)
 
 returns-3 : tie.Need-returns-3
 unfolding lensLine
-returns-3 c = rw (no-place _ _ (c .before .before .before .before .before .before .find-word .ensures) (c .before .before .before .before .before .if1 .left)) (numbers-read _ _ _ _ (c .before .before .before .before .numbers .ensures) _ _ _ (c .before .before .m .given .1) (c .cut-line .ensures))
+returns-3 c = rw (no_place _ _ c.before.before.before.before.before.before.find-word.ensures c.before.before.before.before.before.if1.false) (numbers-read _ _ _ _ c.before.before.before.before.numbers.ensures _ _ _ c.before.before.m.given.1 c.cut-Line.ensures)
 
 pub lens-line-spec : {M : Type 1} → statement M
 lens-line-spec =

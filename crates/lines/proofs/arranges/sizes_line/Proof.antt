@@ -1,38 +1,38 @@
 -- `sizes_line` meets its contract.
-use Rattle·lines·specs.specs.Arranging.{sizesLine}
-use Rattle·lines·proofs.proofs.Asked.{numbers-not, numbers-read, sizes-made}
-use borrow.Author.Needs.{needs}
-use Rattle·lines·proofs.proofs.arranges.sizes_line.Statement.{statement}
-use Rattle·lines·proofs.proofs.arranges.sizes_line.Tie as tie
+use Rattle.lines.specs.Arranging.{sizesLine}
+use Rattle.lines.proofs.Asked.{numbers-not, numbers-read, sizes-made}
+use borrow.Author.Rules.{rules}
+use Rattle.lines.proofs.arranges.sizes_line.Statement.{statement}
+use Rattle.lines.proofs.arranges.sizes_line.Tie as tie
 
 numbers-requires : tie.Need-numbers-requires
-numbers-requires c κs = search needs
+numbers-requires c κs = search rules
 
 enum-known-f : tie.Need-enum-known-f
-enum-known-f c = search needs
+enum-known-f c = search rules
 
 wrong-requires : tie.Need-wrong-requires
-wrong-requires c κs = search needs
+wrong-requires c κs = search rules
 
 enum-known-m : tie.Need-enum-known-m
-enum-known-m c = search needs
+enum-known-m c = search rules
 
 reel-bytes-requires : tie.Need-reel-bytes-requires
-reel-bytes-requires c κs = search needs
+reel-bytes-requires c κs = search rules
 
 table-bytes-requires : tie.Need-table-bytes-requires
-table-bytes-requires c κs = search needs
+table-bytes-requires c κs = search rules
 
 arranges-requires : tie.Need-arranges-requires
-arranges-requires c κs = search needs
+arranges-requires c κs = search rules
 
 returns : tie.Need-returns
 unfolding sizesLine
-returns c = numbers-not _ _ _ _ (c .before .before .before .before .numbers .ensures) _ (c .before .before .f .given .1) (c .wrong .ensures)
+returns c = numbers-not _ _ _ _ c.before.before.before.before.numbers.ensures _ c.before.before.f.given.1 c.wrong.ensures
 
 returns-2 : tie.Need-returns-2
 unfolding sizesLine
-returns-2 c = numbers-read _ _ _ _ (c .before .before .before .before .before .before .numbers .ensures) _ _ _ (c .before .before .before .before .m .given .1) (sizes-made _ _ _ _ _ _ (c .before .before .reel-bytes .ensures) (c .before .table-bytes .ensures) (c .arranges .ensures))
+returns-2 c = numbers-read _ _ _ _ c.before.before.before.before.before.before.numbers.ensures _ _ _ c.before.before.before.before.m.given.1 (sizes-made _ _ _ _ _ _ c.before.before.reel-bytes.ensures c.before.table-bytes.ensures c.arranges.ensures)
 
 pub sizes-line-spec : {M : Type 1} → statement M
 sizes-line-spec =

@@ -1,32 +1,32 @@
 -- `made_line` meets its contract.
-use Rattle·lines·specs.specs.Building.{madeLine}
-use Rattle·lines·proofs.proofs.Asked.{numbers-not, numbers-read}
-use borrow.Author.Needs.{needs}
-use Rattle·lines·proofs.proofs.builds.made_line.Statement.{statement}
-use Rattle·lines·proofs.proofs.builds.made_line.Tie as tie
+use Rattle.lines.specs.Building.{madeLine}
+use Rattle.lines.proofs.Asked.{numbers-not, numbers-read}
+use borrow.Author.Rules.{rules}
+use Rattle.lines.proofs.builds.made_line.Statement.{statement}
+use Rattle.lines.proofs.builds.made_line.Tie as tie
 
 numbers-requires : tie.Need-numbers-requires
-numbers-requires c κs = search needs
+numbers-requires c κs = search rules
 
 enum-known-f : tie.Need-enum-known-f
-enum-known-f c = search needs
+enum-known-f c = search rules
 
 wrong-requires : tie.Need-wrong-requires
-wrong-requires c κs = search needs
+wrong-requires c κs = search rules
 
 enum-known-n : tie.Need-enum-known-n
-enum-known-n c = search needs
+enum-known-n c = search rules
 
 builds-requires : tie.Need-builds-requires
-builds-requires c κs = search needs
+builds-requires c κs = search rules
 
 returns : tie.Need-returns
 unfolding madeLine
-returns c = numbers-not _ _ _ _ (c .before .before .before .before .numbers .ensures) _ (c .before .before .f .given .1) (c .wrong .ensures)
+returns c = numbers-not _ _ _ _ c.before.before.before.before.numbers.ensures _ c.before.before.f.given.1 c.wrong.ensures
 
 returns-2 : tie.Need-returns-2
 unfolding madeLine
-returns-2 c = numbers-read _ _ _ _ (c .before .before .before .before .numbers .ensures) _ _ _ (c .before .before .n .given .1) (c .builds .ensures)
+returns-2 c = numbers-read _ _ _ _ c.before.before.before.before.numbers.ensures _ _ _ c.before.before.n.given.1 c.builds.ensures
 
 pub made-line-spec : {M : Type 1} → statement M
 made-line-spec =

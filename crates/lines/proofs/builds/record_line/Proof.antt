@@ -1,26 +1,26 @@
 -- `record_line` meets its contract.
-use mathlib.Core.Path.{sym, _∙_}
-use Rattle·lines·specs.specs.Building.{recordLine}
-use borrow.Author.Needs.{needs}
-use Rattle·lines·proofs.proofs.builds.record_line.Statement.{statement}
-use Rattle·lines·proofs.proofs.builds.record_line.Tie as tie
+use mathlib.Core.Path.{sym, ◌∙◌}
+use Rattle.lines.specs.Building.{recordLine}
+use borrow.Author.Rules.{rules}
+use Rattle.lines.proofs.builds.record_line.Statement.{statement}
+use Rattle.lines.proofs.builds.record_line.Tie as tie
 
 has-word-requires : tie.Need-has-word-requires
-has-word-requires c κs = search needs
+has-word-requires c κs = search rules
 
 builds-requires : tie.Need-builds-requires
-builds-requires c κs = search needs
+builds-requires c κs = search rules
 
 returns : tie.Need-returns
 unfolding recordLine
-returns c = rw (sym (c .before .before .has-word .ensures) ∙ (c .before .if1 .taken)) (c .builds .ensures)
+returns c = rw (sym c.before.before.Has-word.ensures ∙ c.before.if1.true) c.builds.ensures
 
 wrong-requires : tie.Need-wrong-requires
-wrong-requires c κs = search needs
+wrong-requires c κs = search rules
 
 returns-2 : tie.Need-returns-2
 unfolding recordLine
-returns-2 c = rw (sym (c .before .before .has-word .ensures) ∙ (c .before .if1 .left)) (c .wrong .ensures)
+returns-2 c = rw (sym c.before.before.Has-word.ensures ∙ c.before.if1.false) c.wrong.ensures
 
 pub record-line-spec : {M : Type 1} → statement M
 record-line-spec =

@@ -1,26 +1,26 @@
 -- `end_in` meets its contract: the word `cursor`, or a number.
-use Rattle·lines·specs.specs.Calling.{endOf}
-use Rattle·lines·proofs.proofs.Asked.{is-place, no-place}
-use borrow.Author.Needs.{needs}
-use Rattle·lines·proofs.proofs.calls.end_in.Statement.{statement}
-use Rattle·lines·proofs.proofs.calls.end_in.Tie as tie
+use Rattle.lines.specs.Calling.{end_of}
+use Rattle.lines.proofs.Asked.{is-place, no_place}
+use borrow.Author.Rules.{rules}
+use Rattle.lines.proofs.calls.end_in.Statement.{statement}
+use Rattle.lines.proofs.calls.end_in.Tie as tie
 
 slice-aggregate-find-word : tie.Need-slice-aggregate-find-word
-slice-aggregate-find-word c = search needs
+slice-aggregate-find-word c = search rules
 
 find-word-requires : tie.Need-find-word-requires
-find-word-requires c κs = search needs
+find-word-requires c κs = search rules
 
 returns : tie.Need-returns
-unfolding endOf
-returns c = rw (is-place _ _ (c .before .find-word .ensures) (c .if1 .taken))
+unfolding end_of
+returns c = rw (is-place _ _ c.before.find-word.ensures c.if1.true)
 
 argument-requires : tie.Need-argument-requires
-argument-requires c κs = search needs
+argument-requires c κs = search rules
 
 returns-2 : tie.Need-returns-2
-unfolding endOf
-returns-2 c = rw (no-place _ _ (c .before .before .find-word .ensures) (c .before .if1 .left)) (c .argument .ensures)
+unfolding end_of
+returns-2 c = rw (no_place _ _ c.before.before.find-word.ensures c.before.if1.false) c.argument.ensures
 
 pub end-in-spec : {M : Type 1} → statement M
 end-in-spec =

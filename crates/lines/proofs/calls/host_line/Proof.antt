@@ -1,32 +1,32 @@
 -- `host_line` meets its contract.
-use Rattle·lines·specs.specs.Calling.{hostLine}
-use Rattle·lines·proofs.proofs.Asked.{number-not, number-read}
-use borrow.Author.Needs.{needs}
-use Rattle·lines·proofs.proofs.calls.host_line.Statement.{statement}
-use Rattle·lines·proofs.proofs.calls.host_line.Tie as tie
+use Rattle.lines.specs.Calling.{hostLine}
+use Rattle.lines.proofs.Asked.{number-not, number_read}
+use borrow.Author.Rules.{rules}
+use Rattle.lines.proofs.calls.host_line.Statement.{statement}
+use Rattle.lines.proofs.calls.host_line.Tie as tie
 
 argument-requires : tie.Need-argument-requires
-argument-requires c κs = search needs
+argument-requires c κs = search rules
 
 enum-known-f : tie.Need-enum-known-f
-enum-known-f c = search needs
+enum-known-f c = search rules
 
 wrong-requires : tie.Need-wrong-requires
-wrong-requires c κs = search needs
+wrong-requires c κs = search rules
 
 enum-known-at : tie.Need-enum-known-at
-enum-known-at c = search needs
+enum-known-at c = search rules
 
 asks-requires : tie.Need-asks-requires
-asks-requires c κs = search needs
+asks-requires c κs = search rules
 
 returns : tie.Need-returns
 unfolding hostLine
-returns c = number-not _ _ _ _ (c .before .before .before .before .argument .ensures) _ (c .before .before .f .given .1) (c .wrong .ensures)
+returns c = number-not _ _ _ _ c.before.before.before.before.argument.ensures _ c.before.before.f.given.1 c.wrong.ensures
 
 returns-2 : tie.Need-returns-2
 unfolding hostLine
-returns-2 c = number-read _ _ _ _ (c .before .before .before .before .argument .ensures) _ (c .before .before .at .given .1) (c .asks .ensures)
+returns-2 c = number_read _ _ _ _ c.before.before.before.before.argument.ensures _ c.before.before.at.given.1 c.asks.ensures
 
 pub host-line-spec : {M : Type 1} → statement M
 host-line-spec =

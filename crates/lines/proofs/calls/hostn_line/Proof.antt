@@ -1,32 +1,32 @@
 -- `hostn_line` meets its contract.
-use Rattle·lines·specs.specs.Calling.{hostnLine}
-use Rattle·lines·proofs.proofs.Asked.{numbers-not, numbers-read}
-use borrow.Author.Needs.{needs}
-use Rattle·lines·proofs.proofs.calls.hostn_line.Statement.{statement}
-use Rattle·lines·proofs.proofs.calls.hostn_line.Tie as tie
+use Rattle.lines.specs.Calling.{hostnLine}
+use Rattle.lines.proofs.Asked.{numbers-not, numbers-read}
+use borrow.Author.Rules.{rules}
+use Rattle.lines.proofs.calls.hostn_line.Statement.{statement}
+use Rattle.lines.proofs.calls.hostn_line.Tie as tie
 
 numbers-requires : tie.Need-numbers-requires
-numbers-requires c κs = search needs
+numbers-requires c κs = search rules
 
 enum-known-f : tie.Need-enum-known-f
-enum-known-f c = search needs
+enum-known-f c = search rules
 
 wrong-requires : tie.Need-wrong-requires
-wrong-requires c κs = search needs
+wrong-requires c κs = search rules
 
 enum-known-at : tie.Need-enum-known-at
-enum-known-at c = search needs
+enum-known-at c = search rules
 
 asks-requires : tie.Need-asks-requires
-asks-requires c κs = search needs
+asks-requires c κs = search rules
 
 returns : tie.Need-returns
 unfolding hostnLine
-returns c = numbers-not _ _ _ _ (c .before .before .before .before .numbers .ensures) _ (c .before .before .f .given .1) (c .wrong .ensures)
+returns c = numbers-not _ _ _ _ c.before.before.before.before.numbers.ensures _ c.before.before.f.given.1 c.wrong.ensures
 
 returns-2 : tie.Need-returns-2
 unfolding hostnLine
-returns-2 c = numbers-read _ _ _ _ (c .before .before .before .before .numbers .ensures) _ _ _ (c .before .before .at .given .1) (c .asks .ensures)
+returns-2 c = numbers-read _ _ _ _ c.before.before.before.before.numbers.ensures _ _ _ c.before.before.at.given.1 c.asks.ensures
 
 pub hostn-line-spec : {M : Type 1} → statement M
 hostn-line-spec =

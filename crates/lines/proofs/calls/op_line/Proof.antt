@@ -1,50 +1,50 @@
 -- `op_line` meets its contract, for each act.
-use Rattle·lines·specs.specs.Calling.{opLine, operateBy}
-use Rattle·lines·proofs.proofs.Asked.{at-place, operate-none}
-use borrow.Author.Needs.{needs}
-use Rattle·lines·proofs.proofs.calls.op_line.Statement.{statement}
-use Rattle·lines·proofs.proofs.calls.op_line.Tie as tie
+use Rattle.lines.specs.Calling.{opLine, operateBy}
+use Rattle.lines.proofs.Asked.{at_place, operate-none}
+use borrow.Author.Rules.{rules}
+use Rattle.lines.proofs.calls.op_line.Statement.{statement}
+use Rattle.lines.proofs.calls.op_line.Tie as tie
 
 slice-aggregate-find-word : tie.Need-slice-aggregate-find-word
-slice-aggregate-find-word c = search needs
+slice-aggregate-find-word c = search rules
 
 find-word-requires : tie.Need-find-word-requires
-find-word-requires c κs = search needs
+find-word-requires c κs = search rules
 
 asks-requires : tie.Need-asks-requires
-asks-requires c κs = search needs
+asks-requires c κs = search rules
 
 asks-requires-2 : tie.Need-asks-requires-2
-asks-requires-2 c κs = search needs
+asks-requires-2 c κs = search rules
 
 asks-requires-3 : tie.Need-asks-requires-3
-asks-requires-3 c κs = search needs
+asks-requires-3 c κs = search rules
 
 asks-requires-4 : tie.Need-asks-requires-4
-asks-requires-4 c κs = search needs
+asks-requires-4 c κs = search rules
 
 wrong-requires : tie.Need-wrong-requires
-wrong-requires c κs = search needs
+wrong-requires c κs = search rules
 
 returns : tie.Need-returns
 unfolding opLine operateBy
-returns c = at-place operateBy _ _ _ _ (c .before .before .find-word .ensures) (c .before .match .keys1) (c .asks .ensures)
+returns c = at_place operateBy _ _ _ _ c.before.before.find-word.ensures c.before.match.keys1 c.asks.ensures
 
 returns-2 : tie.Need-returns-2
 unfolding opLine operateBy
-returns-2 c = at-place operateBy _ _ _ _ (c .before .before .find-word .ensures) (c .before .match .keys2) (c .asks2 .ensures)
+returns-2 c = at_place operateBy _ _ _ _ c.before.before.find-word.ensures c.before.match.keys2 c.asks2.ensures
 
 returns-3 : tie.Need-returns-3
 unfolding opLine operateBy
-returns-3 c = at-place operateBy _ _ _ _ (c .before .before .find-word .ensures) (c .before .match .keys3) (c .asks3 .ensures)
+returns-3 c = at_place operateBy _ _ _ _ c.before.before.find-word.ensures c.before.match.keys3 c.asks3.ensures
 
 returns-4 : tie.Need-returns-4
 unfolding opLine operateBy
-returns-4 c = at-place operateBy _ _ _ _ (c .before .before .find-word .ensures) (c .before .match .keys4) (c .asks4 .ensures)
+returns-4 c = at_place operateBy _ _ _ _ c.before.before.find-word.ensures c.before.match.keys4 c.asks4.ensures
 
 returns-5 : tie.Need-returns-5
 unfolding opLine operateBy
-returns-5 c = rw (← (c .before .before .find-word .ensures)) (operate-none _ _ (c .before .match .rest .0 .0 .0 .1) (c .before .match .rest .0 .0 .1) (c .before .match .rest .0 .1) (c .before .match .rest .1) (c .wrong .ensures))
+returns-5 c = rw (← c.before.before.find-word.ensures) (operate-none _ _ c.before.match.rest.0.0.0.1 c.before.match.rest.0.0.1 c.before.match.rest.0.1 c.before.match.rest.1 c.wrong.ensures)
 
 pub op-line-spec : {M : Type 1} → statement M
 op-line-spec =

@@ -1,32 +1,32 @@
 -- `tsdb_line` meets its contract.
-use Rattle·lines·specs.specs.Calling.{tsdbLine}
-use Rattle·lines·proofs.proofs.Asked.{number-not, number-read}
-use borrow.Author.Needs.{needs}
-use Rattle·lines·proofs.proofs.calls.tsdb_line.Statement.{statement}
-use Rattle·lines·proofs.proofs.calls.tsdb_line.Tie as tie
+use Rattle.lines.specs.Calling.{tsdbLine}
+use Rattle.lines.proofs.Asked.{number-not, number_read}
+use borrow.Author.Rules.{rules}
+use Rattle.lines.proofs.calls.tsdb_line.Statement.{statement}
+use Rattle.lines.proofs.calls.tsdb_line.Tie as tie
 
 argument-requires : tie.Need-argument-requires
-argument-requires c κs = search needs
+argument-requires c κs = search rules
 
 enum-known-f : tie.Need-enum-known-f
-enum-known-f c = search needs
+enum-known-f c = search rules
 
 wrong-requires : tie.Need-wrong-requires
-wrong-requires c κs = search needs
+wrong-requires c κs = search rules
 
 enum-known-w : tie.Need-enum-known-w
-enum-known-w c = search needs
+enum-known-w c = search rules
 
 tsdb-to-requires : tie.Need-tsdb-to-requires
-tsdb-to-requires c κs = search needs
+tsdb-to-requires c κs = search rules
 
 returns : tie.Need-returns
 unfolding tsdbLine
-returns c = number-not _ _ _ _ (c .before .before .before .before .argument .ensures) _ (c .before .before .f .given .1) (c .wrong .ensures)
+returns c = number-not _ _ _ _ c.before.before.before.before.argument.ensures _ c.before.before.f.given.1 c.wrong.ensures
 
 returns-2 : tie.Need-returns-2
 unfolding tsdbLine
-returns-2 c = number-read _ _ _ _ (c .before .before .before .before .argument .ensures) _ (c .before .before .w .given .1) (c .tsdb-to .ensures)
+returns-2 c = number_read _ _ _ _ c.before.before.before.before.argument.ensures _ c.before.before.w.given.1 c.tsdb-to.ensures
 
 pub tsdb-line-spec : {M : Type 1} → statement M
 tsdb-line-spec =

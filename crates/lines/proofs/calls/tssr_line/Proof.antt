@@ -1,32 +1,32 @@
 -- `tssr_line` meets its contract.
-use Rattle·lines·specs.specs.Calling.{tssrLine}
-use Rattle·lines·proofs.proofs.Asked.{number-not, number-read}
-use borrow.Author.Needs.{needs}
-use Rattle·lines·proofs.proofs.calls.tssr_line.Statement.{statement}
-use Rattle·lines·proofs.proofs.calls.tssr_line.Tie as tie
+use Rattle.lines.specs.Calling.{tssrLine}
+use Rattle.lines.proofs.Asked.{number-not, number_read}
+use borrow.Author.Rules.{rules}
+use Rattle.lines.proofs.calls.tssr_line.Statement.{statement}
+use Rattle.lines.proofs.calls.tssr_line.Tie as tie
 
 argument-requires : tie.Need-argument-requires
-argument-requires c κs = search needs
+argument-requires c κs = search rules
 
 enum-known-f : tie.Need-enum-known-f
-enum-known-f c = search needs
+enum-known-f c = search rules
 
 wrong-requires : tie.Need-wrong-requires
-wrong-requires c κs = search needs
+wrong-requires c κs = search rules
 
-enum-told : tie.Need-enum-told
-enum-told c = search needs
+enum_told : tie.Need-enum-told
+enum_told c = search rules
 
 asks-requires : tie.Need-asks-requires
-asks-requires c κs = search needs
+asks-requires c κs = search rules
 
 returns : tie.Need-returns
 unfolding tssrLine
-returns c = number-not _ _ _ _ (c .before .before .before .before .argument .ensures) _ (c .before .before .f .given .1) (c .wrong .ensures)
+returns c = number-not _ _ _ _ c.before.before.before.before.argument.ensures _ c.before.before.f.given.1 c.wrong.ensures
 
 returns-2 : tie.Need-returns-2
 unfolding tssrLine
-returns-2 c = number-read _ _ _ _ (c .before .before .before .argument .ensures) _ (c .before .enum-told .given .1) (c .asks .ensures)
+returns-2 c = number_read _ _ _ _ c.before.before.before.argument.ensures _ c.before.enum_told.given.1 c.asks.ensures
 
 pub tssr-line-spec : {M : Type 1} → statement M
 tssr-line-spec =
@@ -35,7 +35,7 @@ tssr-line-spec =
     argument-requires
     enum-known-f
     wrong-requires
-    enum-told
+    enum_told
     asks-requires
     returns
     returns-2)

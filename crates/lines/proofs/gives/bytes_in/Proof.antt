@@ -1,39 +1,39 @@
 -- `bytes_in` meets its contract: the part that is read is word k.
-use mathlib.Core.Path.{ap, _∙_}
+use mathlib.Core.Path.{ap, ◌∙◌}
 use mathlib.Core.List.{List}
 use Prim.Native.Nat.{ℕ}
 use lib.ListN.{length}
-use Rattle·script.specs.Fills.{hexAnswer, hexFilled}
-use Rattle·script.proofs.Passing.{part-word}
-use borrow.Author.Needs.{needs}
-use Rattle·lines·proofs.proofs.gives.bytes_in.Statement.{statement}
-use Rattle·lines·proofs.proofs.gives.bytes_in.Tie as tie
+use Rattle.script.specs.Fills.{hexAnswer, hexFilled}
+use Rattle.script.proofs.Passing.{part-word}
+use borrow.Author.Rules.{rules}
+use Rattle.lines.proofs.gives.bytes_in.Statement.{statement}
+use Rattle.lines.proofs.gives.bytes_in.Tie as tie
 
 nth-requires : tie.Need-nth-requires
-nth-requires c κs = search needs
+nth-requires c κs = search rules
 
-sub-hex-bytes : tie.Need-sub-hex-bytes
-sub-hex-bytes c = search needs
+sub-hex-bytes : tie.Need-overflow-sub-hex-bytes
+sub-hex-bytes c = search rules
 
-part-hex-bytes-start : tie.Need-part-hex-bytes-start
-part-hex-bytes-start c = search needs
+part-hex-bytes-start : tie.Need-slice-bounds-hex-bytes-start
+part-hex-bytes-start c = search rules
 
-part-hex-bytes-end : tie.Need-part-hex-bytes-end
-part-hex-bytes-end c = search needs
+part-hex-bytes-end : tie.Need-slice-bounds-hex-bytes-end
+part-hex-bytes-end c = search rules
 
 hex-bytes-requires : tie.Need-hex-bytes-requires
-hex-bytes-requires c κs = search needs
+hex-bytes-requires c κs = search rules
 
-same-length : tie.Need-same-length
-same-length c = search needs
+same_length : tie.Need-same-length
+same_length c = search rules
 
 returns : tie.Need-returns
 returns c =
-    let a = c .before .before .before .before .before .before .before .before .args in
-    let n = c .before .before .before .before .before .nth .ensures in
-    let w = part-word (a .text .now) (a .k) _ _ (n .0) (n .1 .0) in
-    let h = c .before .before .hex-bytes .ensures in
-    (h .0 ∙ ap (λ (t : List ℕ). hexAnswer t (length (a .«data» .now))) w, h .1 ∙ ap (λ (t : List ℕ). hexFilled t (a .«data» .now)) w)
+    let a = c.before.before.before.before.before.before.before.before.args in
+    let n = c.before.before.before.before.before.nth.ensures in
+    let w = part-word a.text.now a.k _ _ n.0 n.1.0 in
+    let h = c.before.before.hex-bytes.ensures in
+    (h.0 ∙ ap (λ (t : List ℕ). hexAnswer t (length a.«data».now)) w, h.1 ∙ ap (λ (t : List ℕ). hexFilled t a.«data».now) w)
 
 pub bytes-in-spec : {M : Type 1} → statement M
 bytes-in-spec =
@@ -44,5 +44,5 @@ bytes-in-spec =
     part-hex-bytes-start
     part-hex-bytes-end
     hex-bytes-requires
-    same-length
+    same_length
     returns)

@@ -1,30 +1,30 @@
 -- `bytes_made` meets its contract: there is room, or nothing is made.
 use native.Mathlib.Omega.{arith}
-use Rattle·lines·proofs.proofs.Made.{made-done, made-not}
-use borrow.Author.Needs.{needs}
-use Rattle·lines·proofs.proofs.gives.bytes_made.Statement.{statement}
-use Rattle·lines·proofs.proofs.gives.bytes_made.Tie as tie
+use Rattle.lines.proofs.Made.{made-done, made-not}
+use borrow.Author.Rules.{rules}
+use Rattle.lines.proofs.gives.bytes_made.Statement.{statement}
+use Rattle.lines.proofs.gives.bytes_made.Tie as tie
 
 returns : tie.Need-returns
-returns c = made-not _ (c .before .before .args .seed) _ (omega arith)
+returns c = made-not _ c.before.before.args.seed _ (omega arith)
 
-sub-generate : tie.Need-sub-generate
-sub-generate c = search needs
+sub-generate : tie.Need-overflow-sub-generate
+sub-generate c = search rules
 
-part-generate-start : tie.Need-part-generate-start
-part-generate-start c = search needs
+part-generate-start : tie.Need-slice-bounds-generate-start
+part-generate-start c = search rules
 
-part-generate-end : tie.Need-part-generate-end
-part-generate-end c = search needs
+part-generate-end : tie.Need-slice-bounds-generate-end
+part-generate-end c = search rules
 
 generate-requires : tie.Need-generate-requires
-generate-requires c κs = search needs
+generate-requires c κs = search rules
 
-same-length : tie.Need-same-length
-same-length c = search needs
+same_length : tie.Need-same-length
+same_length c = search rules
 
 returns-2 : tie.Need-returns-2
-returns-2 c = made-done _ (c .before .before .before .before .before .before .args .seed) _ _ (omega arith) (c .before .before .generate .ensures)
+returns-2 c = made-done _ c.before.before.before.before.before.before.args.seed _ _ (omega arith) c.before.before.generate.ensures
 
 pub bytes-made-spec : {M : Type 1} → statement M
 bytes-made-spec =
@@ -35,5 +35,5 @@ bytes-made-spec =
     part-generate-start
     part-generate-end
     generate-requires
-    same-length
+    same_length
     returns-2)

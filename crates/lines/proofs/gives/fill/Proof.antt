@@ -1,54 +1,54 @@
 -- `fill` meets its contract, for each thing that a line may give.
 use mathlib.Core.Path.{refl}
-use Rattle·lines·specs.specs.Gives.{givenAnswer, givenFilled}
-use borrow.Author.Needs.{needs}
-use Rattle·lines·proofs.proofs.gives.fill.Statement.{statement}
-use Rattle·lines·proofs.proofs.gives.fill.Tie as tie
+use Rattle.lines.specs.Gives.{givenAnswer, givenFilled}
+use borrow.Author.Rules.{rules}
+use Rattle.lines.proofs.gives.fill.Statement.{statement}
+use Rattle.lines.proofs.gives.fill.Tie as tie
 
-enum-told : tie.Need-enum-told
-enum-told c = search needs
+enum_told : tie.Need-enum-told
+enum_told c = search rules
 
 enum-known-g : tie.Need-enum-known-g
-enum-known-g c = search needs
+enum-known-g c = search rules
 
 bytes-in-requires : tie.Need-bytes-in-requires
-bytes-in-requires c κs = search needs
+bytes-in-requires c κs = search rules
 
 enum-known-g-2 : tie.Need-enum-known-g-2
-enum-known-g-2 c = search needs
+enum-known-g-2 c = search rules
 
 bytes-made-requires : tie.Need-bytes-made-requires
-bytes-made-requires c κs = search needs
+bytes-made-requires c κs = search rules
 
 returns : tie.Need-returns
 unfolding givenAnswer givenFilled
-returns c = rw (c .enum-told .given .1) (refl, refl)
+returns c = rw c.enum_told.given.1 (refl, refl)
 
-same-length : tie.Need-same-length
-same-length c = search needs
+same_length : tie.Need-same-length
+same_length c = search rules
 
 returns-2 : tie.Need-returns-2
 unfolding givenAnswer givenFilled
-returns-2 c = rw (c .before .before .before .before .before .g .given .1) (c .before .before .bytes-in .ensures)
+returns-2 c = rw c.before.before.before.before.before.g.given.1 c.before.before.bytes-in.ensures
 
 same-length-2 : tie.Need-same-length-2
-same-length-2 c = search needs
+same-length-2 c = search rules
 
 returns-3 : tie.Need-returns-3
 unfolding givenAnswer givenFilled
-returns-3 c = rw (c .before .before .before .before .before .g2 .given .1) (c .before .before .bytes-made .ensures)
+returns-3 c = rw c.before.before.before.before.before.g2.given.1 c.before.before.bytes-made.ensures
 
-pub fill-spec : {M : Type 1} → statement M
-fill-spec =
+pub fill_spec : {M : Type 1} → statement M
+fill_spec =
     tie.close
     (tie.spec
-    enum-told
+    enum_told
     enum-known-g
     bytes-in-requires
     enum-known-g-2
     bytes-made-requires
     returns
-    same-length
+    same_length
     returns-2
     same-length-2
     returns-3)

@@ -1,43 +1,43 @@
 -- `row_line` meets its contract.
-use borrow.Author.Tests.{eq-eqb, ne-eqb}
-use Rattle·lines·specs.specs.Rowing.{rowing}
-use Rattle·lines·proofs.proofs.Asked.{number-not, number-read, reel-made}
-use borrow.Author.Needs.{needs}
-use Rattle·lines·proofs.proofs.rows.row_line.Statement.{statement}
-use Rattle·lines·proofs.proofs.rows.row_line.Tie as tie
+use borrow.Author.Tests.{eq-eqb, ne_eqb}
+use Rattle.lines.specs.Rowing.{rowing}
+use Rattle.lines.proofs.Asked.{number-not, number_read, reel-made}
+use borrow.Author.Rules.{rules}
+use Rattle.lines.proofs.rows.row_line.Statement.{statement}
+use Rattle.lines.proofs.rows.row_line.Tie as tie
 
 argument-requires : tie.Need-argument-requires
-argument-requires c κs = search needs
+argument-requires c κs = search rules
 
 enum-known-f : tie.Need-enum-known-f
-enum-known-f c = search needs
+enum-known-f c = search rules
 
 wrong-requires : tie.Need-wrong-requires
-wrong-requires c κs = search needs
+wrong-requires c κs = search rules
 
 enum-known-n : tie.Need-enum-known-n
-enum-known-n c = search needs
+enum-known-n c = search rules
 
 units-to-requires : tie.Need-units-to-requires
-units-to-requires c κs = search needs
+units-to-requires c κs = search rules
 
 returns : tie.Need-returns
 unfolding rowing
-returns c = number-read _ _ _ _ (c .before .before .before .before .before .argument .ensures) _ (c .before .before .before .n .given .1) (rw (eq-eqb (c .before .before .before .before .before .before .before .args .k) 24 (c .before .if1 .taken)) (c .units-to .ensures))
+returns c = number_read _ _ _ _ c.before.before.before.before.before.argument.ensures _ c.before.before.before.n.given.1 (rw (eq-eqb c.before.before.before.before.before.before.before.args.k 24 c.before.if1.true) c.units-to.ensures)
 
 reel-bytes-requires : tie.Need-reel-bytes-requires
-reel-bytes-requires c κs = search needs
+reel-bytes-requires c κs = search rules
 
 arranges-requires : tie.Need-arranges-requires
-arranges-requires c κs = search needs
+arranges-requires c κs = search rules
 
 returns-2 : tie.Need-returns-2
 unfolding rowing
-returns-2 c = number-not _ _ _ _ (c .before .before .before .before .argument .ensures) _ (c .before .before .f .given .1) (c .wrong .ensures)
+returns-2 c = number-not _ _ _ _ c.before.before.before.before.argument.ensures _ c.before.before.f.given.1 c.wrong.ensures
 
 returns-3 : tie.Need-returns-3
 unfolding rowing
-returns-3 c = number-read _ _ _ _ (c .before .before .before .before .before .before .argument .ensures) _ (c .before .before .before .before .n .given .1) (rw (ne-eqb (c .before .before .before .before .before .before .before .before .args .k) 24 (c .before .before .if1 .left)) (reel-made _ _ _ (c .before .reel-bytes .ensures) (c .arranges .ensures)))
+returns-3 c = number_read _ _ _ _ c.before.before.before.before.before.before.argument.ensures _ c.before.before.before.before.n.given.1 (rw (ne_eqb c.before.before.before.before.before.before.before.before.args.k 24 c.before.before.if1.false) (reel-made _ _ _ c.before.reel-bytes.ensures c.arranges.ensures))
 
 pub row-line-spec : {M : Type 1} → statement M
 row-line-spec =

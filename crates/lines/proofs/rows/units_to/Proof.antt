@@ -1,24 +1,24 @@
 -- `units_to` meets its contract: a row of 0 to 9 records.
 use native.Mathlib.Omega.{arith}
 use borrow.Author.Tests.{lt-ltb, le-ltb}
-use Rattle·lines·specs.specs.Rowing.{unitsTo}
-use borrow.Author.Needs.{needs}
-use Rattle·lines·proofs.proofs.rows.units_to.Statement.{statement}
-use Rattle·lines·proofs.proofs.rows.units_to.Tie as tie
+use Rattle.lines.specs.Rowing.{unitsTo}
+use borrow.Author.Rules.{rules}
+use Rattle.lines.proofs.rows.units_to.Statement.{statement}
+use Rattle.lines.proofs.rows.units_to.Tie as tie
 
 wrong-requires : tie.Need-wrong-requires
-wrong-requires c κs = search needs
+wrong-requires c κs = search rules
 
 returns : tie.Need-returns
 unfolding unitsTo
-returns c = rw (lt-ltb 9 (c .before .before .args .n) (c .before .if1 .taken)) (c .wrong .ensures)
+returns c = rw (lt-ltb 9 c.before.before.args.n c.before.if1.true) c.wrong.ensures
 
 arranges-requires : tie.Need-arranges-requires
-arranges-requires c κs = search needs
+arranges-requires c κs = search rules
 
 returns-2 : tie.Need-returns-2
 unfolding unitsTo
-returns-2 c = rw (le-ltb 9 (c .before .before .args .n) (omega arith)) (c .arranges .ensures)
+returns-2 c = rw (le-ltb 9 c.before.before.args.n (omega arith)) c.arranges.ensures
 
 pub units-to-spec : {M : Type 1} → statement M
 units-to-spec = tie.close (tie.spec wrong-requires returns arranges-requires returns-2)

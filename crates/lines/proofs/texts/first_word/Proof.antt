@@ -1,18 +1,18 @@
 -- `first_word` meets its contract.
-use Rattle·lines·specs.specs.Starts.{startOf, startWords}
-use borrow.Author.Needs.{needs}
-use Rattle·lines·proofs.proofs.texts.first_word.Statement.{statement}
-use Rattle·lines·proofs.proofs.texts.first_word.Tie as tie
+use Rattle.lines.specs.Starts.{start_of, startWords}
+use borrow.Author.Rules.{rules}
+use Rattle.lines.proofs.texts.first_word.Statement.{statement}
+use Rattle.lines.proofs.texts.first_word.Tie as tie
 
 slice-aggregate-find-word : tie.Need-slice-aggregate-find-word
-slice-aggregate-find-word c = search needs
+slice-aggregate-find-word c = search rules
 
 find-word-requires : tie.Need-find-word-requires
-find-word-requires c κs = search needs
+find-word-requires c κs = search rules
 
 returns : tie.Need-returns
-unfolding startOf startWords
-returns c = c .find-word .ensures
+unfolding start_of startWords
+returns c = c.find-word.ensures
 
 pub first-word-spec : {M : Type 1} → statement M
 first-word-spec = tie.close (tie.spec slice-aggregate-find-word find-word-requires returns)

@@ -1,38 +1,38 @@
 -- `line_from` meets its contract, by its two tests.
 use native.Mathlib.Omega.{arith}
 use borrow.Author.Tests.{lt-ltb, le-ltb}
-use Rattle·lines·specs.specs.Lines.{lineFrom}
-use Rattle·lines·proofs.proofs.Asked.{word-more}
-use borrow.Author.Needs.{needs}
-use Rattle·lines·proofs.proofs.texts.line_from.Statement.{statement}
-use Rattle·lines·proofs.proofs.texts.line_from.Tie as tie
+use Rattle.lines.specs.Lines.{lineFrom}
+use Rattle.lines.proofs.Asked.{word_more}
+use borrow.Author.Rules.{rules}
+use Rattle.lines.proofs.texts.line_from.Statement.{statement}
+use Rattle.lines.proofs.texts.line_from.Tie as tie
 
 wrong-requires : tie.Need-wrong-requires
-wrong-requires c κs = search needs
+wrong-requires c κs = search rules
 
 returns : tie.Need-returns
 unfolding lineFrom
-returns c = rw (lt-ltb 25 (c .before .before .before .args .k) (c .before .if1 .taken)) (c .wrong .ensures)
+returns c = rw (lt-ltb 25 c.before.before.before.args.k c.before.if1.true) c.wrong.ensures
 
 most-words-requires : tie.Need-most-words-requires
-most-words-requires c κs = search needs
+most-words-requires c κs = search rules
 
 has-word-requires : tie.Need-has-word-requires
-has-word-requires c κs = search needs
+has-word-requires c κs = search rules
 
 wrong-requires-2 : tie.Need-wrong-requires-2
-wrong-requires-2 c κs = search needs
+wrong-requires-2 c κs = search rules
 
 returns-2 : tie.Need-returns-2
 unfolding lineFrom
-returns-2 c = rw (le-ltb 25 (c .before .before .before .before .before .before .args .k) (omega arith), word-more _ _ _ _ _ (c .before .before .before .most-words .ensures) (c .before .before .has-word .ensures) (c .before .if2 .taken)) (c .wrong2 .ensures)
+returns-2 c = rw (le-ltb 25 c.before.before.before.before.before.before.args.k (omega arith), word_more _ _ _ _ _ c.before.before.before.most-words.ensures c.before.before.Has-word.ensures c.before.if2.true) c.wrong2.ensures
 
 line-by-requires : tie.Need-line-by-requires
-line-by-requires c κs = search needs
+line-by-requires c κs = search rules
 
 returns-3 : tie.Need-returns-3
 unfolding lineFrom
-returns-3 c = rw (le-ltb 25 (c .before .before .before .before .before .before .args .k) (omega arith), word-more _ _ _ _ _ (c .before .before .before .most-words .ensures) (c .before .before .has-word .ensures) (c .before .if2 .left)) (c .line-by .ensures)
+returns-3 c = rw (le-ltb 25 c.before.before.before.before.before.before.args.k (omega arith), word_more _ _ _ _ _ c.before.before.before.most-words.ensures c.before.before.Has-word.ensures c.before.if2.false) c.line-by.ensures
 
 pub line-from-spec : {M : Type 1} → statement M
 line-from-spec =

@@ -1,44 +1,44 @@
 -- `put_bad` meets its contract: its texts go in a row.
-use borrow.Author.Needs.{needs}
-use Rattle·script.proofs.Printed.{put-more}
-use Rattle·lister·specs.specs.Lines.{badLine}
-use Rattle·lister·proofs.proofs.prints.put_bad.Statement.{statement}
-use Rattle·lister·proofs.proofs.prints.put_bad.Tie as tie
+use borrow.Author.Rules.{rules}
+use Rattle.script.proofs.Printed.{put-more}
+use Rattle.lister.specs.Lines.{badLine}
+use Rattle.lister.proofs.prints.put_bad.Statement.{statement}
+use Rattle.lister.proofs.prints.put_bad.Tie as tie
 
 slice-aggregate-put-labelled : tie.Need-slice-aggregate-put-labelled
-slice-aggregate-put-labelled c = search needs
+slice-aggregate-put-labelled c = search rules
 
 put-labelled-requires : tie.Need-put-labelled-requires
-put-labelled-requires c κs = search needs
+put-labelled-requires c κs = search rules
 
 slice-aggregate-put-bytes : tie.Need-slice-aggregate-put-bytes
-slice-aggregate-put-bytes c = search needs
+slice-aggregate-put-bytes c = search rules
 
 put-bytes-requires : tie.Need-put-bytes-requires
-put-bytes-requires c κs = search needs
+put-bytes-requires c κs = search rules
 
 letter-requires : tie.Need-letter-requires
-letter-requires c κs = search needs
+letter-requires c κs = search rules
 
 put-byte-requires : tie.Need-put-byte-requires
-put-byte-requires c κs = search needs
+put-byte-requires c κs = search rules
 
 slice-aggregate-put-bytes-2 : tie.Need-slice-aggregate-put-bytes-2
-slice-aggregate-put-bytes-2 c = search needs
+slice-aggregate-put-bytes-2 c = search rules
 
 put-bytes-requires-2 : tie.Need-put-bytes-requires-2
-put-bytes-requires-2 c κs = search needs
+put-bytes-requires-2 c κs = search rules
 
-same-length : tie.Need-same-length
-same-length c = search needs
+same_length : tie.Need-same-length
+same_length c = search rules
 
 returns : tie.Need-returns
 unfolding badLine
 returns c =
-    let e = c .before .before .put-bytes2 .ensures in
-    let d = put-more _ _ _ _ _ _ _ _ (c .before .before .before .before .before .before .before .put-byte .ensures) e in
-    let b = put-more _ _ _ _ _ _ _ _ (c .before .before .before .before .before .before .before .before .before .before .before .before .put-bytes .ensures) d in
-    rw (c .before .before .before .before .before .before .before .before .letter .ensures) at (put-more _ _ _ _ _ _ _ _ (c .before .before .before .before .before .before .before .before .before .before .before .before .before .before .before .before .before .put-labelled .ensures) b)
+    let e = c.before.before.put-bytes2.ensures in
+    let d = put-more _ _ _ _ _ _ _ _ c.before.before.before.before.before.before.before.put_byte.ensures e in
+    let b = put-more _ _ _ _ _ _ _ _ c.before.before.before.before.before.before.before.before.before.before.before.before.put-bytes.ensures d in
+    rw c.before.before.before.before.before.before.before.before.letter.ensures at (put-more _ _ _ _ _ _ _ _ c.before.before.before.before.before.before.before.before.before.before.before.before.before.before.before.before.before.put-labelled.ensures b)
 
 pub put-bad-spec : {M : Type 1} → statement M
 put-bad-spec =
@@ -52,5 +52,5 @@ put-bad-spec =
     put-byte-requires
     slice-aggregate-put-bytes-2
     put-bytes-requires-2
-    same-length
+    same_length
     returns)

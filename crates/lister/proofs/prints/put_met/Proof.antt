@@ -1,69 +1,69 @@
 -- `put_met` meets its contract: a line for each variant that is an object, and nothing for the others.
-use borrow.Author.Needs.{needs}
-use Rattle·lister·specs.specs.Lines.{numberLine}
-use Rattle·lister·specs.specs.Listed.{metLine}
-use Rattle·lister·proofs.proofs.Putting.{put-nothing}
-use Rattle·lister·proofs.proofs.prints.put_met.Statement.{statement}
-use Rattle·lister·proofs.proofs.prints.put_met.Tie as tie
+use borrow.Author.Rules.{rules}
+use Rattle.lister.specs.Lines.{numberLine}
+use Rattle.lister.specs.Listed.{metLine}
+use Rattle.lister.proofs.Putting.{put-nothing}
+use Rattle.lister.proofs.prints.put_met.Statement.{statement}
+use Rattle.lister.proofs.prints.put_met.Tie as tie
 
 enum-known-m : tie.Need-enum-known-m
-enum-known-m c = search needs
+enum-known-m c = search rules
 
 put-record-requires : tie.Need-put-record-requires
-put-record-requires c κs = search needs
+put-record-requires c κs = search rules
 
-enum-told : tie.Need-enum-told
-enum-told c = search needs
+enum_told : tie.Need-enum-told
+enum_told c = search rules
 
 slice-aggregate-put-line : tie.Need-slice-aggregate-put-line
-slice-aggregate-put-line c = search needs
+slice-aggregate-put-line c = search rules
 
 put-line-requires : tie.Need-put-line-requires
-put-line-requires c κs = search needs
+put-line-requires c κs = search rules
 
 enum-told-2 : tie.Need-enum-told-2
-enum-told-2 c = search needs
+enum-told-2 c = search rules
 
 slice-aggregate-put-line-2 : tie.Need-slice-aggregate-put-line-2
-slice-aggregate-put-line-2 c = search needs
+slice-aggregate-put-line-2 c = search rules
 
 put-line-requires-2 : tie.Need-put-line-requires-2
-put-line-requires-2 c κs = search needs
+put-line-requires-2 c κs = search rules
 
 enum-told-3 : tie.Need-enum-told-3
-enum-told-3 c = search needs
+enum-told-3 c = search rules
 
 enum-told-4 : tie.Need-enum-told-4
-enum-told-4 c = search needs
+enum-told-4 c = search rules
 
-same-length : tie.Need-same-length
-same-length c = search needs
+same_length : tie.Need-same-length
+same_length c = search rules
 
 returns : tie.Need-returns
 unfolding metLine
-returns c = rw (c .before .before .before .before .before .m .given .1) (c .before .before .put-record .ensures)
+returns c = rw c.before.before.before.before.before.m.given.1 c.before.before.put_record.ensures
 
 same-length-2 : tie.Need-same-length-2
-same-length-2 c = search needs
+same-length-2 c = search rules
 
 returns-2 : tie.Need-returns-2
 unfolding metLine numberLine
-returns-2 c = rw (c .before .before .before .before .before .enum-told .given .1) (c .before .before .put-line .ensures)
+returns-2 c = rw c.before.before.before.before.before.enum_told.given.1 c.before.before.put-line.ensures
 
 same-length-3 : tie.Need-same-length-3
-same-length-3 c = search needs
+same-length-3 c = search rules
 
 returns-3 : tie.Need-returns-3
 unfolding metLine numberLine
-returns-3 c = rw (c .before .before .before .before .before .enum-told2 .given .1) (c .before .before .put-line2 .ensures)
+returns-3 c = rw c.before.before.before.before.before.enum-told2.given.1 c.before.before.put-line2.ensures
 
 returns-4 : tie.Need-returns-4
 unfolding metLine
-returns-4 c = rw (c .enum-told3 .given .1) (put-nothing _ _)
+returns-4 c = rw c.enum-told3.given.1 (put-nothing _ _)
 
 returns-5 : tie.Need-returns-5
 unfolding metLine
-returns-5 c = rw (c .enum-told4 .given .1) (put-nothing _ _)
+returns-5 c = rw c.enum-told4.given.1 (put-nothing _ _)
 
 pub put-met-spec : {M : Type 1} → statement M
 put-met-spec =
@@ -71,7 +71,7 @@ put-met-spec =
     (tie.spec
     enum-known-m
     put-record-requires
-    enum-told
+    enum_told
     slice-aggregate-put-line
     put-line-requires
     enum-told-2
@@ -79,7 +79,7 @@ put-met-spec =
     put-line-requires-2
     enum-told-3
     enum-told-4
-    same-length
+    same_length
     returns
     same-length-2
     returns-2

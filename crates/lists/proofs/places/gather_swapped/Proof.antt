@@ -1,147 +1,147 @@
 -- `gather_swapped` meets its contract. In both loops what is still to fetch, from byte i on, gives the whole.
-use borrow.Author.Needs.{needs}
+use borrow.Author.Rules.{rules}
 use native.Mathlib.Omega.{arith}
 use mathlib.Core.Bool.{true}
-use mathlib.Core.Path.{_≡_, refl, sym, _∙_}
-use mathlib.Core.Logic.{⊎-elim}
-use Prim.Native.Nat.{_≤_, _-_, _+_, _%_}
+use mathlib.Core.Path.{◌≡◌, refl, sym, ◌∙◌}
+use mathlib.Core.Logic.{⊎_elim}
+use Prim.Native.Nat.{◌≤◌, ◌-◌, ◌+◌, ◌%◌}
 use lib.ListN.{length}
 use lib.Seq.{sets}
-use Rattle·lists·specs.specs.Places.{gathered}
-use Rattle·lists·proofs.proofs.Placed.{gather-more, gathered-none, place-in}
-use Rattle·lists·proofs.proofs.Swapped.{Gathering, gather-first, gather-none, gather-words, odd-test, word-test}
-use Rattle·lists·proofs.proofs.places.gather_swapped.Statement.{statement}
-use Rattle·lists·proofs.proofs.places.gather_swapped.Tie as tie
-use Rattle·lists·proofs.proofs.places.gather_swapped.Reads as reads
-use Rattle·lists·proofs.proofs.places.gather_swapped.Lts as lts
-use Rattle·lists·proofs.proofs.places.place_of.Reads as place-of-reads
-use Rattle·lists·proofs.proofs.runs.put_swapped.Reads as put-swapped-reads
-use Rattle·lists·proofs.proofs.runs.run_at.Reads as run-at-reads
+use Rattle.lists.specs.Places.{gathered}
+use Rattle.lists.proofs.Placed.{gather-more, gathered_none, place_in}
+use Rattle.lists.proofs.Swapped.{Gathering, gather-first, gather_none, gather-words, odd-test, word_test}
+use Rattle.lists.proofs.places.gather_swapped.Statement.{statement}
+use Rattle.lists.proofs.places.gather_swapped.Tie as tie
+use Rattle.lists.proofs.places.gather_swapped.Reads as reads
+use Rattle.lists.proofs.places.gather_swapped.Lts as lts
+use Rattle.lists.proofs.places.place_of.Reads as place-of-reads
+use Rattle.lists.proofs.runs.put_swapped.Reads as put-swapped-reads
+use Rattle.lists.proofs.runs.run_at.Reads as run-at-reads
 
-abbrev Inv-loop : tie.InvT-loop
-Inv-loop b₀ mem a n i₀ b i = (i ≤ n) × (length b ≡ n) × (sets b i (gathered true mem (a + i) (n - i)) ≡ sets b₀ i₀ (gathered true mem (a + i₀) (n - i₀)))
+abbrev invariant-loop : tie.invariant-loop
+invariant-loop b₀ mem a n i₀ b i = (i ≤ n) × (length b ≡ n) × (sets b i (gathered true mem (a + i) (n - i)) ≡ sets b₀ i₀ (gathered true mem (a + i₀) (n - i₀)))
 
-abbrev μ-loop : tie.MeasureT-loop
-μ-loop b₀ mem a n i₀ b i = n - i
+abbrev decreases-loop : tie.decreases-loop
+decreases-loop b₀ mem a n i₀ b i = n - i
 
-abbrev Inv-loop2 : tie.InvT-loop2
-Inv-loop2 b₀ mem a n i₀ b i = Inv-loop b₀ mem a n i₀ b i
+abbrev invariant-loop2 : tie.invariant-loop2
+invariant-loop2 b₀ mem a n i₀ b i = invariant-loop b₀ mem a n i₀ b i
 
-abbrev μ-loop2 : tie.MeasureT-loop2
-μ-loop2 b₀ mem a n i₀ b i = μ-loop b₀ mem a n i₀ b i
+abbrev decreases-loop2 : tie.decreases-loop2
+decreases-loop2 b₀ mem a n i₀ b i = decreases-loop b₀ mem a n i₀ b i
 
 -- what the `if` left
-begun : (c : lts.Joined1 (run-at-reads.Asked, run-at-reads.Learnt, put-swapped-reads.Asked, put-swapped-reads.Learnt, place-of-reads.Asked, place-of-reads.Learnt) reads.Pre reads.Post Inv-loop μ-loop Inv-loop2 μ-loop2) → Gathering (c .before .before .before .args .b .now) (c .before .before .before .args .mem .now) (c .before .before .before .args .a) (c .if1 .b) (c .if1 .i)
+begun : (c : lts.Joined1 (run-at-reads.Asked, run-at-reads.Learnt, put-swapped-reads.Asked, put-swapped-reads.Learnt, place-of-reads.Asked, place-of-reads.Learnt) reads.Pre reads.Post invariant-loop decreases-loop invariant-loop2 decreases-loop2) → Gathering c.before.before.before.args.b.now c.before.before.before.args.mem.now c.before.before.before.args.a c.if1.b c.if1.i
 begun c =
-    let a = c .before .before .before .args in
-    ⊎-elim (λ w. gather-first (a .b .now) (a .mem .now) (a .a) (w .0 .taken) (w .2) (w .3)) (λ w. gather-none (a .b .now) (a .mem .now) (a .a) (w .1) (w .2)) (c .if1 .came)
+    let a = c.before.before.before.args in
+    ⊎_elim (λ w. gather-first a.b.now a.mem.now a.a w.0.taken w.2 w.3) (λ w. gather_none a.b.now a.mem.now a.a w.1 w.2) c.if1.branch
 
 -- what the first loop's test says
-tested : (c : lts.In-loop (run-at-reads.Asked, run-at-reads.Learnt, put-swapped-reads.Asked, put-swapped-reads.Learnt, place-of-reads.Asked, place-of-reads.Learnt) reads.Pre reads.Post Inv-loop μ-loop Inv-loop2 μ-loop2) → (64 ≤ length (c .before .before .before .before .before .args .b .now) - c .before .loop .i) × ((c .before .before .before .before .before .args .a + c .before .loop .i) % 2 ≡ 0)
+tested : (c : lts.In-loop (run-at-reads.Asked, run-at-reads.Learnt, put-swapped-reads.Asked, put-swapped-reads.Learnt, place-of-reads.Asked, place-of-reads.Learnt) reads.Pre reads.Post invariant-loop decreases-loop invariant-loop2 decreases-loop2) → (64 ≤ length c.before.before.before.before.before.args.b.now - c.before.loop.i) × ((c.before.before.before.before.before.args.a + c.before.loop.i) % 2 ≡ 0)
 tested c =
-    let l = c .before in
-    let a = l .before .before .before .before .args in
-    word-test 64 (length (a .b .now) - l .loop .i) (a .a + l .loop .i) (c .loop-test .taken)
+    let l = c.before in
+    let a = l.before.before.before.before.args in
+    word_test 64 (length a.b.now - l.loop.i) (a.a + l.loop.i) c.loop-test.true
 
-sub-b : tie.Need-sub-b Inv-loop μ-loop Inv-loop2 μ-loop2
+sub-b : tie.Need-overflow-sub-b invariant-loop decreases-loop invariant-loop2 decreases-loop2
 sub-b c =
-    let a = c .before .before .before .args in
-    omega (arith, odd-test (a .a) (length (a .b .now)) (c .if1 .taken))
+    let a = c.before.before.before.args in
+    omega (arith, odd-test a.a (length a.b.now) c.if1.true)
 
-shared-slice-read-b : tie.Need-shared-slice-read-b Inv-loop μ-loop Inv-loop2 μ-loop2
+shared-slice-read-b : tie.Need-shared-slice-read-b invariant-loop decreases-loop invariant-loop2 decreases-loop2
 shared-slice-read-b c =
-    let a = c .before .before .before .before .args in
-    omega (arith, odd-test (a .a) (length (a .b .now)) (c .before .if1 .taken))
+    let a = c.before.before.before.before.args in
+    omega (arith, odd-test a.a (length a.b.now) c.before.if1.true)
 
-slice-write-b : tie.Need-slice-write-b Inv-loop μ-loop Inv-loop2 μ-loop2
+slice-write-b : tie.Need-slice-write-b invariant-loop decreases-loop invariant-loop2 decreases-loop2
 slice-write-b c =
-    let a = c .before .before .before .before .args in
-    omega (arith, odd-test (a .a) (length (a .b .now)) (c .before .if1 .taken))
+    let a = c.before.before.before.before.args in
+    omega (arith, odd-test a.a (length a.b.now) c.before.if1.true)
 
-loop-holds : tie.Need-loop-holds Inv-loop μ-loop Inv-loop2 μ-loop2
+loop-holds : tie.Need-loop-init invariant-loop decreases-loop invariant-loop2 decreases-loop2
 loop-holds c =
     let b = begun c in
-    (b .0, b .2, refl)
+    (b.0, b.2, refl)
 
-sub-loop : tie.Need-sub-loop Inv-loop μ-loop Inv-loop2 μ-loop2
-sub-loop c = search needs
+sub-loop : tie.Need-overflow-sub-loop invariant-loop decreases-loop invariant-loop2 decreases-loop2
+sub-loop c = search rules
 
-add-loop : tie.Need-add-loop Inv-loop μ-loop Inv-loop2 μ-loop2
-add-loop c = search needs
+add-loop : tie.Need-overflow-add-loop invariant-loop decreases-loop invariant-loop2 decreases-loop2
+add-loop c = search rules
 
-add-run-at : tie.Need-add-run-at Inv-loop μ-loop Inv-loop2 μ-loop2
-add-run-at c = search needs
+add-run-at : tie.Need-overflow-add-run-at invariant-loop decreases-loop invariant-loop2 decreases-loop2
+add-run-at c = search rules
 
-run-at-requires : tie.Need-run-at-requires Inv-loop μ-loop Inv-loop2 μ-loop2
-run-at-requires c κs = omega (arith, tested (c .before .before))
+run-at-requires : tie.Need-run-at-requires invariant-loop decreases-loop invariant-loop2 decreases-loop2
+run-at-requires c κs = omega (arith, tested c.before.before)
 
-put-swapped-requires : tie.Need-put-swapped-requires Inv-loop μ-loop Inv-loop2 μ-loop2
-put-swapped-requires c κs = omega (arith, tested (c .before .before .before))
+put-swapped-requires : tie.Need-put-swapped-requires invariant-loop decreases-loop invariant-loop2 decreases-loop2
+put-swapped-requires c κs = omega (arith, tested c.before.before.before)
 
-add-i : tie.Need-add-i Inv-loop μ-loop Inv-loop2 μ-loop2
-add-i c = omega (arith, tested (c .before .before .before .before .before .before))
+add-i : tie.Need-overflow-add-i invariant-loop decreases-loop invariant-loop2 decreases-loop2
+add-i c = omega (arith, tested c.before.before.before.before.before.before)
 
-loop-less : tie.Need-loop-less Inv-loop μ-loop Inv-loop2 μ-loop2
-loop-less c = omega (arith, tested (c .before .before .before .before .before .before))
+loop-less : tie.Need-loop-smaller invariant-loop decreases-loop invariant-loop2 decreases-loop2
+loop-less c = omega (arith, tested c.before.before.before.before.before.before)
 
-loop-again : tie.Need-loop-again Inv-loop μ-loop Inv-loop2 μ-loop2
+loop-again : tie.Need-loop-preserved invariant-loop decreases-loop invariant-loop2 decreases-loop2
 loop-again c =
-    let p = c .before .before in
-    let l = p .before .before .before .before .before in
-    let a = l .before .before .before .before .args in
-    let t = tested (p .before .before .before .before) in
-    let n = length (a .b .now) in
-    (omega arith, search needs, gather-words (l .loop .b) (a .mem .now) (a .a) (l .loop .i) 64 (n - (l .loop .i + 64)) (n - l .loop .i) (p .before .run-at .ensures) (p .put-swapped .ensures) (t .1) refl (omega arith) ∙ l .loop .inv .2)
+    let p = c.before.before in
+    let l = p.before.before.before.before.before in
+    let a = l.before.before.before.before.args in
+    let t = tested p.before.before.before.before in
+    let n = length a.b.now in
+    (omega arith, search rules, gather-words l.loop.b a.mem.now a.a l.loop.i 64 (n - (l.loop.i + 64)) (n - l.loop.i) p.before.run_at.ensures p.put-swapped.ensures t.1 refl (omega arith) ∙ l.loop.invariant.2)
 
-loop2-holds : tie.Need-loop2-holds Inv-loop μ-loop Inv-loop2 μ-loop2
-loop2-holds c = search needs
+loop2-holds : tie.Need-loop2-init invariant-loop decreases-loop invariant-loop2 decreases-loop2
+loop2-holds c = search rules
 
-add-place-of : tie.Need-add-place-of Inv-loop μ-loop Inv-loop2 μ-loop2
-add-place-of c = search needs
+add-place-of : tie.Need-overflow-add-place-of invariant-loop decreases-loop invariant-loop2 decreases-loop2
+add-place-of c = search rules
 
-place-of-requires : tie.Need-place-of-requires Inv-loop μ-loop Inv-loop2 μ-loop2
-place-of-requires c κs = search needs
+place-of-requires : tie.Need-place-of-requires invariant-loop decreases-loop invariant-loop2 decreases-loop2
+place-of-requires c κs = search rules
 
-shared-slice-read-b-2 : tie.Need-shared-slice-read-b-2 Inv-loop μ-loop Inv-loop2 μ-loop2
+shared-slice-read-b-2 : tie.Need-shared-slice-read-b-2 invariant-loop decreases-loop invariant-loop2 decreases-loop2
 shared-slice-read-b-2 c =
-    let l = c .before .before .before .before in
-    let a = l .before .before .before .before .before .before .args in
-    omega (arith, place-in true (a .a + l .loop2 .i) (length (a .mem .now)) (omega arith) (search needs))
+    let l = c.before.before.before.before in
+    let a = l.before.before.before.before.before.before.args in
+    omega (arith, place_in true (a.a + l.loop2.i) (length a.mem.now) (omega arith) (search rules))
 
-slice-write-b-2 : tie.Need-slice-write-b-2 Inv-loop μ-loop Inv-loop2 μ-loop2
-slice-write-b-2 c = search needs
+slice-write-b-2 : tie.Need-slice-write-b-2 invariant-loop decreases-loop invariant-loop2 decreases-loop2
+slice-write-b-2 c = search rules
 
-add-i-2 : tie.Need-add-i-2 Inv-loop μ-loop Inv-loop2 μ-loop2
-add-i-2 c = search needs
+add-i-2 : tie.Need-overflow-add-i-2 invariant-loop decreases-loop invariant-loop2 decreases-loop2
+add-i-2 c = search rules
 
-loop2-less : tie.Need-loop2-less Inv-loop μ-loop Inv-loop2 μ-loop2
-loop2-less c = search needs
+loop2-less : tie.Need-loop2-smaller invariant-loop decreases-loop invariant-loop2 decreases-loop2
+loop2-less c = search rules
 
-loop2-again : tie.Need-loop2-again Inv-loop μ-loop Inv-loop2 μ-loop2
+loop2-again : tie.Need-loop2-preserved invariant-loop decreases-loop invariant-loop2 decreases-loop2
 loop2-again c =
-    let l = c .before .before .before .before in
-    let a = l .before .before .before .before .before .before .args in
-    let n = length (a .b .now) in
-    (search needs, search needs, gather-more true (l .loop2 .b) (a .mem .now) (a .a) (l .loop2 .i) (n - (l .loop2 .i + 1)) (n - l .loop2 .i) (c .before .place-of .ensures) (omega arith) ∙ l .loop2 .inv .2)
+    let l = c.before.before.before.before in
+    let a = l.before.before.before.before.before.before.args in
+    let n = length a.b.now in
+    (search rules, search rules, gather-more true l.loop2.b a.mem.now a.a l.loop2.i (n - (l.loop2.i + 1)) (n - l.loop2.i) c.before.place_of.ensures (omega arith) ∙ l.loop2.invariant.2)
 
-same-length : tie.Need-same-length Inv-loop μ-loop Inv-loop2 μ-loop2
-same-length c = search needs
+same_length : tie.Need-same-length invariant-loop decreases-loop invariant-loop2 decreases-loop2
+same_length c = search rules
 
-returns : tie.Need-returns Inv-loop μ-loop Inv-loop2 μ-loop2
+returns : tie.Need-returns invariant-loop decreases-loop invariant-loop2 decreases-loop2
 returns c =
-    let l₂ = c .before in
-    let l = l₂ .before .before in
-    let a = l .before .before .before .before .args in
-    sym (gathered-none true (l₂ .loop2 .b) (a .mem .now) (l₂ .loop2 .i) (a .a + l₂ .loop2 .i) (length (a .b .now) - l₂ .loop2 .i) (omega arith)) ∙ l₂ .loop2 .inv .2 ∙ l .loop .inv .2 ∙ begun (l .before) .1
+    let l₂ = c.before in
+    let l = l₂.before.before in
+    let a = l.before.before.before.before.args in
+    sym (gathered_none true l₂.loop2.b a.mem.now l₂.loop2.i (a.a + l₂.loop2.i) (length a.b.now - l₂.loop2.i) (omega arith)) ∙ l₂.loop2.invariant.2 ∙ l.loop.invariant.2 ∙ (begun l.before).1
 
 pub gather-swapped-spec : {M : Type 1} → statement M
 gather-swapped-spec =
     tie.close
     (tie.spec
-    Inv-loop
-    μ-loop
-    Inv-loop2
-    μ-loop2
+    invariant-loop
+    decreases-loop
+    invariant-loop2
+    decreases-loop2
     sub-b
     shared-slice-read-b
     slice-write-b
@@ -162,5 +162,5 @@ gather-swapped-spec =
     add-i-2
     loop2-less
     loop2-again
-    same-length
+    same_length
     returns)

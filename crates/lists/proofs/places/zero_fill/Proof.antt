@@ -1,46 +1,46 @@
 -- `zero_fill` meets its contract. So far the first i bytes are 0.
-use borrow.Author.Needs.{needs}
+use borrow.Author.Rules.{rules}
 use native.Mathlib.Omega.{arith}
-use mathlib.Core.Path.{_≡_, _∙_}
-use Prim.Native.Nat.{_≤_, _-_}
+use mathlib.Core.Path.{◌≡◌, ◌∙◌}
+use Prim.Native.Nat.{◌≤◌, ◌-◌}
 use lib.ListN.{length, replicate, length-replicate}
 use lib.Seq.{sets}
 use native.Mathlib.Nat.{zero-add}
-use Rattle·lists·proofs.proofs.Stores.{fill-more, sets-whole}
-use Rattle·lists·proofs.proofs.places.zero_fill.Statement.{statement}
-use Rattle·lists·proofs.proofs.places.zero_fill.Tie as tie
+use Rattle.lists.proofs.Stores.{fill_more, sets-whole}
+use Rattle.lists.proofs.places.zero_fill.Statement.{statement}
+use Rattle.lists.proofs.places.zero_fill.Tie as tie
 
-abbrev Inv-loop : tie.InvT-loop
-Inv-loop b₀ i₀ b i = (i ≤ length b₀) × (b ≡ sets b₀ 0 (replicate i 0)) × (length b ≡ length b₀)
+abbrev invariant-loop : tie.invariant-loop
+invariant-loop b₀ i₀ b i = (i ≤ length b₀) × (b ≡ sets b₀ 0 (replicate i 0)) × (length b ≡ length b₀)
 
-abbrev μ-loop : tie.MeasureT-loop
-μ-loop b₀ i₀ b i = length b₀ - i
+abbrev decreases-loop : tie.decreases-loop
+decreases-loop b₀ i₀ b i = length b₀ - i
 
-loop-holds : tie.Need-loop-holds Inv-loop μ-loop
-loop-holds c = search needs
+loop-holds : tie.Need-loop-init invariant-loop decreases-loop
+loop-holds c = search rules
 
-slice-write-b : tie.Need-slice-write-b Inv-loop μ-loop
-slice-write-b c = search needs
+slice-write-b : tie.Need-slice-write-b invariant-loop decreases-loop
+slice-write-b c = search rules
 
-add-i : tie.Need-add-i Inv-loop μ-loop
-add-i c = search needs
+add-i : tie.Need-overflow-add-i invariant-loop decreases-loop
+add-i c = search rules
 
-loop-less : tie.Need-loop-less Inv-loop μ-loop
-loop-less c = search needs
+loop-less : tie.Need-loop-smaller invariant-loop decreases-loop
+loop-less c = search rules
 
-loop-again : tie.Need-loop-again Inv-loop μ-loop
+loop-again : tie.Need-loop-preserved invariant-loop decreases-loop
 loop-again c =
-    let b = c .before .before .args .b .now in
-    let i = c .before .loop .i in
-    (search needs, cc (fill-more b 0 0 i, zero-add i), search needs)
+    let b = c.before.before.args.b.now in
+    let i = c.before.loop.i in
+    (search rules, cc (fill_more b 0 0 i, zero-add i), search rules)
 
-same-length : tie.Need-same-length Inv-loop μ-loop
-same-length c = search needs
+same_length : tie.Need-same-length invariant-loop decreases-loop
+same_length c = search rules
 
-returns : tie.Need-returns Inv-loop μ-loop
+returns : tie.Need-returns invariant-loop decreases-loop
 returns c =
-    let b = c .before .before .args .b .now in
-    let i = c .before .loop .i in
+    let b = c.before.before.args.b.now in
+    let i = c.before.loop.i in
     let e : i ≡ length b = omega arith in
     cc (sets-whole (replicate i 0) b (length-replicate i 0 ∙ e))
 
@@ -48,12 +48,12 @@ pub zero-fill-spec : {M : Type 1} → statement M
 zero-fill-spec =
     tie.close
     (tie.spec
-    Inv-loop
-    μ-loop
+    invariant-loop
+    decreases-loop
     loop-holds
     slice-write-b
     add-i
     loop-less
     loop-again
-    same-length
+    same_length
     returns)

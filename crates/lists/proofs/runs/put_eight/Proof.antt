@@ -1,60 +1,60 @@
 -- `put_eight` meets its contract. So far the first i bytes of r are stored.
-use borrow.Author.Needs.{needs}
+use borrow.Author.Rules.{rules}
 use native.Mathlib.Omega.{arith}
-use mathlib.Core.Path.{_≡_}
-use Prim.Native.Nat.{_≤_, _-_, _+_}
+use mathlib.Core.Path.{◌≡◌}
+use Prim.Native.Nat.{◌≤◌, ◌-◌, ◌+◌}
 use lib.ListN.{length, take}
 use lib.Seq.{sets, take-length}
-use Rattle·lists·proofs.proofs.Copied.{copy-byte}
-use Rattle·lists·proofs.proofs.runs.put_eight.Statement.{statement}
-use Rattle·lists·proofs.proofs.runs.put_eight.Tie as tie
+use Rattle.lists.proofs.Copied.{copy-byte}
+use Rattle.lists.proofs.runs.put_eight.Statement.{statement}
+use Rattle.lists.proofs.runs.put_eight.Tie as tie
 
-abbrev Inv-loop : tie.InvT-loop
-Inv-loop b₀ at r i₀ b i = (i ≤ 8) × (b ≡ sets b₀ at (take i r)) × (length b ≡ length b₀)
+abbrev invariant-loop : tie.invariant-loop
+invariant-loop b₀ at r i₀ b i = (i ≤ 8) × (b ≡ sets b₀ at (take i r)) × (length b ≡ length b₀)
 
-abbrev μ-loop : tie.MeasureT-loop
-μ-loop b₀ at r i₀ b i = 8 - i
+abbrev decreases-loop : tie.decreases-loop
+decreases-loop b₀ at r i₀ b i = 8 - i
 
-loop-holds : tie.Need-loop-holds Inv-loop μ-loop
-loop-holds c = search needs
+loop-holds : tie.Need-loop-init invariant-loop decreases-loop
+loop-holds c = search rules
 
-array-read-b : tie.Need-array-read-b Inv-loop μ-loop
-array-read-b c = search needs
+array-read-b : tie.Need-array-read-b invariant-loop decreases-loop
+array-read-b c = search rules
 
-add-b : tie.Need-add-b Inv-loop μ-loop
-add-b c = search needs
+add-b : tie.Need-overflow-add-b invariant-loop decreases-loop
+add-b c = search rules
 
-slice-write-b : tie.Need-slice-write-b Inv-loop μ-loop
-slice-write-b c = search needs
+slice-write-b : tie.Need-slice-write-b invariant-loop decreases-loop
+slice-write-b c = search rules
 
-add-i : tie.Need-add-i Inv-loop μ-loop
-add-i c = search needs
+add-i : tie.Need-overflow-add-i invariant-loop decreases-loop
+add-i c = search rules
 
-loop-less : tie.Need-loop-less Inv-loop μ-loop
-loop-less c = search needs
+loop-less : tie.Need-loop-smaller invariant-loop decreases-loop
+loop-less c = search rules
 
-loop-again : tie.Need-loop-again Inv-loop μ-loop
+loop-again : tie.Need-loop-preserved invariant-loop decreases-loop
 loop-again c =
-    let l = c .before in
-    let a = l .before .args in
-    (search needs, cc (copy-byte (a .b .now) (a .t3) 0 (a .at) (l .loop .i) (a .at + l .loop .i) (l .loop .i) (omega arith) (omega arith) (omega arith)), search needs)
+    let l = c.before in
+    let a = l.before.args in
+    (search rules, cc (copy-byte a.b.now a.t3 0 a.at l.loop.i (a.at + l.loop.i) l.loop.i (omega arith) (omega arith) (omega arith)), search rules)
 
-same-length : tie.Need-same-length Inv-loop μ-loop
-same-length c = search needs
+same_length : tie.Need-same-length invariant-loop decreases-loop
+same_length c = search rules
 
-returns : tie.Need-returns Inv-loop μ-loop
+returns : tie.Need-returns invariant-loop decreases-loop
 returns c =
-    let l = c .before in
-    let a = l .before .args in
-    let e : l .loop .i ≡ length (a .t3) = omega arith in
-    cc (take-length (a .t3))
+    let l = c.before in
+    let a = l.before.args in
+    let e : l.loop.i ≡ length a.t3 = omega arith in
+    cc (take-length a.t3)
 
 pub put-eight-spec : {M : Type 1} → statement M
 put-eight-spec =
     tie.close
     (tie.spec
-    Inv-loop
-    μ-loop
+    invariant-loop
+    decreases-loop
     loop-holds
     array-read-b
     add-b
@@ -62,5 +62,5 @@ put-eight-spec =
     add-i
     loop-less
     loop-again
-    same-length
+    same_length
     returns)

@@ -1,79 +1,79 @@
 -- `put_swapped` meets its contract. What is still to store, from word to word, gives the whole.
-use borrow.Author.Needs.{needs}
+use borrow.Author.Rules.{rules}
 use native.Mathlib.Omega.{arith}
 use mathlib.Core.Bool.{true}
-use mathlib.Core.Path.{_≡_, refl, sym, _∙_}
-use Prim.Native.Nat.{suc, _≤_, _-_, _+_, _%_}
+use mathlib.Core.Path.{◌≡◌, refl, sym, ◌∙◌}
+use Prim.Native.Nat.{suc, ◌≤◌, ◌-◌, ◌+◌, ◌%◌}
 use native.Mathlib.Nat.{add-zero}
 use lib.ListN.{length, length-set}
 use lib.Seq.{sets}
-use Rattle·lists·specs.specs.Places.{gathered}
-use Rattle·lists·proofs.proofs.Placed.{gathered-none}
-use Rattle·lists·proofs.proofs.Swapped.{swap-word}
-use Rattle·lists·proofs.proofs.runs.put_swapped.Statement.{statement}
-use Rattle·lists·proofs.proofs.runs.put_swapped.Tie as tie
+use Rattle.lists.specs.Places.{gathered}
+use Rattle.lists.proofs.Placed.{gathered_none}
+use Rattle.lists.proofs.Swapped.{swap-word}
+use Rattle.lists.proofs.runs.put_swapped.Statement.{statement}
+use Rattle.lists.proofs.runs.put_swapped.Tie as tie
 
-abbrev Inv-loop : tie.InvT-loop
-Inv-loop b₀ at r i₀ b i = (i ≤ 64) × (i % 2 ≡ 0) × (sets b (at + i) (gathered true r i (64 - i)) ≡ sets b₀ at (gathered true r 0 64)) × (length b ≡ length b₀)
+abbrev invariant-loop : tie.invariant-loop
+invariant-loop b₀ at r i₀ b i = (i ≤ 64) × (i % 2 ≡ 0) × (sets b (at + i) (gathered true r i (64 - i)) ≡ sets b₀ at (gathered true r 0 64)) × (length b ≡ length b₀)
 
-abbrev μ-loop : tie.MeasureT-loop
-μ-loop b₀ at r i₀ b i = 64 - i
+abbrev decreases-loop : tie.decreases-loop
+decreases-loop b₀ at r i₀ b i = 64 - i
 
-loop-holds : tie.Need-loop-holds Inv-loop μ-loop
-loop-holds c = (omega arith, refl, rw (add-zero (c .args .at)), refl)
+loop-holds : tie.Need-loop-init invariant-loop decreases-loop
+loop-holds c = (omega arith, refl, rw (add-zero c.args.at), refl)
 
-add-b : tie.Need-add-b Inv-loop μ-loop
-add-b c = search needs
+add-b : tie.Need-overflow-add-b invariant-loop decreases-loop
+add-b c = search rules
 
-array-read-b : tie.Need-array-read-b Inv-loop μ-loop
-array-read-b c = search needs
+array-read-b : tie.Need-array-read-b invariant-loop decreases-loop
+array-read-b c = search rules
 
-add-b-2 : tie.Need-add-b-2 Inv-loop μ-loop
-add-b-2 c = search needs
+add-b-2 : tie.Need-overflow-add-b-2 invariant-loop decreases-loop
+add-b-2 c = search rules
 
-slice-write-b : tie.Need-slice-write-b Inv-loop μ-loop
-slice-write-b c = search needs
+slice-write-b : tie.Need-slice-write-b invariant-loop decreases-loop
+slice-write-b c = search rules
 
-array-read-b-2 : tie.Need-array-read-b-2 Inv-loop μ-loop
-array-read-b-2 c = search needs
+array-read-b-2 : tie.Need-array-read-b-2 invariant-loop decreases-loop
+array-read-b-2 c = search rules
 
-add-b-3 : tie.Need-add-b-3 Inv-loop μ-loop
-add-b-3 c = search needs
+add-b-3 : tie.Need-overflow-add-b-3 invariant-loop decreases-loop
+add-b-3 c = search rules
 
-add-b-4 : tie.Need-add-b-4 Inv-loop μ-loop
-add-b-4 c = search needs
+add-b-4 : tie.Need-overflow-add-b-4 invariant-loop decreases-loop
+add-b-4 c = search rules
 
-slice-write-b-2 : tie.Need-slice-write-b-2 Inv-loop μ-loop
+slice-write-b-2 : tie.Need-slice-write-b-2 invariant-loop decreases-loop
 slice-write-b-2 c = simp length-set (omega arith)
 
-add-i : tie.Need-add-i Inv-loop μ-loop
-add-i c = search needs
+add-i : tie.Need-overflow-add-i invariant-loop decreases-loop
+add-i c = search rules
 
-loop-less : tie.Need-loop-less Inv-loop μ-loop
-loop-less c = search needs
+loop-less : tie.Need-loop-smaller invariant-loop decreases-loop
+loop-less c = search rules
 
-loop-again : tie.Need-loop-again Inv-loop μ-loop
+loop-again : tie.Need-loop-preserved invariant-loop decreases-loop
 loop-again c =
-    let l = c .before in
-    let a = l .before .args in
-    let k : 64 - l .loop .i ≡ suc (suc (64 - (l .loop .i + 2))) = omega arith in
-    (omega arith, omega arith, swap-word (l .loop .b) (a .t3) (a .at) (l .loop .i) (64 - (l .loop .i + 2)) (l .loop .inv .1) ∙ rw (← k) (l .loop .inv .2), search needs)
+    let l = c.before in
+    let a = l.before.args in
+    let k : 64 - l.loop.i ≡ suc (suc (64 - (l.loop.i + 2))) = omega arith in
+    (omega arith, omega arith, swap-word l.loop.b a.t3 a.at l.loop.i (64 - (l.loop.i + 2)) l.loop.invariant.1 ∙ rw (← k) l.loop.invariant.2, search rules)
 
-same-length : tie.Need-same-length Inv-loop μ-loop
-same-length c = search needs
+same_length : tie.Need-same-length invariant-loop decreases-loop
+same_length c = search rules
 
-returns : tie.Need-returns Inv-loop μ-loop
+returns : tie.Need-returns invariant-loop decreases-loop
 returns c =
-    let l = c .before in
-    let a = l .before .args in
-    sym (gathered-none true (l .loop .b) (a .t3) (a .at + l .loop .i) (l .loop .i) (64 - l .loop .i) (omega arith)) ∙ l .loop .inv .2
+    let l = c.before in
+    let a = l.before.args in
+    sym (gathered_none true l.loop.b a.t3 (a.at + l.loop.i) l.loop.i (64 - l.loop.i) (omega arith)) ∙ l.loop.invariant.2
 
 pub put-swapped-spec : {M : Type 1} → statement M
 put-swapped-spec =
     tie.close
     (tie.spec
-    Inv-loop
-    μ-loop
+    invariant-loop
+    decreases-loop
     loop-holds
     add-b
     array-read-b
@@ -86,5 +86,5 @@ put-swapped-spec =
     add-i
     loop-less
     loop-again
-    same-length
+    same_length
     returns)

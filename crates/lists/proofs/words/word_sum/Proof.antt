@@ -1,56 +1,56 @@
 -- `word_sum` meets its contract. So far the sum is that of the first j words, and low enough not to wrap.
-use borrow.Author.Needs.{needs}
+use borrow.Author.Rules.{rules}
 use native.Mathlib.Omega.{arith}
-use mathlib.Core.Path.{_≡_}
-use Prim.Native.Nat.{_≤_, _-_, _*_}
+use mathlib.Core.Path.{◌≡◌}
+use Prim.Native.Nat.{◌≤◌, ◌-◌, ◌*◌}
 use lib.ListN.{take}
-use Rattle·lists·specs.specs.Words.{wordLimit, wordSum}
-use Rattle·lists·proofs.proofs.Sums.{sum-more}
-use Rattle·lists·proofs.proofs.words.word_sum.Statement.{statement}
-use Rattle·lists·proofs.proofs.words.word_sum.Tie as tie
+use Rattle.lists.specs.Words.{wordLimit, wordSum}
+use Rattle.lists.proofs.Sums.{sum_more}
+use Rattle.lists.proofs.words.word_sum.Statement.{statement}
+use Rattle.lists.proofs.words.word_sum.Tie as tie
 
-abbrev Inv-loop : tie.InvT-loop
-Inv-loop b n sum₀ j₀ sum j = (j ≤ n) × (sum ≡ wordSum (take (2 * j) b)) × (sum ≤ (wordLimit - 1) * j)
+abbrev invariant-loop : tie.invariant-loop
+invariant-loop b n sum₀ j₀ sum j = (j ≤ n) × (sum ≡ wordSum (take (2 * j) b)) × (sum ≤ (wordLimit - 1) * j)
 
-abbrev μ-loop : tie.MeasureT-loop
-μ-loop b n sum₀ j₀ sum j = n - j
+abbrev decreases-loop : tie.decreases-loop
+decreases-loop b n sum₀ j₀ sum j = n - j
 
-loop-holds : tie.Need-loop-holds Inv-loop μ-loop
+loop-holds : tie.Need-loop-init invariant-loop decreases-loop
 unfolding wordSum
-loop-holds c = search needs
+loop-holds c = search rules
 
-mul-word : tie.Need-mul-word Inv-loop μ-loop
-mul-word c = search needs
+mul-word : tie.Need-overflow-mul-word invariant-loop decreases-loop
+mul-word c = search rules
 
-word-requires : tie.Need-word-requires Inv-loop μ-loop
-word-requires c κs = search needs
+word-requires : tie.Need-word-requires invariant-loop decreases-loop
+word-requires c κs = search rules
 
-add-sum : tie.Need-add-sum Inv-loop μ-loop
-add-sum c = search needs
+add-sum : tie.Need-overflow-add-sum invariant-loop decreases-loop
+add-sum c = search rules
 
-add-j : tie.Need-add-j Inv-loop μ-loop
-add-j c = search needs
+add-j : tie.Need-overflow-add-j invariant-loop decreases-loop
+add-j c = search rules
 
-loop-less : tie.Need-loop-less Inv-loop μ-loop
-loop-less c = search needs
+loop-less : tie.Need-loop-smaller invariant-loop decreases-loop
+loop-less c = search rules
 
-loop-again : tie.Need-loop-again Inv-loop μ-loop
+loop-again : tie.Need-loop-preserved invariant-loop decreases-loop
 loop-again c =
-    let b = c .before .before .before .before .args .b .now in
-    let j = c .before .before .loop .j in
-    (search needs, omega (arith, sum-more j b (omega arith)), omega arith)
+    let b = c.before.before.before.before.args.b.now in
+    let j = c.before.before.loop.j in
+    (search rules, omega (arith, sum_more j b (omega arith)), omega arith)
 
-returns : tie.Need-returns Inv-loop μ-loop
+returns : tie.Need-returns invariant-loop decreases-loop
 returns c =
-    let e : c .before .loop .j ≡ c .before .before .before .args .n = omega arith in
+    let e : c.before.loop.j ≡ c.before.before.before.args.n = omega arith in
     (cc, omega arith)
 
 pub word-sum-spec : {M : Type 1} → statement M
 word-sum-spec =
     tie.close
     (tie.spec
-    Inv-loop
-    μ-loop
+    invariant-loop
+    decreases-loop
     loop-holds
     mul-word
     word-requires

@@ -1,18 +1,18 @@
 -- `moved_bytes` meets its contract.
-use borrow.Author.Needs.{needs}
-use Rattle·motions·specs.specs.Parts.{movedLength}
-use Rattle·motions·proofs.proofs.parts.moved_bytes.Statement.{statement}
-use Rattle·motions·proofs.proofs.parts.moved_bytes.Tie as tie
+use borrow.Author.Rules.{rules}
+use Rattle.motions.specs.Parts.{movedLength}
+use Rattle.motions.proofs.parts.moved_bytes.Statement.{statement}
+use Rattle.motions.proofs.parts.moved_bytes.Tie as tie
 
-cast-least : tie.Need-cast-least
-cast-least c = search needs
+cast-least : tie.Need-overflow-cast-least
+cast-least c = search rules
 
 least-requires : tie.Need-least-requires
-least-requires c κs = search needs
+least-requires c κs = search rules
 
 returns : tie.Need-returns
 unfolding movedLength
-returns c = c .least .ensures
+returns c = c.least.ensures
 
 pub moved-bytes-spec : {M : Type 1} → statement M
 moved-bytes-spec = tie.close (tie.spec cast-least least-requires returns)

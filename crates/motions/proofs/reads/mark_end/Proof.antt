@@ -1,18 +1,18 @@
 -- `mark_end` meets its contract.
-use borrow.Author.Needs.{needs}
-use Rattle·motions·specs.specs.Reads.{markEnd}
-use Rattle·motions·proofs.proofs.reads.mark_end.Statement.{statement}
-use Rattle·motions·proofs.proofs.reads.mark_end.Tie as tie
+use borrow.Author.Rules.{rules}
+use Rattle.motions.specs.Reads.{markEnd}
+use Rattle.motions.proofs.reads.mark_end.Statement.{statement}
+use Rattle.motions.proofs.reads.mark_end.Tie as tie
 
 flag-requires : tie.Need-flag-requires
-flag-requires c κs = search needs
+flag-requires c κs = search rules
 
-add-t5 : tie.Need-add-t5
-add-t5 c = search needs
+add-t5 : tie.Need-overflow-add-t5
+add-t5 c = search rules
 
 returns : tie.Need-returns
 unfolding markEnd
-returns c = rw (c .flag .ensures .0)
+returns c = rw c.flag.ensures.0
 
 pub mark-end-spec : {M : Type 1} → statement M
 mark-end-spec = tie.close (tie.spec flag-requires add-t5 returns)

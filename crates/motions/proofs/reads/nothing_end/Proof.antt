@@ -1,19 +1,19 @@
 -- `nothing_end` meets its contract.
-use borrow.Author.Needs.{needs}
-use Rattle·motions·specs.specs.Reads.{nothingEnd}
-use Rattle·motions·proofs.proofs.reads.nothing_end.Statement.{statement}
-use Rattle·motions·proofs.proofs.reads.nothing_end.Tie as tie
+use borrow.Author.Rules.{rules}
+use Rattle.motions.specs.Reads.{nothingEnd}
+use Rattle.motions.proofs.reads.nothing_end.Statement.{statement}
+use Rattle.motions.proofs.reads.nothing_end.Tie as tie
 
-add-t5 : tie.Need-add-t5
-add-t5 c = search needs
+add-t5 : tie.Need-overflow-add-t5
+add-t5 c = search rules
 
 returns : tie.Need-returns
 unfolding nothingEnd
-returns c = rw (c .if1 .taken)
+returns c = rw c.if1.true
 
 returns-2 : tie.Need-returns-2
 unfolding nothingEnd
-returns-2 c = rw (c .if1 .left)
+returns-2 c = rw c.if1.false
 
 pub nothing-end-spec : {M : Type 1} → statement M
 nothing-end-spec = tie.close (tie.spec add-t5 returns returns-2)

@@ -1,35 +1,35 @@
 -- `read_then_space` meets its contract: a record goes on, and anything else is the end.
-use borrow.Author.Needs.{needs}
-use Rattle·motions·specs.specs.Reads.{onRecord, readThenSpaceUnder}
-use Rattle·motions·proofs.proofs.reads.read_then_space.Statement.{statement}
-use Rattle·motions·proofs.proofs.reads.read_then_space.Tie as tie
+use borrow.Author.Rules.{rules}
+use Rattle.motions.specs.Reads.{onRecord, readThenSpaceUnder}
+use Rattle.motions.proofs.reads.read_then_space.Statement.{statement}
+use Rattle.motions.proofs.reads.read_then_space.Tie as tie
 
 run-stage-requires : tie.Need-run-stage-requires
-run-stage-requires c κs = search needs
+run-stage-requires c κs = search rules
 
 enum-known-n : tie.Need-enum-known-n
-enum-known-n c = search needs
+enum-known-n c = search rules
 
 space-back-requires : tie.Need-space-back-requires
-space-back-requires c κs = search needs
+space-back-requires c κs = search rules
 
 enum-known-x : tie.Need-enum-known-x
-enum-known-x c = search needs
+enum-known-x c = search rules
 
 enum-known-fault : tie.Need-enum-known-fault
-enum-known-fault c = search needs
+enum-known-fault c = search rules
 
 returns : tie.Need-returns
 unfolding readThenSpaceUnder onRecord
-returns c = rw (← c .before .before .before .before .run-stage .ensures, c .before .before .n .given .1) (c .space-back .ensures)
+returns c = rw (← c.before.before.before.before.run-stage.ensures, c.before.before.n.given.1) c.space-back.ensures
 
 returns-2 : tie.Need-returns-2
 unfolding readThenSpaceUnder onRecord
-returns-2 c = rw (← c .before .before .before .run-stage .ensures, c .before .x .given .1)
+returns-2 c = rw (← c.before.before.before.run-stage.ensures, c.before.x.given.1)
 
 returns-3 : tie.Need-returns-3
 unfolding readThenSpaceUnder onRecord
-returns-3 c = rw (← c .before .before .before .run-stage .ensures, c .before .fault .given .1)
+returns-3 c = rw (← c.before.before.before.run-stage.ensures, c.before.fault.given.1)
 
 pub read-then-space-spec : {M : Type 1} → statement M
 read-then-space-spec =

@@ -1,22 +1,22 @@
 -- `reread_one` meets its contract.
-use borrow.Author.Needs.{needs}
-use Rattle·motions·specs.specs.Reads.{rereadUnder}
-use Rattle·motions·proofs.proofs.reads.reread_one.Statement.{statement}
-use Rattle·motions·proofs.proofs.reads.reread_one.Tie as tie
+use borrow.Author.Rules.{rules}
+use Rattle.motions.specs.Reads.{rereadUnder}
+use Rattle.motions.proofs.reads.reread_one.Statement.{statement}
+use Rattle.motions.proofs.reads.reread_one.Tie as tie
 
 read-then-space-requires : tie.Need-read-then-space-requires
-read-then-space-requires c κs = search needs
+read-then-space-requires c κs = search rules
 
 returns : tie.Need-returns
 unfolding rereadUnder
-returns c = rw (c .before .if1 .taken) (c .read-then-space .ensures)
+returns c = rw c.before.if1.true c.read-then-space.ensures
 
 space-then-read-requires : tie.Need-space-then-read-requires
-space-then-read-requires c κs = search needs
+space-then-read-requires c κs = search rules
 
 returns-2 : tie.Need-returns-2
 unfolding rereadUnder
-returns-2 c = rw (c .before .if1 .left) (c .space-then-read .ensures)
+returns-2 c = rw c.before.if1.false c.space-then-read.ensures
 
 pub reread-one-spec : {M : Type 1} → statement M
 reread-one-spec =

@@ -1,35 +1,35 @@
 -- `space_back` meets its contract: a record goes on, and anything else is the end.
-use borrow.Author.Needs.{needs}
-use Rattle·motions·specs.specs.Reads.{onRecord, spaceBackUnder}
-use Rattle·motions·proofs.proofs.reads.space_back.Statement.{statement}
-use Rattle·motions·proofs.proofs.reads.space_back.Tie as tie
+use borrow.Author.Rules.{rules}
+use Rattle.motions.specs.Reads.{onRecord, spaceBackUnder}
+use Rattle.motions.proofs.reads.space_back.Statement.{statement}
+use Rattle.motions.proofs.reads.space_back.Tie as tie
 
 run-stage-requires : tie.Need-run-stage-requires
-run-stage-requires c κs = search needs
+run-stage-requires c κs = search rules
 
 enum-known-b : tie.Need-enum-known-b
-enum-known-b c = search needs
+enum-known-b c = search rules
 
 read-motion-requires : tie.Need-read-motion-requires
-read-motion-requires c κs = search needs
+read-motion-requires c κs = search rules
 
 enum-known-x : tie.Need-enum-known-x
-enum-known-x c = search needs
+enum-known-x c = search rules
 
 enum-known-fault : tie.Need-enum-known-fault
-enum-known-fault c = search needs
+enum-known-fault c = search rules
 
 returns : tie.Need-returns
 unfolding spaceBackUnder onRecord
-returns c = rw (← c .before .before .before .before .run-stage .ensures, c .before .before .b .given .1) (c .read-motion .ensures)
+returns c = rw (← c.before.before.before.before.run-stage.ensures, c.before.before.b.given.1) c.read-motion.ensures
 
 returns-2 : tie.Need-returns-2
 unfolding spaceBackUnder onRecord
-returns-2 c = rw (← c .before .before .before .run-stage .ensures, c .before .x .given .1)
+returns-2 c = rw (← c.before.before.before.run-stage.ensures, c.before.x.given.1)
 
 returns-3 : tie.Need-returns-3
 unfolding spaceBackUnder onRecord
-returns-3 c = rw (← c .before .before .before .run-stage .ensures, c .before .fault .given .1)
+returns-3 c = rw (← c.before.before.before.run-stage.ensures, c.before.fault.given.1)
 
 pub space-back-spec : {M : Type 1} → statement M
 space-back-spec =

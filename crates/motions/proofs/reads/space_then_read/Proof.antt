@@ -1,35 +1,35 @@
 -- `space_then_read` meets its contract: a record goes on, and anything else is the end.
-use borrow.Author.Needs.{needs}
-use Rattle·motions·specs.specs.Reads.{onRecord, spaceThenReadUnder}
-use Rattle·motions·proofs.proofs.reads.space_then_read.Statement.{statement}
-use Rattle·motions·proofs.proofs.reads.space_then_read.Tie as tie
+use borrow.Author.Rules.{rules}
+use Rattle.motions.specs.Reads.{onRecord, spaceThenReadUnder}
+use Rattle.motions.proofs.reads.space_then_read.Statement.{statement}
+use Rattle.motions.proofs.reads.space_then_read.Tie as tie
 
 run-stage-requires : tie.Need-run-stage-requires
-run-stage-requires c κs = search needs
+run-stage-requires c κs = search rules
 
 enum-known-q : tie.Need-enum-known-q
-enum-known-q c = search needs
+enum-known-q c = search rules
 
 read-one-requires : tie.Need-read-one-requires
-read-one-requires c κs = search needs
+read-one-requires c κs = search rules
 
 enum-known-x : tie.Need-enum-known-x
-enum-known-x c = search needs
+enum-known-x c = search rules
 
 enum-known-fault : tie.Need-enum-known-fault
-enum-known-fault c = search needs
+enum-known-fault c = search rules
 
 returns : tie.Need-returns
 unfolding spaceThenReadUnder onRecord
-returns c = rw (← c .before .before .before .before .run-stage .ensures, c .before .before .q .given .1) (c .read-one .ensures)
+returns c = rw (← c.before.before.before.before.run-stage.ensures, c.before.before.q.given.1) c.read_one.ensures
 
 returns-2 : tie.Need-returns-2
 unfolding spaceThenReadUnder onRecord
-returns-2 c = rw (← c .before .before .before .run-stage .ensures, c .before .x .given .1)
+returns-2 c = rw (← c.before.before.before.run-stage.ensures, c.before.x.given.1)
 
 returns-3 : tie.Need-returns-3
 unfolding spaceThenReadUnder onRecord
-returns-3 c = rw (← c .before .before .before .run-stage .ensures, c .before .fault .given .1)
+returns-3 c = rw (← c.before.before.before.run-stage.ensures, c.before.fault.given.1)
 
 pub space-then-read-spec : {M : Type 1} → statement M
 space-then-read-spec =

@@ -1,8 +1,8 @@
 -- `behind_gap` meets its contract.
 use mathlib.Core.Path.{refl}
-use Rattle·motions·specs.specs.Writes.{behindGap}
-use Rattle·motions·proofs.proofs.writes.behind_gap.Statement.{statement}
-use Rattle·motions·proofs.proofs.writes.behind_gap.Tie as tie
+use Rattle.motions.specs.Writes.{behindGap}
+use Rattle.motions.proofs.writes.behind_gap.Statement.{statement}
+use Rattle.motions.proofs.writes.behind_gap.Tie as tie
 
 returns : tie.Need-returns
 unfolding behindGap

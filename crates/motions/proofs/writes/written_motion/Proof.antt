@@ -1,40 +1,40 @@
 -- `written_motion` meets its contract. The class is told by which arm of the test came.
-use borrow.Author.Needs.{needs}
-use mathlib.Core.Logic.{⊎-elim}
-use mathlib.Core.Path.{_≡_, _∙_}
-use Prim.Native.Nat.{_+_}
+use borrow.Author.Rules.{rules}
+use mathlib.Core.Logic.{⊎_elim}
+use mathlib.Core.Path.{◌≡◌, ◌∙◌}
+use Prim.Native.Nat.{◌+◌}
 use borrow.Author.Tests.{le-leb, lt-leb}
 use native.Mathlib.Omega.{arith}
 use lib.Dec.{leb}
-use Rattle·lists.specs.Pick.{pick}
-use Rattle·tape.specs.Numbers.{eotMarker}
-use Rattle·motions·specs.specs.Parts.{laidBlocks}
-use Rattle·motions·specs.specs.Writes.{writtenMotionUnder}
-use Rattle·motions·proofs.proofs.writes.written_motion.Statement.{statement}
-use Rattle·motions·proofs.proofs.writes.written_motion.Tie as tie
+use Rattle.lists.specs.Pick.{pick}
+use Rattle.tape.specs.Numbers.{eotMarker}
+use Rattle.motions.specs.Parts.{laidBlocks}
+use Rattle.motions.specs.Writes.{writtenMotionUnder}
+use Rattle.motions.proofs.writes.written_motion.Statement.{statement}
+use Rattle.motions.proofs.writes.written_motion.Tie as tie
 
 laid-blocks-requires : tie.Need-laid-blocks-requires
-laid-blocks-requires c κs = search needs
+laid-blocks-requires c κs = search rules
 
-add-after : tie.Need-add-after
-add-after c = search needs
+add-after : tie.Need-overflow-add-after
+add-after c = search rules
 
 marker-requires : tie.Need-marker-requires
-marker-requires c κs = search needs
+marker-requires c κs = search rules
 
 flag-requires : tie.Need-flag-requires
-flag-requires c κs = search needs
+flag-requires c κs = search rules
 
 no-move-requires : tie.Need-no-move-requires
-no-move-requires c κs = search needs
+no-move-requires c κs = search rules
 
 returns : tie.Need-returns
 unfolding writtenMotionUnder
 returns c =
-    let a = c .before .before .before .before .before .before .args in
-    let i = c .before .before .if1 in
-    let k : i .class ≡ pick (leb (eotMarker (a .blocks)) (a .l .at + laidBlocks (a .l))) 2 0 = ⊎-elim (λ w. w .1 ∙ rw (le-leb (eotMarker (a .blocks)) (a .l .at + laidBlocks (a .l)) (omega arith))) (λ w. w .1 ∙ rw (lt-leb (eotMarker (a .blocks)) (a .l .at + laidBlocks (a .l)) (omega arith))) (i .came) in
-    rw (k, c .before .flag .ensures .0, c .before .before .before .before .before .laid-blocks .ensures .0, c .no-move .ensures)
+    let a = c.before.before.before.before.before.before.args in
+    let i = c.before.before.if1 in
+    let k : i.class ≡ pick (leb (eotMarker a.blocks) (a.l.at + laidBlocks a.l)) 2 0 = ⊎_elim (λ w. w.1 ∙ rw (le-leb (eotMarker a.blocks) (a.l.at + laidBlocks a.l) (omega arith))) (λ w. w.1 ∙ rw (lt-leb (eotMarker a.blocks) (a.l.at + laidBlocks a.l) (omega arith))) i.branch in
+    rw (k, c.before.flag.ensures.0, c.before.before.before.before.before.laid-blocks.ensures.0, c.no_move.ensures)
 
 pub written-motion-spec : {M : Type 1} → statement M
 written-motion-spec =

@@ -1,15 +1,15 @@
 -- `record_turn` meets its contract.
-use borrow.Author.Needs.{needs}
-use Rattle·moves·specs.specs.Spacing.{recordTurn}
-use Rattle·moves·proofs.proofs.spacing.record_turn.Statement.{statement}
-use Rattle·moves·proofs.proofs.spacing.record_turn.Tie as tie
+use borrow.Author.Rules.{rules}
+use Rattle.moves.specs.Spacing.{recordTurn}
+use Rattle.moves.proofs.spacing.record_turn.Statement.{statement}
+use Rattle.moves.proofs.spacing.record_turn.Tie as tie
 
 after-record-requires : tie.Need-after-record-requires
-after-record-requires c κs = search needs
+after-record-requires c κs = search rules
 
 returns : tie.Need-returns
 unfolding recordTurn
-returns c = rw (c .after-record .ensures)
+returns c = rw c.after-record.ensures
 
 pub record-turn-spec : {M : Type 1} → statement M
 record-turn-spec = tie.close (tie.spec after-record-requires returns)

@@ -1,65 +1,65 @@
 -- `space` meets its contract. The turns that are left say of the span now what all of them say of the first one.
-use borrow.Author.Needs.{needs}
-use mathlib.Core.Path.{_≡_, refl, _∙_}
-use Rattle·moves·proofs.proofs.Spaces.{some-left, space-counted, space-done, space-turn}
-use Rattle·moves·specs.specs.Spacing.{spaced, spacedUnder, spacedFrom, spacedOn}
-use Rattle·moves·proofs.proofs.spacing.space.Statement.{statement}
-use Rattle·moves·proofs.proofs.spacing.space.Tie as tie
+use borrow.Author.Rules.{rules}
+use mathlib.Core.Path.{◌≡◌, refl, ◌∙◌}
+use Rattle.moves.proofs.Spaces.{some_left, space-counted, space-done, space-turn}
+use Rattle.moves.specs.Spacing.{spaced, spacedUnder, spacedFrom, spacedOn}
+use Rattle.moves.proofs.spacing.space.Statement.{statement}
+use Rattle.moves.proofs.spacing.space.Tie as tie
 
-abbrev Inv-loop : tie.InvT-loop
-Inv-loop reel r e s₀ turns₀ s turns = spacedFrom turns reel r e s ≡ spaced reel r e s₀
+abbrev invariant-loop : tie.invariant-loop
+invariant-loop reel r e s₀ turns₀ s turns = spacedFrom turns reel r e s ≡ spaced reel r e s₀
 
-abbrev μ-loop : tie.MeasureT-loop
-μ-loop reel r e s₀ turns₀ s turns = turns
+abbrev decreases-loop : tie.decreases-loop
+decreases-loop reel r e s₀ turns₀ s turns = turns
 
-add-turns : tie.Need-add-turns Inv-loop μ-loop
-add-turns c = search needs
+add-turns : tie.Need-overflow-add-turns invariant-loop decreases-loop
+add-turns c = search rules
 
-loop-holds : tie.Need-loop-holds Inv-loop μ-loop
+loop-holds : tie.Need-loop-init invariant-loop decreases-loop
 unfolding spacedUnder
 loop-holds c = refl
 
-sub-turns : tie.Need-sub-turns Inv-loop μ-loop
-sub-turns c = search needs
+sub-turns : tie.Need-overflow-sub-turns invariant-loop decreases-loop
+sub-turns c = search rules
 
-none-left-requires : tie.Need-none-left-requires Inv-loop μ-loop
-none-left-requires c κs = search needs
+none-left-requires : tie.Need-none-left-requires invariant-loop decreases-loop
+none-left-requires c κs = search rules
 
-returns : tie.Need-returns Inv-loop μ-loop
-returns c = space-counted _ _ _ _ _ (c .before .none-left .ensures) (c .if1 .taken) ∙ c .before .before .before .loop .inv
+returns : tie.Need-returns invariant-loop decreases-loop
+returns c = space-counted _ _ _ _ _ c.before.none_left.ensures c.if1.true ∙ c.before.before.before.loop.invariant
 
-seek-requires : tie.Need-seek-requires Inv-loop μ-loop
-seek-requires c κs = search needs
+seek-requires : tie.Need-seek-requires invariant-loop decreases-loop
+seek-requires c κs = search rules
 
-turn-over-requires : tie.Need-turn-over-requires Inv-loop μ-loop
-turn-over-requires c κs = some-left (c .before .before .before .before .loop .s .left) (c .before .before .none-left .ensures) (c .before .if1 .left)
+turn-over-requires : tie.Need-turn-over-requires invariant-loop decreases-loop
+turn-over-requires c κs = some_left c.before.before.before.before.loop.s.left c.before.before.none_left.ensures c.before.if1.false
 
-enum-known-next : tie.Need-enum-known-next Inv-loop μ-loop
-enum-known-next c = search needs
+enum-known-next : tie.Need-enum-known-next invariant-loop decreases-loop
+enum-known-next c = search rules
 
-loop-less : tie.Need-loop-less Inv-loop μ-loop
-loop-less c = search needs
+loop-less : tie.Need-loop-smaller invariant-loop decreases-loop
+loop-less c = search rules
 
-loop-again : tie.Need-loop-again Inv-loop μ-loop
+loop-again : tie.Need-loop-preserved invariant-loop decreases-loop
 unfolding spacedOn
-loop-again c = space-turn _ _ _ _ _ (c .before .before .before .before .before .before .before .loop-test .taken) (c .before .before .before .before .before .before .none-left .ensures) (c .before .before .before .before .before .if1 .left) (c .before .before .before .before .seek .ensures) (c .before .before .before .turn-over .ensures) (rw (c .before .next .given .1)) ∙ c .before .before .before .before .before .before .before .before .loop .inv
+loop-again c = space-turn _ _ _ _ _ c.before.before.before.before.before.before.before.loop-test.true c.before.before.before.before.before.before.none_left.ensures c.before.before.before.before.before.if1.false c.before.before.before.before.seek.ensures c.before.before.before.turn-over.ensures (rw c.before.next.given.1) ∙ c.before.before.before.before.before.before.before.before.loop.invariant
 
-enum-known-last : tie.Need-enum-known-last Inv-loop μ-loop
-enum-known-last c = search needs
+enum-known-last : tie.Need-enum-known-last invariant-loop decreases-loop
+enum-known-last c = search rules
 
-returns-2 : tie.Need-returns-2 Inv-loop μ-loop
+returns-2 : tie.Need-returns-2 invariant-loop decreases-loop
 unfolding spacedOn
-returns-2 c = space-turn _ _ _ _ _ (c .before .before .before .before .before .before .before .loop-test .taken) (c .before .before .before .before .before .before .none-left .ensures) (c .before .before .before .before .before .if1 .left) (c .before .before .before .before .seek .ensures) (c .before .before .before .turn-over .ensures) (rw (c .before .last .given .1)) ∙ c .before .before .before .before .before .before .before .before .loop .inv
+returns-2 c = space-turn _ _ _ _ _ c.before.before.before.before.before.before.before.loop-test.true c.before.before.before.before.before.before.none_left.ensures c.before.before.before.before.before.if1.false c.before.before.before.before.seek.ensures c.before.before.before.turn-over.ensures (rw c.before.last.given.1) ∙ c.before.before.before.before.before.before.before.before.loop.invariant
 
-returns-3 : tie.Need-returns-3 Inv-loop μ-loop
-returns-3 c = space-done _ _ _ _ _ (c .loop-test .left) ∙ c .before .loop .inv
+returns-3 : tie.Need-returns-3 invariant-loop decreases-loop
+returns-3 c = space-done _ _ _ _ _ c.loop-test.false ∙ c.before.loop.invariant
 
 pub space-spec : {M : Type 1} → statement M
 space-spec =
     tie.close
     (tie.spec
-    Inv-loop
-    μ-loop
+    invariant-loop
+    decreases-loop
     add-turns
     loop-holds
     sub-turns

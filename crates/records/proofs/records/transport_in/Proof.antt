@@ -1,90 +1,90 @@
 -- `transport_in` is its definition.
 use mathlib.Core.Path.{refl}
-use Rattle·records·specs.specs.Records.{transportIn}
-use borrow.Author.Needs.{needs}
-use Rattle·records·proofs.proofs.records.transport_in.Statement.{statement}
-use Rattle·records·proofs.proofs.records.transport_in.Tie as tie
+use Rattle.records.specs.Records.{transportIn}
+use borrow.Author.Rules.{rules}
+use Rattle.records.proofs.records.transport_in.Statement.{statement}
+use Rattle.records.proofs.records.transport_in.Tie as tie
 
 array-read-t10 : tie.Need-array-read-t10
-array-read-t10 c = search needs
+array-read-t10 c = search rules
 
-cast-t11 : tie.Need-cast-t11
-cast-t11 c = search needs
+cast-t11 : tie.Need-overflow-cast-t11
+cast-t11 c = search rules
 
 array-read-t14 : tie.Need-array-read-t14
-array-read-t14 c = search needs
+array-read-t14 c = search rules
 
-cast-t15 : tie.Need-cast-t15
-cast-t15 c = search needs
+cast-t15 : tie.Need-overflow-cast-t15
+cast-t15 c = search rules
 
 array-read-t10-2 : tie.Need-array-read-t10-2
-array-read-t10-2 c = search needs
+array-read-t10-2 c = search rules
 
-cast-t15-2 : tie.Need-cast-t15-2
-cast-t15-2 c = search needs
+cast-t15-2 : tie.Need-overflow-cast-t15-2
+cast-t15-2 c = search rules
 
 array-read-t14-2 : tie.Need-array-read-t14-2
-array-read-t14-2 c = search needs
+array-read-t14-2 c = search rules
 
-cast-t11-2 : tie.Need-cast-t11-2
-cast-t11-2 c = search needs
+cast-t11-2 : tie.Need-overflow-cast-t11-2
+cast-t11-2 c = search rules
 
 array-read-t22 : tie.Need-array-read-t22
-array-read-t22 c = search needs
+array-read-t22 c = search rules
 
 array-read-t26 : tie.Need-array-read-t26
-array-read-t26 c = search needs
+array-read-t26 c = search rules
 
 array-read-t30 : tie.Need-array-read-t30
-array-read-t30 c = search needs
+array-read-t30 c = search rules
 
 array-read-t34 : tie.Need-array-read-t34
-array-read-t34 c = search needs
+array-read-t34 c = search rules
 
 array-read-t10-3 : tie.Need-array-read-t10-3
-array-read-t10-3 c = search needs
+array-read-t10-3 c = search rules
 
 array-read-t34-2 : tie.Need-array-read-t34-2
-array-read-t34-2 c = search needs
+array-read-t34-2 c = search rules
 
 array-read-t30-2 : tie.Need-array-read-t30-2
-array-read-t30-2 c = search needs
+array-read-t30-2 c = search rules
 
 array-read-t26-2 : tie.Need-array-read-t26-2
-array-read-t26-2 c = search needs
+array-read-t26-2 c = search rules
 
 array-read-t30-3 : tie.Need-array-read-t30-3
-array-read-t30-3 c = search needs
+array-read-t30-3 c = search rules
 
 array-read-t34-3 : tie.Need-array-read-t34-3
-array-read-t34-3 c = search needs
+array-read-t34-3 c = search rules
 
 array-read-t10-4 : tie.Need-array-read-t10-4
-array-read-t10-4 c = search needs
+array-read-t10-4 c = search rules
 
 array-read-t14-3 : tie.Need-array-read-t14-3
-array-read-t14-3 c = search needs
+array-read-t14-3 c = search rules
 
 array-read-t34-4 : tie.Need-array-read-t34-4
-array-read-t34-4 c = search needs
+array-read-t34-4 c = search rules
 
 array-read-t30-4 : tie.Need-array-read-t30-4
-array-read-t30-4 c = search needs
+array-read-t30-4 c = search rules
 
 array-read-t26-3 : tie.Need-array-read-t26-3
-array-read-t26-3 c = search needs
+array-read-t26-3 c = search rules
 
 array-read-t22-2 : tie.Need-array-read-t22-2
-array-read-t22-2 c = search needs
+array-read-t22-2 c = search rules
 
-cast-t15-3 : tie.Need-cast-t15-3
-cast-t15-3 c = search needs
+cast-t15-3 : tie.Need-overflow-cast-t15-3
+cast-t15-3 c = search rules
 
 array-read-t26-4 : tie.Need-array-read-t26-4
-array-read-t26-4 c = search needs
+array-read-t26-4 c = search rules
 
-cast-t11-3 : tie.Need-cast-t11-3
-cast-t11-3 c = search needs
+cast-t11-3 : tie.Need-overflow-cast-t11-3
+cast-t11-3 c = search rules
 
 returns : tie.Need-returns
 unfolding transportIn

@@ -1,27 +1,27 @@
 -- `coupler_by` is its definition.
 use mathlib.Core.Path.{refl}
-use Rattle·records·specs.specs.Shares.{couplerIn}
-use borrow.Author.Needs.{needs}
-use Rattle·records·proofs.proofs.shares.coupler_by.Statement.{statement}
-use Rattle·records·proofs.proofs.shares.coupler_by.Tie as tie
+use Rattle.records.specs.Shares.{couplerIn}
+use borrow.Author.Rules.{rules}
+use Rattle.records.proofs.shares.coupler_by.Statement.{statement}
+use Rattle.records.proofs.shares.coupler_by.Tie as tie
 
 array-read-t5 : tie.Need-array-read-t5
-array-read-t5 c = search needs
+array-read-t5 c = search rules
 
-cast-t6 : tie.Need-cast-t6
-cast-t6 c = search needs
+cast-t6 : tie.Need-overflow-cast-t6
+cast-t6 c = search rules
 
 array-read-t9 : tie.Need-array-read-t9
-array-read-t9 c = search needs
+array-read-t9 c = search rules
 
-cast-t10 : tie.Need-cast-t10
-cast-t10 c = search needs
+cast-t10 : tie.Need-overflow-cast-t10
+cast-t10 c = search rules
 
 array-read-t13 : tie.Need-array-read-t13
-array-read-t13 c = search needs
+array-read-t13 c = search rules
 
-cast-t14 : tie.Need-cast-t14
-cast-t14 c = search needs
+cast-t14 : tie.Need-overflow-cast-t14
+cast-t14 c = search rules
 
 returns : tie.Need-returns
 unfolding couplerIn

@@ -1,52 +1,52 @@
 -- `lay_bare` meets its contract: the block that was lent comes back laid, and the rest of the reel as it was.
-use borrow.Author.Needs.{needs}
+use borrow.Author.Rules.{rules}
 use native.Mathlib.Omega.{arith}
 use mathlib.Core.List.{[]}
-use Rattle·lists.specs.Places.{gathered}
-use Rattle·tape.proofs.Blocks.{length-block}
-use Rattle·reel·proofs.proofs.Laid.{part-laid}
-use Rattle·reel·proofs.proofs.lay.lay_bare.Statement.{statement}
-use Rattle·reel·proofs.proofs.lay.lay_bare.Tie as tie
+use Rattle.lists.specs.Places.{gathered}
+use Rattle.tape.proofs.Blocks.{length-block}
+use Rattle.reel.proofs.Laid.{part-laid}
+use Rattle.reel.proofs.lay.lay_bare.Statement.{statement}
+use Rattle.reel.proofs.lay.lay_bare.Tie as tie
 
-mul-at : tie.Need-mul-at
-mul-at c = search needs
+mul_at : tie.Need-overflow-mul-at
+mul_at c = search rules
 
-add-end : tie.Need-add-end
-add-end c = search needs
+add-end : tie.Need-overflow-add-end
+add-end c = search rules
 
-sub-lay-block : tie.Need-sub-lay-block
-sub-lay-block c = search needs
+sub-lay-block : tie.Need-overflow-sub-lay-block
+sub-lay-block c = search rules
 
-part-lay-block-start : tie.Need-part-lay-block-start
-part-lay-block-start c = search needs
+part-lay-block-start : tie.Need-slice-bounds-lay-block-start
+part-lay-block-start c = search rules
 
-part-lay-block-end : tie.Need-part-lay-block-end
-part-lay-block-end c = search needs
+part-lay-block-end : tie.Need-slice-bounds-lay-block-end
+part-lay-block-end c = search rules
 
 slice-aggregate-lay-block : tie.Need-slice-aggregate-lay-block
-slice-aggregate-lay-block c = search needs
+slice-aggregate-lay-block c = search rules
 
 lay-block-requires : tie.Need-lay-block-requires
-lay-block-requires c κs = search needs
+lay-block-requires c κs = search rules
 
-same-length : tie.Need-same-length
-same-length c = search needs
+same_length : tie.Need-same-length
+same_length c = search rules
 
 returns : tie.Need-returns
 unfolding gathered
 returns c =
-    part-laid _ _ _ _ (length-block _ 0 0 [] (omega arith)) (omega arith) (c .before .before .lay-block .ensures)
+    part-laid _ _ _ _ (length-block _ 0 0 [] (omega arith)) (omega arith) c.before.before.lay-block.ensures
 
 pub lay-bare-spec : {M : Type 1} → statement M
 lay-bare-spec =
     tie.close
     (tie.spec
-    mul-at
+    mul_at
     add-end
     sub-lay-block
     part-lay-block-start
     part-lay-block-end
     slice-aggregate-lay-block
     lay-block-requires
-    same-length
+    same_length
     returns)

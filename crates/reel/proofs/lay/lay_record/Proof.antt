@@ -1,66 +1,66 @@
 -- `lay_record` meets its contract. So far the first i pieces are laid, and nothing else has changed.
-use borrow.Author.Needs.{needs}
+use borrow.Author.Rules.{rules}
 use native.Mathlib.Omega.{arith}
-use mathlib.Core.Path.{_≡_}
-use Prim.Native.Nat.{_*_, _≤_, _-_}
+use mathlib.Core.Path.{◌≡◌}
+use Prim.Native.Nat.{◌*◌, ◌≤◌, ◌-◌}
 use lib.ListN.{length}
 use lib.Seq.{sets}
-use Rattle·lists.specs.Places.{gathered}
-use Rattle·tape.specs.Numbers.{blockBytes}
-use Rattle·tape.specs.Objects.{piecesTo}
-use Rattle·reel·proofs.proofs.Laid.{pieces-more, pieces-whole}
-use Rattle·reel·proofs.proofs.lay.lay_record.Statement.{statement}
-use Rattle·reel·proofs.proofs.lay.lay_record.Tie as tie
+use Rattle.lists.specs.Places.{gathered}
+use Rattle.tape.specs.Numbers.{blockBytes}
+use Rattle.tape.specs.Objects.{piecesTo}
+use Rattle.reel.proofs.Laid.{pieces_more, pieces_whole}
+use Rattle.reel.proofs.lay.lay_record.Statement.{statement}
+use Rattle.reel.proofs.lay.lay_record.Tie as tie
 
-abbrev Inv-loop : tie.InvT-loop
-Inv-loop reel₀ p mem a n swb m i₀ reel i =
+abbrev invariant-loop : tie.invariant-loop
+invariant-loop reel₀ p mem a n swb m i₀ reel i =
     (i ≤ m) × (reel ≡ sets reel₀ (blockBytes * p) (piecesTo (gathered swb mem a n) i)) × (length reel ≡ length reel₀)
 
-abbrev μ-loop : tie.MeasureT-loop
-μ-loop reel₀ p mem a n swb m i₀ reel i = m - i
+abbrev decreases-loop : tie.decreases-loop
+decreases-loop reel₀ p mem a n swb m i₀ reel i = m - i
 
-pieces-requires : tie.Need-pieces-requires Inv-loop μ-loop
-pieces-requires c κs = search needs
+pieces-requires : tie.Need-pieces-requires invariant-loop decreases-loop
+pieces-requires c κs = search rules
 
-loop-holds : tie.Need-loop-holds Inv-loop μ-loop
+loop-holds : tie.Need-loop-init invariant-loop decreases-loop
 unfolding piecesTo
-loop-holds c = search needs
+loop-holds c = search rules
 
-lay-piece-requires : tie.Need-lay-piece-requires Inv-loop μ-loop
-lay-piece-requires c κs = search needs
+lay-piece-requires : tie.Need-lay-piece-requires invariant-loop decreases-loop
+lay-piece-requires c κs = search rules
 
-add-i : tie.Need-add-i Inv-loop μ-loop
-add-i c = search needs
+add-i : tie.Need-overflow-add-i invariant-loop decreases-loop
+add-i c = search rules
 
-loop-less : tie.Need-loop-less Inv-loop μ-loop
-loop-less c = search needs
+loop-less : tie.Need-loop-smaller invariant-loop decreases-loop
+loop-less c = search rules
 
-loop-again : tie.Need-loop-again Inv-loop μ-loop
+loop-again : tie.Need-loop-preserved invariant-loop decreases-loop
 loop-again c =
-    let a = c .before .before .before .before .before .before .before .before .before .args in
-    let i = c .before .before .before .before .before .loop .i in
-    (search needs, cc (pieces-more (a .reel .now) (gathered (a .swb) (a .mem .now) (a .a) (a .n)) (a .p) i), search needs)
+    let a = c.before.before.before.before.before.before.before.before.before.args in
+    let i = c.before.before.before.before.before.loop.i in
+    (search rules, cc (pieces_more a.reel.now (gathered a.swb a.mem.now a.a a.n) a.p i), search rules)
 
-same-length : tie.Need-same-length Inv-loop μ-loop
-same-length c = search needs
+same_length : tie.Need-same-length invariant-loop decreases-loop
+same_length c = search rules
 
-returns : tie.Need-returns Inv-loop μ-loop
+returns : tie.Need-returns invariant-loop decreases-loop
 returns c =
-    let a = c .before .before .before .before .before .args in
-    let e : c .before .loop .i ≡ c .before .before .pieces .result = omega arith in
-    cc (pieces-whole (a .swb) (a .mem .now) (a .a) (a .n))
+    let a = c.before.before.before.before.before.args in
+    let e : c.before.loop.i ≡ c.before.before.pieces.result = omega arith in
+    cc (pieces_whole a.swb a.mem.now a.a a.n)
 
 pub lay-record-spec : {M : Type 1} → statement M
 lay-record-spec =
     tie.close
     (tie.spec
-    Inv-loop
-    μ-loop
+    invariant-loop
+    decreases-loop
     pieces-requires
     loop-holds
     lay-piece-requires
     add-i
     loop-less
     loop-again
-    same-length
+    same_length
     returns)

@@ -1,38 +1,38 @@
 -- `is_piece` meets its contract, by what the block is.
-use borrow.Author.Needs.{needs}
-use Rattle·tape.specs.Pass.{isPiece}
-use Rattle·reel·proofs.proofs.passing.is_piece.Statement.{statement}
-use Rattle·reel·proofs.proofs.passing.is_piece.Tie as tie
+use borrow.Author.Rules.{rules}
+use Rattle.tape.specs.Pass.{isPiece}
+use Rattle.reel.proofs.passing.is_piece.Statement.{statement}
+use Rattle.reel.proofs.passing.is_piece.Tie as tie
 
 enum-known-b : tie.Need-enum-known-b
-enum-known-b c = search needs
+enum-known-b c = search rules
 
-enum-told : tie.Need-enum-told
-enum-told c = search needs
+enum_told : tie.Need-enum-told
+enum_told c = search rules
 
 enum-told-2 : tie.Need-enum-told-2
-enum-told-2 c = search needs
+enum-told-2 c = search rules
 
 enum-told-3 : tie.Need-enum-told-3
-enum-told-3 c = search needs
+enum-told-3 c = search rules
 
 returns : tie.Need-returns
 unfolding isPiece
-returns c = rw (c .before .b .given .1)
+returns c = rw c.before.b.given.1
 
 returns-2 : tie.Need-returns-2
 unfolding isPiece
-returns-2 c = rw (c .enum-told .given .1)
+returns-2 c = rw c.enum_told.given.1
 
 returns-3 : tie.Need-returns-3
 unfolding isPiece
-returns-3 c = rw (c .enum-told2 .given .1)
+returns-3 c = rw c.enum-told2.given.1
 
 returns-4 : tie.Need-returns-4
 unfolding isPiece
-returns-4 c = rw (c .enum-told3 .given .1)
+returns-4 c = rw c.enum-told3.given.1
 
 pub is-piece-spec : {M : Type 1} → statement M
 is-piece-spec =
     tie.close
-    (tie.spec enum-known-b enum-told enum-told-2 enum-told-3 returns returns-2 returns-3 returns-4)
+    (tie.spec enum-known-b enum_told enum-told-2 enum-told-3 returns returns-2 returns-3 returns-4)

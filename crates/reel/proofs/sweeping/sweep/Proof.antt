@@ -1,80 +1,80 @@
 -- `sweep` meets its contract. The turns that are left say from p on what all of them say from block 0 on.
-use borrow.Author.Needs.{needs}
-use mathlib.Core.Path.{_≡_, refl, _∙_}
-use Rattle·reel·proofs.proofs.Sweeps.{sweep-done, sweep-turn}
-use Rattle·tape.specs.Sweep.{sweptBelow, sweptBelowUnder, sweptFrom, sweptOn}
-use Rattle·reel·proofs.proofs.sweeping.sweep.Statement.{statement}
-use Rattle·reel·proofs.proofs.sweeping.sweep.Tie as tie
+use borrow.Author.Rules.{rules}
+use mathlib.Core.Path.{◌≡◌, refl, ◌∙◌}
+use Rattle.reel.proofs.Sweeps.{sweep-done, sweep-turn}
+use Rattle.tape.specs.Sweep.{sweptBelow, sweptBelowUnder, sweptFrom, sweptOn}
+use Rattle.reel.proofs.sweeping.sweep.Statement.{statement}
+use Rattle.reel.proofs.sweeping.sweep.Tie as tie
 
-abbrev Inv-loop : tie.InvT-loop
-Inv-loop reel e p₀ turns₀ p turns = sweptFrom turns reel p e ≡ sweptBelow reel e
+abbrev invariant-loop : tie.invariant-loop
+invariant-loop reel e p₀ turns₀ p turns = sweptFrom turns reel p e ≡ sweptBelow reel e
 
-abbrev μ-loop : tie.MeasureT-loop
-μ-loop reel e p₀ turns₀ p turns = turns
+abbrev decreases-loop : tie.decreases-loop
+decreases-loop reel e p₀ turns₀ p turns = turns
 
-loop-holds : tie.Need-loop-holds Inv-loop μ-loop
+loop-holds : tie.Need-loop-init invariant-loop decreases-loop
 unfolding sweptBelowUnder
 loop-holds c = refl
 
-sub-turns : tie.Need-sub-turns Inv-loop μ-loop
-sub-turns c = search needs
+sub-turns : tie.Need-overflow-sub-turns invariant-loop decreases-loop
+sub-turns c = search rules
 
-pass-requires : tie.Need-pass-requires Inv-loop μ-loop
-pass-requires c κs = search needs
+pass-requires : tie.Need-pass-requires invariant-loop decreases-loop
+pass-requires c κs = search rules
 
-enum-known-q : tie.Need-enum-known-q Inv-loop μ-loop
-enum-known-q c = search needs
+enum-known-q : tie.Need-enum-known-q invariant-loop decreases-loop
+enum-known-q c = search rules
 
-loop-less : tie.Need-loop-less Inv-loop μ-loop
-loop-less c = search needs
+loop-less : tie.Need-loop-smaller invariant-loop decreases-loop
+loop-less c = search rules
 
-loop-again : tie.Need-loop-again Inv-loop μ-loop
+loop-again : tie.Need-loop-preserved invariant-loop decreases-loop
 unfolding sweptOn
-loop-again c = sweep-turn _ _ _ _ (c .before .before .before .before .loop-test .taken) (c .before .before .before .pass .ensures) (rw (c .before .q .given .1)) ∙ c .before .before .before .before .before .loop .inv
+loop-again c = sweep-turn _ _ _ _ c.before.before.before.before.loop-test.true c.before.before.before.pass.ensures (rw c.before.q.given.1) ∙ c.before.before.before.before.before.loop.invariant
 
-enum-known-q-2 : tie.Need-enum-known-q-2 Inv-loop μ-loop
-enum-known-q-2 c = search needs
+enum-known-q-2 : tie.Need-enum-known-q-2 invariant-loop decreases-loop
+enum-known-q-2 c = search rules
 
-loop-less-2 : tie.Need-loop-less-2 Inv-loop μ-loop
-loop-less-2 c = search needs
+loop-less-2 : tie.Need-loop-smaller-2 invariant-loop decreases-loop
+loop-less-2 c = search rules
 
-loop-again-2 : tie.Need-loop-again-2 Inv-loop μ-loop
+loop-again-2 : tie.Need-loop-preserved-2 invariant-loop decreases-loop
 unfolding sweptOn
-loop-again-2 c = sweep-turn _ _ _ _ (c .before .before .before .before .loop-test .taken) (c .before .before .before .pass .ensures) (rw (c .before .q2 .given .1)) ∙ c .before .before .before .before .before .loop .inv
+loop-again-2 c = sweep-turn _ _ _ _ c.before.before.before.before.loop-test.true c.before.before.before.pass.ensures (rw c.before.q2.given.1) ∙ c.before.before.before.before.before.loop.invariant
 
-enum-known-q-3 : tie.Need-enum-known-q-3 Inv-loop μ-loop
-enum-known-q-3 c = search needs
+enum-known-q-3 : tie.Need-enum-known-q-3 invariant-loop decreases-loop
+enum-known-q-3 c = search rules
 
-loop-less-3 : tie.Need-loop-less-3 Inv-loop μ-loop
-loop-less-3 c = search needs
+loop-less-3 : tie.Need-loop-smaller-3 invariant-loop decreases-loop
+loop-less-3 c = search rules
 
-loop-again-3 : tie.Need-loop-again-3 Inv-loop μ-loop
+loop-again-3 : tie.Need-loop-preserved-3 invariant-loop decreases-loop
 unfolding sweptOn
-loop-again-3 c = sweep-turn _ _ _ _ (c .before .before .before .before .loop-test .taken) (c .before .before .before .pass .ensures) (rw (c .before .q3 .given .1)) ∙ c .before .before .before .before .before .loop .inv
+loop-again-3 c = sweep-turn _ _ _ _ c.before.before.before.before.loop-test.true c.before.before.before.pass.ensures (rw c.before.q3.given.1) ∙ c.before.before.before.before.before.loop.invariant
 
-enum-told : tie.Need-enum-told Inv-loop μ-loop
-enum-told c = search needs
+enum_told : tie.Need-enum-told invariant-loop decreases-loop
+enum_told c = search rules
 
-returns : tie.Need-returns Inv-loop μ-loop
+returns : tie.Need-returns invariant-loop decreases-loop
 unfolding sweptOn
-returns c = sweep-turn _ _ _ _ (c .before .before .before .loop-test .taken) (c .before .before .pass .ensures) (rw (c .enum-told .given .1)) ∙ c .before .before .before .before .loop .inv
+returns c = sweep-turn _ _ _ _ c.before.before.before.loop-test.true c.before.before.pass.ensures (rw c.enum_told.given.1) ∙ c.before.before.before.before.loop.invariant
 
-enum-known-fault : tie.Need-enum-known-fault Inv-loop μ-loop
-enum-known-fault c = search needs
+enum-known-fault : tie.Need-enum-known-fault invariant-loop decreases-loop
+enum-known-fault c = search rules
 
-returns-2 : tie.Need-returns-2 Inv-loop μ-loop
+returns-2 : tie.Need-returns-2 invariant-loop decreases-loop
 unfolding sweptOn
-returns-2 c = sweep-turn _ _ _ _ (c .before .before .before .before .loop-test .taken) (c .before .before .before .pass .ensures) (rw (c .before .fault .given .1)) ∙ c .before .before .before .before .before .loop .inv
+returns-2 c = sweep-turn _ _ _ _ c.before.before.before.before.loop-test.true c.before.before.before.pass.ensures (rw c.before.fault.given.1) ∙ c.before.before.before.before.before.loop.invariant
 
-returns-3 : tie.Need-returns-3 Inv-loop μ-loop
-returns-3 c = sweep-done _ _ _ _ (c .loop-test .left) ∙ c .before .loop .inv
+returns-3 : tie.Need-returns-3 invariant-loop decreases-loop
+returns-3 c = sweep-done _ _ _ _ c.loop-test.false ∙ c.before.loop.invariant
 
 pub sweep-spec : {M : Type 1} → statement M
 sweep-spec =
     tie.close
     (tie.spec
-    Inv-loop
-    μ-loop
+    invariant-loop
+    decreases-loop
     loop-holds
     sub-turns
     pass-requires
@@ -87,7 +87,7 @@ sweep-spec =
     enum-known-q-3
     loop-less-3
     loop-again-3
-    enum-told
+    enum_told
     returns
     enum-known-fault
     returns-2

@@ -1,36 +1,36 @@
 -- `also` is its definition.
-use Rattle·replayer·specs.specs.Tells.{stepAlso}
-use borrow.Author.Needs.{needs}
-use Rattle·replayer·proofs.proofs.asks.also.Statement.{statement}
-use Rattle·replayer·proofs.proofs.asks.also.Tie as tie
+use Rattle.replayer.specs.Tells.{stepAlso}
+use borrow.Author.Rules.{rules}
+use Rattle.replayer.proofs.asks.also.Statement.{statement}
+use Rattle.replayer.proofs.asks.also.Tie as tie
 
-enum-told : tie.Need-enum-told
-enum-told c = search needs
+enum_told : tie.Need-enum-told
+enum_told c = search rules
 
 enum-told-2 : tie.Need-enum-told-2
-enum-told-2 c = search needs
+enum-told-2 c = search rules
 
 enum-told-3 : tie.Need-enum-told-3
-enum-told-3 c = search needs
+enum-told-3 c = search rules
 
 enum-told-4 : tie.Need-enum-told-4
-enum-told-4 c = search needs
+enum-told-4 c = search rules
 
 returns : tie.Need-returns
 unfolding stepAlso
-returns c = rw (c .enum-told .given .1)
+returns c = rw c.enum_told.given.1
 
 returns-2 : tie.Need-returns-2
 unfolding stepAlso
-returns-2 c = rw (c .enum-told2 .given .1)
+returns-2 c = rw c.enum-told2.given.1
 
 returns-3 : tie.Need-returns-3
 unfolding stepAlso
-returns-3 c = rw (c .enum-told3 .given .1)
+returns-3 c = rw c.enum-told3.given.1
 
 returns-4 : tie.Need-returns-4
 unfolding stepAlso
-returns-4 c = rw (c .enum-told4 .given .1)
+returns-4 c = rw c.enum-told4.given.1
 
 pub also-spec : {M : Type 1} → statement M
-also-spec = tie.close (tie.spec enum-told enum-told-2 enum-told-3 enum-told-4 returns returns-2 returns-3 returns-4)
+also-spec = tie.close (tie.spec enum_told enum-told-2 enum-told-3 enum-told-4 returns returns-2 returns-3 returns-4)

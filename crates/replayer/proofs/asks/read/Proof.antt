@@ -1,18 +1,18 @@
 -- `read` is its definition.
-use Rattle·replayer·specs.specs.Tells.{readTold}
-use borrow.Author.Needs.{needs}
-use Rattle·replayer·proofs.proofs.asks.read.Statement.{statement}
-use Rattle·replayer·proofs.proofs.asks.read.Tie as tie
+use Rattle.replayer.specs.Tells.{readTold}
+use borrow.Author.Rules.{rules}
+use Rattle.replayer.proofs.asks.read.Statement.{statement}
+use Rattle.replayer.proofs.asks.read.Tie as tie
 
 read-register-requires : tie.Need-read-register-requires
-read-register-requires c κs = search needs
+read-register-requires c κs = search rules
 
-cast-t6 : tie.Need-cast-t6
-cast-t6 c = search needs
+cast-t6 : tie.Need-overflow-cast-t6
+cast-t6 c = search rules
 
 returns : tie.Need-returns
 unfolding readTold
-returns c = rw (c .before .read-register .ensures)
+returns c = rw c.before.read-register.ensures
 
-pub read-spec : {M : Type 1} → statement M
-read-spec = tie.close (tie.spec read-register-requires cast-t6 returns)
+pub read_spec : {M : Type 1} → statement M
+read_spec = tie.close (tie.spec read-register-requires cast-t6 returns)

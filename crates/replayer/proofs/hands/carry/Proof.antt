@@ -1,29 +1,29 @@
 -- `carry` meets its contract: the task, then the zeros.
-use Rattle·replayer·proofs.proofs.Handing.{kept-call}
-use borrow.Author.Needs.{needs}
-use Rattle·replayer·proofs.proofs.hands.carry.Statement.{statement}
-use Rattle·replayer·proofs.proofs.hands.carry.Tie as tie
+use Rattle.replayer.proofs.Handing.{kept-call}
+use borrow.Author.Rules.{rules}
+use Rattle.replayer.proofs.hands.carry.Statement.{statement}
+use Rattle.replayer.proofs.hands.carry.Tie as tie
 
 hand-requires : tie.Need-hand-requires
-hand-requires c κs = c .before .before .before .before .before .before .before .before .pre
+hand-requires c κs = c.before.before.before.before.before.before.before.before.requires
 
 trim-requires : tie.Need-trim-requires
-trim-requires c κs = search needs
+trim-requires c κs = search rules
 
-same-length : tie.Need-same-length
-same-length c = search needs
+same_length : tie.Need-same-length
+same_length c = search rules
 
 same-length-2 : tie.Need-same-length-2
-same-length-2 c = search needs
+same-length-2 c = search rules
 
 same-length-3 : tie.Need-same-length-3
-same-length-3 c = search needs
+same-length-3 c = search rules
 
 same-length-4 : tie.Need-same-length-4
-same-length-4 c = search needs
+same-length-4 c = search rules
 
 returns : tie.Need-returns
-returns c = kept-call _ _ _ _ _ _ _ _ _ _ _ _ _ _ _ _ (c .before .before .before .before .before .before .before .before .before .before .before .before .before .before .before .before .before .before .before .before .before .before .before .hand .ensures) (c .before .before .before .before .before .before .before .before .trim .ensures)
+returns c = kept-call _ _ _ _ _ _ _ _ _ _ _ _ _ _ _ _ c.before.before.before.before.before.before.before.before.before.before.before.before.before.before.before.before.before.before.before.before.before.before.before.hand.ensures c.before.before.before.before.before.before.before.before.trim.ensures
 
 pub carry-spec : {M : Type 1} → statement M
-carry-spec = tie.close (tie.spec hand-requires trim-requires same-length same-length-2 same-length-3 same-length-4 returns)
+carry-spec = tie.close (tie.spec hand-requires trim-requires same_length same-length-2 same-length-3 same-length-4 returns)

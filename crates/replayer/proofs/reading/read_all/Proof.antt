@@ -1,49 +1,49 @@
 -- `read_all` is safe and ends: its turns run down.
-use Prim.Native.Nat.{_≤_}
+use Prim.Native.Nat.{◌≤◌}
 use native.Mathlib.Omega.{arith}
-use borrow.Author.Needs.{needs}
-use Rattle·replayer·proofs.proofs.reading.read_all.Statement.{statement}
-use Rattle·replayer·proofs.proofs.reading.read_all.Tie as tie
+use borrow.Author.Rules.{rules}
+use Rattle.replayer.proofs.reading.read_all.Statement.{statement}
+use Rattle.replayer.proofs.reading.read_all.Tie as tie
 
-abbrev Inv-loop : tie.InvT-loop
-Inv-loop fd chunk₀ line₀ mem₀ reels₀ tables₀ jrnl₀ data₀ sums e₀ r₀ turns₀ chunk line mem reels tables jrnl «data» e r turns = 0 ≤ turns
+abbrev invariant-loop : tie.invariant-loop
+invariant-loop fd chunk₀ line₀ mem₀ reels₀ tables₀ jrnl₀ data₀ sums e₀ r₀ turns₀ chunk line mem reels tables jrnl «data» e r turns = 0 ≤ turns
 
-abbrev μ-loop : tie.MeasureT-loop
-μ-loop fd chunk₀ line₀ mem₀ reels₀ tables₀ jrnl₀ data₀ sums e₀ r₀ turns₀ chunk line mem reels tables jrnl «data» e r turns = turns
+abbrev decreases-loop : tie.decreases-loop
+decreases-loop fd chunk₀ line₀ mem₀ reels₀ tables₀ jrnl₀ data₀ sums e₀ r₀ turns₀ chunk line mem reels tables jrnl «data» e r turns = turns
 
-start-requires : tie.Need-start-requires Inv-loop μ-loop
-start-requires c κs = search needs
+start-requires : tie.Need-start-requires invariant-loop decreases-loop
+start-requires c κs = search rules
 
-loop-holds : tie.Need-loop-holds Inv-loop μ-loop
-loop-holds c = search needs
+loop-holds : tie.Need-loop-init invariant-loop decreases-loop
+loop-holds c = search rules
 
-sub-turns : tie.Need-sub-turns Inv-loop μ-loop
-sub-turns c = search needs
+sub-turns : tie.Need-overflow-sub-turns invariant-loop decreases-loop
+sub-turns c = search rules
 
-take-more-requires : tie.Need-take-more-requires Inv-loop μ-loop
-take-more-requires c κs = search needs
+take-more-requires : tie.Need-take-more-requires invariant-loop decreases-loop
+take-more-requires c κs = search rules
 
-turn-requires : tie.Need-turn-requires Inv-loop μ-loop
-turn-requires c κs = search needs
+turn-requires : tie.Need-turn-requires invariant-loop decreases-loop
+turn-requires c κs = search rules
 
-returns : tie.Need-returns Inv-loop μ-loop
-returns c = search needs
+returns : tie.Need-returns invariant-loop decreases-loop
+returns c = search rules
 
-loop-less : tie.Need-loop-less Inv-loop μ-loop
-loop-less c = omega (arith, c .before .before .before .before .before .before .before .before .before .before .before .before .loop-test .taken)
+loop-less : tie.Need-loop-smaller invariant-loop decreases-loop
+loop-less c = omega (arith, c.before.before.before.before.before.before.before.before.before.before.before.before.loop-test.true)
 
-loop-again : tie.Need-loop-again Inv-loop μ-loop
-loop-again c = search needs
+loop-again : tie.Need-loop-preserved invariant-loop decreases-loop
+loop-again c = search rules
 
-returns-2 : tie.Need-returns-2 Inv-loop μ-loop
-returns-2 c = search needs
+returns-2 : tie.Need-returns-2 invariant-loop decreases-loop
+returns-2 c = search rules
 
 pub read-all-spec : {M : Type 1} → statement M
 read-all-spec =
     tie.close
     (tie.spec
-    Inv-loop
-    μ-loop
+    invariant-loop
+    decreases-loop
     start-requires
     loop-holds
     sub-turns

@@ -1,17 +1,17 @@
 -- `entry` is its definition.
-use Rattle·replayer·proofs.proofs.Telling.{entry-told}
-use borrow.Author.Needs.{needs}
-use Rattle·replayer·proofs.proofs.shares.entry.Statement.{statement}
-use Rattle·replayer·proofs.proofs.shares.entry.Tie as tie
+use Rattle.replayer.proofs.Telling.{entry-told}
+use borrow.Author.Rules.{rules}
+use Rattle.replayer.proofs.shares.entry.Statement.{statement}
+use Rattle.replayer.proofs.shares.entry.Tie as tie
 
 least-requires : tie.Need-least-requires
-least-requires c κs = search needs
+least-requires c κs = search rules
 
-sub-t5 : tie.Need-sub-t5
-sub-t5 c = search needs
+sub-t5 : tie.Need-overflow-sub-t5
+sub-t5 c = search rules
 
 returns : tie.Need-returns
-returns c = entry-told _ _ _ (c .least .ensures)
+returns c = entry-told _ _ _ c.least.ensures
 
-pub entry-spec : {M : Type 1} → statement M
-entry-spec = tie.close (tie.spec least-requires sub-t5 returns)
+pub entry_spec : {M : Type 1} → statement M
+entry_spec = tie.close (tie.spec least-requires sub-t5 returns)

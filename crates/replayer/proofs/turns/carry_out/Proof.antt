@@ -1,84 +1,84 @@
 -- `carry_out` meets its contract, for each kind of line.
 use mathlib.Core.Path.{refl}
 use native.Mathlib.Nat.{sub-zero}
-use Rattle·replayer·specs.specs.Turns.{JournalOn, memoryOn, reelsOn, roundOn, tablesOn}
-use borrow.Author.Needs.{needs}
-use Rattle·replayer·proofs.proofs.turns.carry_out.Statement.{statement}
-use Rattle·replayer·proofs.proofs.turns.carry_out.Tie as tie
+use Rattle.replayer.specs.Turns.{JournalOn, memoryOn, reelsOn, roundOn, tablesOn}
+use borrow.Author.Rules.{rules}
+use Rattle.replayer.proofs.turns.carry_out.Statement.{statement}
+use Rattle.replayer.proofs.turns.carry_out.Tie as tie
 
-enum-told : tie.Need-enum-told
-enum-told c = search needs
+enum_told : tie.Need-enum-told
+enum_told c = search rules
 
 nothing-requires : tie.Need-nothing-requires
-nothing-requires c κs = search needs
+nothing-requires c κs = search rules
 
 enum-known-does : tie.Need-enum-known-does
-enum-known-does c = search needs
+enum-known-does c = search rules
 
 arrange-requires : tie.Need-arrange-requires
-arrange-requires c κs = search needs
+arrange-requires c κs = search rules
 
 enum-known-does-2 : tie.Need-enum-known-does-2
-enum-known-does-2 c = search needs
+enum-known-does-2 c = search rules
 
 build-for-requires : tie.Need-build-for-requires
-build-for-requires c κs = search needs
+build-for-requires c κs = search rules
 
 enum-known-does-3 : tie.Need-enum-known-does-3
-enum-known-does-3 c = search needs
+enum-known-does-3 c = search rules
 
 table-for-requires : tie.Need-table-for-requires
-table-for-requires c κs = search needs
+table-for-requires c κs = search rules
 
 enum-known-does-4 : tie.Need-enum-known-does-4
-enum-known-does-4 c = search needs
+enum-known-does-4 c = search rules
 
 owner-of-requires : tie.Need-owner-of-requires
-owner-of-requires c κs = search needs
+owner-of-requires c κs = search rules
 
-sub-make-call : tie.Need-sub-make-call
-sub-make-call c = search needs
+sub-make-call : tie.Need-overflow-sub-make-call
+sub-make-call c = search rules
 
-part-make-call-start : tie.Need-part-make-call-start
-part-make-call-start c = search needs
+part-make-call-start : tie.Need-slice-bounds-make-call-start
+part-make-call-start c = search rules
 
-part-make-call-end : tie.Need-part-make-call-end
-part-make-call-end c = search needs
+part-make-call-end : tie.Need-slice-bounds-make-call-end
+part-make-call-end c = search rules
 
 make-call-requires : tie.Need-make-call-requires
-make-call-requires c κs = search needs
+make-call-requires c κs = search rules
 
 enum-known-does-5 : tie.Need-enum-known-does-5
-enum-known-does-5 c = search needs
+enum-known-does-5 c = search rules
 
 wrong-requires : tie.Need-wrong-requires
-wrong-requires c κs = search needs
+wrong-requires c κs = search rules
 
 returns : tie.Need-returns
 unfolding roundOn memoryOn reelsOn tablesOn JournalOn
-returns c = rw (c .before .enum-told .given .1) (c .nothing .ensures, (refl, (refl, (refl, refl))))
+returns c = rw c.before.enum_told.given.1 (c.nothing.ensures, (refl, (refl, (refl, refl))))
 
 returns-2 : tie.Need-returns-2
 unfolding roundOn memoryOn reelsOn tablesOn JournalOn
-returns-2 c = rw (c .before .before .before .before .before .before .does .given .1) (c .arrange .ensures)
+returns-2 c = rw c.before.before.before.before.before.before.does.given.1 c.arrange.ensures
 
 returns-3 : tie.Need-returns-3
 unfolding roundOn memoryOn reelsOn tablesOn JournalOn
-returns-3 c = rw (c .before .before .before .before .does2 .given .1) (c .build-for .ensures .0, (c .build-for .ensures .1 .0, (c .build-for .ensures .1 .1, (refl, refl))))
+returns-3 c = rw c.before.before.before.before.does2.given.1 (c.build-for.ensures.0, (c.build-for.ensures.1.0, (c.build-for.ensures.1.1, (refl, refl))))
 
 returns-4 : tie.Need-returns-4
 unfolding roundOn memoryOn reelsOn tablesOn JournalOn
-returns-4 c = rw (c .before .before .before .does3 .given .1) (c .table-for .ensures .0, (refl, (refl, (c .table-for .ensures .1, refl))))
+returns-4 c = rw c.before.before.before.does3.given.1 (c.table-for.ensures.0, (refl, (refl, (c.table-for.ensures.1, refl))))
 
 returns-5 : tie.Need-returns-5
 unfolding roundOn memoryOn reelsOn tablesOn JournalOn
 returns-5 c =
-    let e = rw (sub-zero (c .before .before .before .before .before .before .before .before .before .before .before .args .n), c .before .before .before .before .before .before .owner-of .ensures) at (c .make-call .ensures) in
-    rw (c .before .before .before .before .before .before .before .before .does4 .given .1) e
+    let e = rw (sub-zero c.before.before.before.before.before.before.before.before.before.before.before.args.n, c.before.before.before.before.before.before.owner_of.ensures) at c.make-call.ensures in
+    rw c.before.before.before.before.before.before.before.before.does4.given.1 e
 
 returns-6 : tie.Need-returns-6
 unfolding roundOn memoryOn reelsOn tablesOn JournalOn
-returns-6 c = rw (c .before .before .does5 .given .1) (c .wrong .ensures, (refl, (refl, (refl, refl))))
+returns-6 c = rw c.before.before.does5.given.1 (c.wrong.ensures, (refl, (refl, (refl, refl))))
 
 pub carry-out-spec : {M : Type 1} → statement M
-carry-out-spec = tie.close (tie.spec enum-told nothing-requires enum-known-does arrange-requires enum-known-does-2 build-for-requires enum-known-does-3 table-for-requires enum-known-does-4 owner-of-requires sub-make-call part-make-call-start part-make-call-end make-call-requires enum-known-does-5 wrong-requires returns returns-2 returns-3 returns-4 returns-5 returns-6)
+carry-out-spec = tie.close (tie.spec enum_told nothing-requires enum-known-does arrange-requires enum-known-does-2 build-for-requires enum-known-does-3 table-for-requires enum-known-does-4 owner-of-requires sub-make-call part-make-call-start part-make-call-end make-call-requires enum-known-does-5 wrong-requires returns returns-2 returns-3 returns-4 returns-5 returns-6)

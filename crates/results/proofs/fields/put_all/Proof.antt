@@ -1,63 +1,63 @@
 -- `put_all` meets its contract: so far the first i numbers are put.
-use mathlib.Core.Path.{_≡_, ap}
-use Prim.Native.Nat.{ℕ, _≤_, _-_}
+use mathlib.Core.Path.{◌≡◌, ap}
+use Prim.Native.Nat.{ℕ, ◌≤◌, ◌-◌}
 use lib.ListN.{length, take}
-use Rattle·script.specs.Prints.{Put}
-use Rattle·results·specs.specs.Lines.{numbersText}
-use Rattle·results·proofs.proofs.Texts.{numbers-more, put-empty, put-same}
-use borrow.Author.Needs.{needs}
+use Rattle.script.specs.Prints.{Put}
+use Rattle.results.specs.Lines.{numbersText}
+use Rattle.results.proofs.Texts.{numbers_more, put-empty, put_same}
+use borrow.Author.Rules.{rules}
 use native.Mathlib.Omega.{arith}
-use Rattle·results·proofs.proofs.fields.put_all.Statement.{statement}
-use Rattle·results·proofs.proofs.fields.put_all.Tie as tie
+use Rattle.results.proofs.fields.put_all.Statement.{statement}
+use Rattle.results.proofs.fields.put_all.Tie as tie
 
-abbrev Inv-loop : tie.InvT-loop
-Inv-loop out₀ at f next₀ i₀ t7 out next i = (i ≤ 21) × (length out ≡ length out₀) × Put out₀ at (numbersText (take i f)) out next
+abbrev invariant-loop : tie.invariant-loop
+invariant-loop out₀ at f next₀ i₀ t7 out next i = (i ≤ 21) × (length out ≡ length out₀) × Put out₀ at (numbersText (take i f)) out next
 
-abbrev μ-loop : tie.MeasureT-loop
-μ-loop out₀ at f next₀ i₀ t7 out next i = 21 - i
+abbrev decreases-loop : tie.decreases-loop
+decreases-loop out₀ at f next₀ i₀ t7 out next i = 21 - i
 
-loop-holds : tie.Need-loop-holds Inv-loop μ-loop
+loop-holds : tie.Need-loop-init invariant-loop decreases-loop
 unfolding numbersText
-loop-holds c = (search needs, search needs, put-empty _ _)
+loop-holds c = (search rules, search rules, put-empty _ _)
 
-slice-aggregate-put-labelled : tie.Need-slice-aggregate-put-labelled Inv-loop μ-loop
-slice-aggregate-put-labelled c = search needs
+slice-aggregate-put-labelled : tie.Need-slice-aggregate-put-labelled invariant-loop decreases-loop
+slice-aggregate-put-labelled c = search rules
 
-mul-put-labelled : tie.Need-mul-put-labelled Inv-loop μ-loop
-mul-put-labelled c = search needs
+mul-put-labelled : tie.Need-overflow-mul-put-labelled invariant-loop decreases-loop
+mul-put-labelled c = search rules
 
-array-read-put-labelled : tie.Need-array-read-put-labelled Inv-loop μ-loop
-array-read-put-labelled c = search needs
+array-read-put-labelled : tie.Need-array-read-put-labelled invariant-loop decreases-loop
+array-read-put-labelled c = search rules
 
-put-labelled-requires : tie.Need-put-labelled-requires Inv-loop μ-loop
-put-labelled-requires c κs = search needs
+put-labelled-requires : tie.Need-put-labelled-requires invariant-loop decreases-loop
+put-labelled-requires c κs = search rules
 
-add-i : tie.Need-add-i Inv-loop μ-loop
-add-i c = search needs
+add-i : tie.Need-overflow-add-i invariant-loop decreases-loop
+add-i c = search rules
 
-loop-less : tie.Need-loop-less Inv-loop μ-loop
-loop-less c = search needs
+loop-less : tie.Need-loop-smaller invariant-loop decreases-loop
+loop-less c = search rules
 
-loop-again : tie.Need-loop-again Inv-loop μ-loop
+loop-again : tie.Need-loop-preserved invariant-loop decreases-loop
 loop-again c =
-    let l = c .before .before .before .before .before .before .loop in
-    (search needs, search needs, numbers-more _ _ _ _ _ (l .i) _ _ (search needs) (l .inv .2) (c .before .before .put-labelled .ensures))
+    let l = c.before.before.before.before.before.before.loop in
+    (search rules, search rules, numbers_more _ _ _ _ _ l.i _ _ (search rules) l.invariant.2 c.before.before.put-labelled.ensures)
 
-same-length : tie.Need-same-length Inv-loop μ-loop
-same-length c = search needs
+same_length : tie.Need-same-length invariant-loop decreases-loop
+same_length c = search rules
 
-returns : tie.Need-returns Inv-loop μ-loop
+returns : tie.Need-returns invariant-loop decreases-loop
 returns c =
-    let l = c .before .loop in
-    let e : l .i ≡ 21 = omega arith in
-    put-same _ _ _ _ _ _ (ap (λ (n : ℕ). numbersText (take n (c .before .before .before .args .t3))) e) (l .inv .2)
+    let l = c.before.loop in
+    let e : l.i ≡ 21 = omega arith in
+    put_same _ _ _ _ _ _ (ap (λ (n : ℕ). numbersText (take n c.before.before.before.args.t3)) e) l.invariant.2
 
 pub put-all-spec : {M : Type 1} → statement M
 put-all-spec =
     tie.close
     (tie.spec
-    Inv-loop
-    μ-loop
+    invariant-loop
+    decreases-loop
     loop-holds
     slice-aggregate-put-labelled
     mul-put-labelled
@@ -66,5 +66,5 @@ put-all-spec =
     add-i
     loop-less
     loop-again
-    same-length
+    same_length
     returns)

@@ -1,22 +1,22 @@
 -- `with_field` is its definition.
-use borrow.Author.Needs.{needs}
-use Rattle·results·proofs.proofs.fields.with_field.Statement.{statement}
-use Rattle·results·proofs.proofs.fields.with_field.Tie as tie
+use borrow.Author.Rules.{rules}
+use Rattle.results.proofs.fields.with_field.Statement.{statement}
+use Rattle.results.proofs.fields.with_field.Tie as tie
 
 fields-requires : tie.Need-fields-requires
-fields-requires c κs = search needs
+fields-requires c κs = search rules
 
-mul-f : tie.Need-mul-f
-mul-f c = search needs
+mul-f : tie.Need-overflow-mul-f
+mul-f c = search rules
 
 array-write-f : tie.Need-array-write-f
-array-write-f c = search needs
+array-write-f c = search rules
 
 session-of-requires : tie.Need-session-of-requires
-session-of-requires c κs = search needs
+session-of-requires c κs = search rules
 
 returns : tie.Need-returns
-returns c = rw (← c .before .fields .ensures) (c .session-of .ensures)
+returns c = rw (← c.before.fields.ensures) c.session-of.ensures
 
 pub with-field-spec : {M : Type 1} → statement M
 with-field-spec =

@@ -1,34 +1,34 @@
 -- `put_bad` meets its contract: its texts go in a row.
-use Rattle·script.proofs.Printed.{put-more}
-use borrow.Author.Needs.{needs}
-use Rattle·results·proofs.proofs.puts.put_bad.Statement.{statement}
-use Rattle·results·proofs.proofs.puts.put_bad.Tie as tie
+use Rattle.script.proofs.Printed.{put-more}
+use borrow.Author.Rules.{rules}
+use Rattle.results.proofs.puts.put_bad.Statement.{statement}
+use Rattle.results.proofs.puts.put_bad.Tie as tie
 
 slice-aggregate-put-labelled : tie.Need-slice-aggregate-put-labelled
-slice-aggregate-put-labelled c = search needs
+slice-aggregate-put-labelled c = search rules
 
 put-labelled-requires : tie.Need-put-labelled-requires
-put-labelled-requires c κs = search needs
+put-labelled-requires c κs = search rules
 
 slice-aggregate-put-bytes : tie.Need-slice-aggregate-put-bytes
-slice-aggregate-put-bytes c = search needs
+slice-aggregate-put-bytes c = search rules
 
 put-bytes-requires : tie.Need-put-bytes-requires
-put-bytes-requires c κs = search needs
+put-bytes-requires c κs = search rules
 
 letter-requires : tie.Need-letter-requires
-letter-requires c κs = search needs
+letter-requires c κs = search rules
 
 put-byte-requires : tie.Need-put-byte-requires
-put-byte-requires c κs = search needs
+put-byte-requires c κs = search rules
 
-same-length : tie.Need-same-length
-same-length c = search needs
+same_length : tie.Need-same-length
+same_length c = search rules
 
 returns : tie.Need-returns
 returns c =
-    let d = put-more _ _ _ _ _ _ _ _ (c .before .before .before .before .before .before .before .put-bytes .ensures) (c .before .before .put-byte .ensures) in
-    rw (c .before .before .before .letter .ensures) at (put-more _ _ _ _ _ _ _ _ (c .before .before .before .before .before .before .before .before .before .before .before .before .put-labelled .ensures) d)
+    let d = put-more _ _ _ _ _ _ _ _ c.before.before.before.before.before.before.before.put-bytes.ensures c.before.before.put_byte.ensures in
+    rw c.before.before.before.letter.ensures at (put-more _ _ _ _ _ _ _ _ c.before.before.before.before.before.before.before.before.before.before.before.before.put-labelled.ensures d)
 
 pub put-bad-spec : {M : Type 1} → statement M
 put-bad-spec =
@@ -40,5 +40,5 @@ put-bad-spec =
     put-bytes-requires
     letter-requires
     put-byte-requires
-    same-length
+    same_length
     returns)

@@ -1,25 +1,25 @@
 -- `put_done` meets its contract: two texts go in a row.
-use Rattle·script.proofs.Printed.{put-more}
-use borrow.Author.Needs.{needs}
-use Rattle·results·proofs.proofs.puts.put_done.Statement.{statement}
-use Rattle·results·proofs.proofs.puts.put_done.Tie as tie
+use Rattle.script.proofs.Printed.{put-more}
+use borrow.Author.Rules.{rules}
+use Rattle.results.proofs.puts.put_done.Statement.{statement}
+use Rattle.results.proofs.puts.put_done.Tie as tie
 
 slice-aggregate-put-bytes : tie.Need-slice-aggregate-put-bytes
-slice-aggregate-put-bytes c = search needs
+slice-aggregate-put-bytes c = search rules
 
 put-bytes-requires : tie.Need-put-bytes-requires
-put-bytes-requires c κs = search needs
+put-bytes-requires c κs = search rules
 
 put-also-requires : tie.Need-put-also-requires
-put-also-requires c κs = search needs
+put-also-requires c κs = search rules
 
-same-length : tie.Need-same-length
-same-length c = search needs
+same_length : tie.Need-same-length
+same_length c = search rules
 
 returns : tie.Need-returns
-returns c = put-more _ _ _ _ _ _ _ _ (c .before .before .before .before .before .before .put-bytes .ensures) (c .before .before .put-also .ensures)
+returns c = put-more _ _ _ _ _ _ _ _ c.before.before.before.before.before.before.put-bytes.ensures c.before.before.put-also.ensures
 
 pub put-done-spec : {M : Type 1} → statement M
 put-done-spec =
     tie.close
-    (tie.spec slice-aggregate-put-bytes put-bytes-requires put-also-requires same-length returns)
+    (tie.spec slice-aggregate-put-bytes put-bytes-requires put-also-requires same_length returns)

@@ -1,29 +1,29 @@
 -- `put_interrupt` meets its contract: two texts go in a row.
-use Rattle·script.proofs.Printed.{put-more}
-use borrow.Author.Needs.{needs}
-use Rattle·results·proofs.proofs.puts.put_interrupt.Statement.{statement}
-use Rattle·results·proofs.proofs.puts.put_interrupt.Tie as tie
+use Rattle.script.proofs.Printed.{put-more}
+use borrow.Author.Rules.{rules}
+use Rattle.results.proofs.puts.put_interrupt.Statement.{statement}
+use Rattle.results.proofs.puts.put_interrupt.Tie as tie
 
 slice-aggregate-put-labelled : tie.Need-slice-aggregate-put-labelled
-slice-aggregate-put-labelled c = search needs
+slice-aggregate-put-labelled c = search rules
 
 flag-requires : tie.Need-flag-requires
-flag-requires c κs = search needs
+flag-requires c κs = search rules
 
 put-labelled-requires : tie.Need-put-labelled-requires
-put-labelled-requires c κs = search needs
+put-labelled-requires c κs = search rules
 
 slice-aggregate-put-labelled-2 : tie.Need-slice-aggregate-put-labelled-2
-slice-aggregate-put-labelled-2 c = search needs
+slice-aggregate-put-labelled-2 c = search rules
 
 put-labelled-requires-2 : tie.Need-put-labelled-requires-2
-put-labelled-requires-2 c κs = search needs
+put-labelled-requires-2 c κs = search rules
 
-same-length : tie.Need-same-length
-same-length c = search needs
+same_length : tie.Need-same-length
+same_length c = search rules
 
 returns : tie.Need-returns
-returns c = rw (← c .before .before .before .before .before .before .before .before .flag .ensures) (put-more _ _ _ _ _ _ _ _ (c .before .before .before .before .before .before .before .put-labelled .ensures) (c .before .before .put-labelled2 .ensures))
+returns c = rw (← c.before.before.before.before.before.before.before.before.flag.ensures) (put-more _ _ _ _ _ _ _ _ c.before.before.before.before.before.before.before.put-labelled.ensures c.before.before.put-labelled2.ensures)
 
 pub put-interrupt-spec : {M : Type 1} → statement M
 put-interrupt-spec =
@@ -34,5 +34,5 @@ put-interrupt-spec =
     put-labelled-requires
     slice-aggregate-put-labelled-2
     put-labelled-requires-2
-    same-length
+    same_length
     returns)

@@ -1,60 +1,60 @@
 -- `copy` meets its contract. So far the first i bytes are there.
-use Prim.Native.Nat.{ℕ, _≤_, _-_}
-use mathlib.Core.Path.{_≡_, ap, _∙_}
-use lib.ListN.{length, take, set, getD}
-use borrow.Author.Needs.{needs}
+use Prim.Native.Nat.{ℕ, ◌≤◌, ◌-◌}
+use mathlib.Core.Path.{◌≡◌, ap, ◌∙◌}
+use lib.ListN.{length, take, set, get_or}
+use borrow.Author.Rules.{rules}
 use mathlib.Core.List.{List}
 use lib.Seq.{sets}
-use Rattle·script·proofs.proofs.Filled.{copy-end, store-more}
+use Rattle.script.proofs.Filled.{copy-end, store-more}
 use native.Mathlib.Omega.{arith}
-use Rattle·script·proofs.proofs.fills.copy.Statement.{statement}
-use Rattle·script·proofs.proofs.fills.copy.Tie as tie
+use Rattle.script.proofs.fills.copy.Statement.{statement}
+use Rattle.script.proofs.fills.copy.Tie as tie
 
-abbrev Inv-loop : tie.InvT-loop
-Inv-loop to₀ from n i₀ to i = (i ≤ n) × (length to ≡ length to₀) × (to ≡ sets to₀ 0 (take i from))
+abbrev invariant-loop : tie.invariant-loop
+invariant-loop to₀ from n i₀ to i = (i ≤ n) × (length to ≡ length to₀) × (to ≡ sets to₀ 0 (take i from))
 
-abbrev μ-loop : tie.MeasureT-loop
-μ-loop to₀ from n i₀ to i = n - i
+abbrev decreases-loop : tie.decreases-loop
+decreases-loop to₀ from n i₀ to i = n - i
 
-least-requires : tie.Need-least-requires Inv-loop μ-loop
-least-requires c κs = search needs
+least-requires : tie.Need-least-requires invariant-loop decreases-loop
+least-requires c κs = search rules
 
-loop-holds : tie.Need-loop-holds Inv-loop μ-loop
-loop-holds c = search needs
+loop-holds : tie.Need-loop-init invariant-loop decreases-loop
+loop-holds c = search rules
 
-shared-slice-read-to : tie.Need-shared-slice-read-to Inv-loop μ-loop
-shared-slice-read-to c = search needs
+shared-slice-read-to : tie.Need-shared-slice-read-to invariant-loop decreases-loop
+shared-slice-read-to c = search rules
 
-slice-write-to : tie.Need-slice-write-to Inv-loop μ-loop
-slice-write-to c = search needs
+slice-write-to : tie.Need-slice-write-to invariant-loop decreases-loop
+slice-write-to c = search rules
 
-add-i : tie.Need-add-i Inv-loop μ-loop
-add-i c = search needs
+add-i : tie.Need-overflow-add-i invariant-loop decreases-loop
+add-i c = search rules
 
-loop-less : tie.Need-loop-less Inv-loop μ-loop
-loop-less c = search needs
+loop-less : tie.Need-loop-smaller invariant-loop decreases-loop
+loop-less c = search rules
 
-loop-again : tie.Need-loop-again Inv-loop μ-loop
+loop-again : tie.Need-loop-preserved invariant-loop decreases-loop
 loop-again c =
-    let a = c .before .before .before .before .before .before .args in
-    let l = c .before .before .loop in
-    (search needs, search needs, ap (λ (b : List ℕ). set b (l .i) (getD (a .from .now) (l .i) 0)) (l .inv .2) ∙ store-more (a .to .now) (a .from .now) (l .i) (omega arith))
+    let a = c.before.before.before.before.before.before.args in
+    let l = c.before.before.loop in
+    (search rules, search rules, ap (λ (b : List ℕ). set b l.i (get_or a.from.now l.i 0)) l.invariant.2 ∙ store-more a.to.now a.from.now l.i (omega arith))
 
-same-length : tie.Need-same-length Inv-loop μ-loop
-same-length c = search needs
+same_length : tie.Need-same-length invariant-loop decreases-loop
+same_length c = search rules
 
-returns : tie.Need-returns Inv-loop μ-loop
+returns : tie.Need-returns invariant-loop decreases-loop
 returns c =
-    let a = c .before .before .before .before .before .args in
-    let l = c .before .loop in
-    l .inv .2 ∙ copy-end (a .to .now) (a .from .now) _ (l .i) (c .before .before .least .ensures) (omega arith) (omega arith)
+    let a = c.before.before.before.before.before.args in
+    let l = c.before.loop in
+    l.invariant.2 ∙ copy-end a.to.now a.from.now _ l.i c.before.before.least.ensures (omega arith) (omega arith)
 
-pub copy-spec : {M : Type 1} → statement M
-copy-spec =
+pub copy_spec : {M : Type 1} → statement M
+copy_spec =
     tie.close
     (tie.spec
-    Inv-loop
-    μ-loop
+    invariant-loop
+    decreases-loop
     least-requires
     loop-holds
     shared-slice-read-to
@@ -62,5 +62,5 @@ copy-spec =
     add-i
     loop-less
     loop-again
-    same-length
+    same_length
     returns)

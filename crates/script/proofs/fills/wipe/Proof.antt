@@ -1,9 +1,9 @@
 -- `wipe` meets its contract: the part that is lent is filled with zeros.
-use borrow.Author.Needs.{needs}
+use borrow.Author.Rules.{rules}
 use native.Mathlib.Omega.{arith}
-use Rattle·script·proofs.proofs.Filled.{wipe-beyond, wipe-crossed, wipe-zeros}
-use Rattle·script·proofs.proofs.fills.wipe.Statement.{statement}
-use Rattle·script·proofs.proofs.fills.wipe.Tie as tie
+use Rattle.script.proofs.Filled.{wipe-beyond, wipe-crossed, wipe-zeros}
+use Rattle.script.proofs.fills.wipe.Statement.{statement}
+use Rattle.script.proofs.fills.wipe.Tie as tie
 
 returns : tie.Need-returns
 returns c = wipe-beyond _ _ _ (omega arith)
@@ -11,20 +11,20 @@ returns c = wipe-beyond _ _ _ (omega arith)
 returns-2 : tie.Need-returns-2
 returns-2 c = wipe-crossed _ _ _ (omega arith)
 
-part-zero-fill-start : tie.Need-part-zero-fill-start
-part-zero-fill-start c = search needs
+part-zero-fill-start : tie.Need-slice-bounds-zero-fill-start
+part-zero-fill-start c = search rules
 
-part-zero-fill-end : tie.Need-part-zero-fill-end
-part-zero-fill-end c = search needs
+part-zero-fill-end : tie.Need-slice-bounds-zero-fill-end
+part-zero-fill-end c = search rules
 
 zero-fill-requires : tie.Need-zero-fill-requires
-zero-fill-requires c κs = search needs
+zero-fill-requires c κs = search rules
 
-same-length : tie.Need-same-length
-same-length c = search needs
+same_length : tie.Need-same-length
+same_length c = search rules
 
 returns-3 : tie.Need-returns-3
-returns-3 c = wipe-zeros _ _ _ _ (omega arith) (omega arith) (c .before .before .zero-fill .ensures)
+returns-3 c = wipe-zeros _ _ _ _ (omega arith) (omega arith) c.before.before.zero-fill.ensures
 
 pub wipe-spec : {M : Type 1} → statement M
 wipe-spec =
@@ -35,5 +35,5 @@ wipe-spec =
     part-zero-fill-start
     part-zero-fill-end
     zero-fill-requires
-    same-length
+    same_length
     returns-3)

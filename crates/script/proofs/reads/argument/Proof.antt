@@ -1,33 +1,33 @@
 -- `argument` meets its contract: the part that goes to `number` is word k.
-use borrow.Author.Needs.{needs}
-use mathlib.Core.Path.{ap, _∙_}
-use Rattle·script·specs.specs.Numbers.{numberIn}
-use Rattle·script·proofs.proofs.Passing.{part-word}
-use Rattle·script·proofs.proofs.reads.argument.Statement.{statement}
-use Rattle·script·proofs.proofs.reads.argument.Tie as tie
+use borrow.Author.Rules.{rules}
+use mathlib.Core.Path.{ap, ◌∙◌}
+use Rattle.script.specs.Numbers.{number_in}
+use Rattle.script.proofs.Passing.{part-word}
+use Rattle.script.proofs.reads.argument.Statement.{statement}
+use Rattle.script.proofs.reads.argument.Tie as tie
 
 nth-requires : tie.Need-nth-requires
-nth-requires c κs = search needs
+nth-requires c κs = search rules
 
-sub-number : tie.Need-sub-number
-sub-number c = search needs
+sub_number : tie.Need-overflow-sub-number
+sub_number c = search rules
 
-part-number-start : tie.Need-part-number-start
-part-number-start c = search needs
+part-number-start : tie.Need-slice-bounds-number-start
+part-number-start c = search rules
 
-part-number-end : tie.Need-part-number-end
-part-number-end c = search needs
+part-number-end : tie.Need-slice-bounds-number-end
+part-number-end c = search rules
 
 number-requires : tie.Need-number-requires
-number-requires c κs = search needs
+number-requires c κs = search rules
 
 returns : tie.Need-returns
 returns c =
-    let a = c .before .before .before .before .args in
-    let n = c .before .before .nth .ensures in
-    c .number .ensures ∙ ap numberIn (part-word (a .text .now) (a .k) _ _ (n .0) (n .1 .0))
+    let a = c.before.before.before.before.args in
+    let n = c.before.before.nth.ensures in
+    c.number.ensures ∙ ap number_in (part-word a.text.now a.k _ _ n.0 n.1.0)
 
 pub argument-spec : {M : Type 1} → statement M
 argument-spec =
     tie.close
-    (tie.spec nth-requires sub-number part-number-start part-number-end number-requires returns)
+    (tie.spec nth-requires sub_number part-number-start part-number-end number-requires returns)

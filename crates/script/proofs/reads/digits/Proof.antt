@@ -1,68 +1,68 @@
 -- `digits` meets its contract. What the digits from here say behind the number so far is what all of them say.
-use Prim.Native.Nat.{_≤_, _-_}
-use mathlib.Core.Path.{_≡_, sym, _∙_}
+use Prim.Native.Nat.{◌≤◌, ◌-◌}
+use mathlib.Core.Path.{◌≡◌, sym, ◌∙◌}
 use lib.ListN.{length, drop}
-use Rattle·script·specs.specs.Numbers.{said}
-use Rattle·script·proofs.proofs.Said.{said-on, said-wrong, said-end}
-use borrow.Author.Needs.{needs}
+use Rattle.script.specs.Numbers.{said}
+use Rattle.script.proofs.Said.{said-on, said-wrong, said-end}
+use borrow.Author.Rules.{rules}
 use native.Mathlib.Omega.{arith}
-use Rattle·script·proofs.proofs.reads.digits.Statement.{statement}
-use Rattle·script·proofs.proofs.reads.digits.Tie as tie
+use Rattle.script.proofs.reads.digits.Statement.{statement}
+use Rattle.script.proofs.reads.digits.Tie as tie
 
-abbrev Inv-loop : tie.InvT-loop
-Inv-loop text from hex value₀ i₀ value i = (said hex 0 (drop from text) ≡ said hex value (drop i text)) × (i ≤ length text)
+abbrev invariant-loop : tie.invariant-loop
+invariant-loop text from hex value₀ i₀ value i = (said hex 0 (drop from text) ≡ said hex value (drop i text)) × (i ≤ length text)
 
-abbrev μ-loop : tie.MeasureT-loop
-μ-loop text from hex value₀ i₀ value i = length text - i
+abbrev decreases-loop : tie.decreases-loop
+decreases-loop text from hex value₀ i₀ value i = length text - i
 
-loop-holds : tie.Need-loop-holds Inv-loop μ-loop
-loop-holds c = search needs
+loop-holds : tie.Need-loop-init invariant-loop decreases-loop
+loop-holds c = search rules
 
-shared-slice-read-digit : tie.Need-shared-slice-read-digit Inv-loop μ-loop
-shared-slice-read-digit c = search needs
+shared-slice-read-digit : tie.Need-shared-slice-read-digit invariant-loop decreases-loop
+shared-slice-read-digit c = search rules
 
-digit-requires : tie.Need-digit-requires Inv-loop μ-loop
-digit-requires c κs = search needs
+digit-requires : tie.Need-digit-requires invariant-loop decreases-loop
+digit-requires c κs = search rules
 
-more-requires : tie.Need-more-requires Inv-loop μ-loop
-more-requires c κs = search needs
+more-requires : tie.Need-more-requires invariant-loop decreases-loop
+more-requires c κs = search rules
 
-enum-known-f : tie.Need-enum-known-f Inv-loop μ-loop
-enum-known-f c = search needs
+enum-known-f : tie.Need-enum-known-f invariant-loop decreases-loop
+enum-known-f c = search rules
 
-returns : tie.Need-returns Inv-loop μ-loop
+returns : tie.Need-returns invariant-loop decreases-loop
 returns c =
-    let l = c .before .before .before .before .before .before .before .loop in
-    let a = c .before .before .before .before .before .before .before .before .before .args in
-    sym (l .inv .0 ∙ said-wrong (a .hex) (l .value) (l .i) (a .text .now) (omega arith) _ (c .before .before .before .before .digit .ensures .0) _ (c .before .before .before .more .ensures) _ (c .before .f .given .1))
+    let l = c.before.before.before.before.before.before.before.loop in
+    let a = c.before.before.before.before.before.before.before.before.before.args in
+    sym (l.invariant.0 ∙ said-wrong a.hex l.value l.i a.text.now (omega arith) _ c.before.before.before.before.digit.ensures.0 _ c.before.before.before.more.ensures _ c.before.f.given.1)
 
-enum-known-v : tie.Need-enum-known-v Inv-loop μ-loop
-enum-known-v c = search needs
+enum-known-v : tie.Need-enum-known-v invariant-loop decreases-loop
+enum-known-v c = search rules
 
-add-i : tie.Need-add-i Inv-loop μ-loop
-add-i c = search needs
+add-i : tie.Need-overflow-add-i invariant-loop decreases-loop
+add-i c = search rules
 
-loop-less : tie.Need-loop-less Inv-loop μ-loop
-loop-less c = search needs
+loop-less : tie.Need-loop-smaller invariant-loop decreases-loop
+loop-less c = search rules
 
-loop-again : tie.Need-loop-again Inv-loop μ-loop
+loop-again : tie.Need-loop-preserved invariant-loop decreases-loop
 loop-again c =
-    let l = c .before .before .before .before .before .before .before .loop in
-    let a = c .before .before .before .before .before .before .before .before .before .args in
-    (l .inv .0 ∙ said-on (a .hex) (l .value) (l .i) (a .text .now) (omega arith) _ (c .before .before .before .before .digit .ensures .0) _ (c .before .before .before .more .ensures) _ (c .before .v .given .1), search needs)
+    let l = c.before.before.before.before.before.before.before.loop in
+    let a = c.before.before.before.before.before.before.before.before.before.args in
+    (l.invariant.0 ∙ said-on a.hex l.value l.i a.text.now (omega arith) _ c.before.before.before.before.digit.ensures.0 _ c.before.before.before.more.ensures _ c.before.v.given.1, search rules)
 
-returns-2 : tie.Need-returns-2 Inv-loop μ-loop
+returns-2 : tie.Need-returns-2 invariant-loop decreases-loop
 returns-2 c =
-    let l = c .before .loop in
-    let a = c .before .before .before .args in
-    sym (l .inv .0 ∙ said-end (a .hex) (l .value) (l .i) (a .text .now) (omega arith) (omega arith))
+    let l = c.before.loop in
+    let a = c.before.before.before.args in
+    sym (l.invariant.0 ∙ said-end a.hex l.value l.i a.text.now (omega arith) (omega arith))
 
 pub digits-spec : {M : Type 1} → statement M
 digits-spec =
     tie.close
     (tie.spec
-    Inv-loop
-    μ-loop
+    invariant-loop
+    decreases-loop
     loop-holds
     shared-slice-read-digit
     digit-requires

@@ -1,37 +1,37 @@
 -- `crc_entry` meets its contract. What the bits left make of the number so far is what eight make of i.
-use borrow.Author.Needs.{needs}
-use mathlib.Core.Path.{_≡_, sym, _∙_}
-use Rattle·script·specs.specs.Sums.{steps}
-use Rattle·script·proofs.proofs.Xors.{steps-end, steps-on}
+use borrow.Author.Rules.{rules}
+use mathlib.Core.Path.{◌≡◌, sym, ◌∙◌}
+use Rattle.script.specs.Sums.{steps}
+use Rattle.script.proofs.Xors.{steps-end, steps_on}
 use native.Mathlib.Omega.{arith}
-use Rattle·script·proofs.proofs.sums.crc_entry.Statement.{statement}
-use Rattle·script·proofs.proofs.sums.crc_entry.Tie as tie
+use Rattle.script.proofs.sums.crc_entry.Statement.{statement}
+use Rattle.script.proofs.sums.crc_entry.Tie as tie
 
-abbrev Inv-loop : tie.InvT-loop
-Inv-loop i c₀ turns₀ c turns = steps 8 i ≡ steps turns c
+abbrev invariant-loop : tie.invariant-loop
+invariant-loop i c₀ turns₀ c turns = steps 8 i ≡ steps turns c
 
-abbrev μ-loop : tie.MeasureT-loop
-μ-loop i c₀ turns₀ c turns = turns
+abbrev decreases-loop : tie.decreases-loop
+decreases-loop i c₀ turns₀ c turns = turns
 
-loop-holds : tie.Need-loop-holds Inv-loop μ-loop
-loop-holds c = search needs
+loop-holds : tie.Need-loop-init invariant-loop decreases-loop
+loop-holds c = search rules
 
-crc-step-requires : tie.Need-crc-step-requires Inv-loop μ-loop
-crc-step-requires c κs = search needs
+crc-step-requires : tie.Need-crc-step-requires invariant-loop decreases-loop
+crc-step-requires c κs = search rules
 
-sub-turns : tie.Need-sub-turns Inv-loop μ-loop
-sub-turns c = search needs
+sub-turns : tie.Need-overflow-sub-turns invariant-loop decreases-loop
+sub-turns c = search rules
 
-loop-less : tie.Need-loop-less Inv-loop μ-loop
-loop-less c = search needs
+loop-less : tie.Need-loop-smaller invariant-loop decreases-loop
+loop-less c = search rules
 
-loop-again : tie.Need-loop-again Inv-loop μ-loop
-loop-again c = c .before .before .loop .inv ∙ steps-on _ _ _ (omega arith) (c .crc-step .ensures)
+loop-again : tie.Need-loop-preserved invariant-loop decreases-loop
+loop-again c = c.before.before.loop.invariant ∙ steps_on _ _ _ (omega arith) c.crc-step.ensures
 
-returns : tie.Need-returns Inv-loop μ-loop
-returns c = sym (c .before .loop .inv ∙ steps-end _ _ (omega arith))
+returns : tie.Need-returns invariant-loop decreases-loop
+returns c = sym (c.before.loop.invariant ∙ steps-end _ _ (omega arith))
 
 pub crc-entry-spec : {M : Type 1} → statement M
 crc-entry-spec =
     tie.close
-    (tie.spec Inv-loop μ-loop loop-holds crc-step-requires sub-turns loop-less loop-again returns)
+    (tie.spec invariant-loop decreases-loop loop-holds crc-step-requires sub-turns loop-less loop-again returns)

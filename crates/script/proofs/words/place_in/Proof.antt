@@ -1,75 +1,75 @@
 -- `place_in` meets its contract. None of the first k words is w, and the walk is where they are over.
-use Prim.Native.Nat.{_≤_, _-_}
-use mathlib.Core.Path.{_≡_, ap, sym, _∙_}
+use Prim.Native.Nat.{◌≤◌, ◌-◌}
+use mathlib.Core.Path.{◌≡◌, ap, sym, ◌∙◌}
 use native.Mathlib.Nat.{sub-zero}
 use lib.ListN.{length}
-use Rattle·script·specs.specs.Words.{over, placeFrom, placeOf}
-use Rattle·script·proofs.proofs.Found.{place-on, place-stop, place-end}
-use Rattle·script·proofs.proofs.Passing.{over-more, word-is}
-use borrow.Author.Needs.{needs}
+use Rattle.script.specs.Words.{over, placeFrom, place_of}
+use Rattle.script.proofs.Found.{place-on, place-stop, place_end}
+use Rattle.script.proofs.Passing.{over-more, word-is}
+use borrow.Author.Rules.{rules}
 use native.Mathlib.Omega.{arith}
-use Rattle·script·proofs.proofs.words.place_in.Statement.{statement}
-use Rattle·script·proofs.proofs.words.place_in.Tie as tie
+use Rattle.script.proofs.words.place_in.Statement.{statement}
+use Rattle.script.proofs.words.place_in.Tie as tie
 
-abbrev Inv-loop : tie.InvT-loop
-Inv-loop list w at₀ k₀ at k = (placeOf list w ≡ placeFrom list w k (length list - k)) × (at ≡ over list k) × (at ≤ length list) × (k ≤ length list)
+abbrev invariant-loop : tie.invariant-loop
+invariant-loop list w at₀ k₀ at k = (place_of list w ≡ placeFrom list w k (length list - k)) × (at ≡ over list k) × (at ≤ length list) × (k ≤ length list)
 
-abbrev μ-loop : tie.MeasureT-loop
-μ-loop list w at₀ k₀ at k = length list - k
+abbrev decreases-loop : tie.decreases-loop
+decreases-loop list w at₀ k₀ at k = length list - k
 
-loop-holds : tie.Need-loop-holds Inv-loop μ-loop
+loop-holds : tie.Need-loop-init invariant-loop decreases-loop
 unfolding over
 loop-holds c =
-    let a = c .before .before .args in
-    (ap (placeFrom (a .list .now) (a .w .now) 0) (sym (sub-zero (length (a .list .now)))), search needs, search needs, search needs)
+    let a = c.before.before.args in
+    (ap (placeFrom a.list.now a.w.now 0) (sym (sub-zero (length a.list.now))), search rules, search rules, search rules)
 
-pass-requires : tie.Need-pass-requires Inv-loop μ-loop
-pass-requires c κs = search needs
+pass-requires : tie.Need-pass-requires invariant-loop decreases-loop
+pass-requires c κs = search rules
 
-pass-requires-2 : tie.Need-pass-requires-2 Inv-loop μ-loop
-pass-requires-2 c κs = search needs
+pass-requires-2 : tie.Need-pass-requires-2 invariant-loop decreases-loop
+pass-requires-2 c κs = search rules
 
-same-part-requires : tie.Need-same-part-requires Inv-loop μ-loop
-same-part-requires c κs = search needs
+same-part-requires : tie.Need-same-part-requires invariant-loop decreases-loop
+same-part-requires c κs = search rules
 
-returns : tie.Need-returns Inv-loop μ-loop
+returns : tie.Need-returns invariant-loop decreases-loop
 returns c =
-    let l = c .before .before .before .before .before .loop in
-    let a = c .before .before .before .before .before .before .before .before .args in
-    let w = word-is (a .list .now) (l .k) (l .at) _ _ (l .inv .1) (c .before .before .before .pass .ensures .0) (c .before .before .pass2 .ensures .0) in
-    sym (l .inv .0 ∙ place-stop (a .list .now) (a .w .now) (l .k) (length (a .list .now)) (c .before .before .before .pass .result) (c .before .before .pass2 .result) _ (omega arith) w (c .before .same-part .ensures) (c .if1 .taken))
+    let l = c.before.before.before.before.before.loop in
+    let a = c.before.before.before.before.before.before.before.before.args in
+    let w = word-is a.list.now l.k l.at _ _ l.invariant.1 c.before.before.before.pass.ensures.0 c.before.before.pass2.ensures.0 in
+    sym (l.invariant.0 ∙ place-stop a.list.now a.w.now l.k (length a.list.now) c.before.before.before.pass.result c.before.before.pass2.result _ (omega arith) w c.before.same-part.ensures c.if1.true)
 
-add-k : tie.Need-add-k Inv-loop μ-loop
-add-k c = search needs
+add-k : tie.Need-overflow-add-k invariant-loop decreases-loop
+add-k c = search rules
 
-loop-less : tie.Need-loop-less Inv-loop μ-loop
-loop-less c = search needs
+loop-less : tie.Need-loop-smaller invariant-loop decreases-loop
+loop-less c = search rules
 
-loop-again : tie.Need-loop-again Inv-loop μ-loop
+loop-again : tie.Need-loop-preserved invariant-loop decreases-loop
 loop-again c =
-    let l = c .before .before .before .before .before .loop in
-    let a = c .before .before .before .before .before .before .before .before .args in
-    let p = c .before .before .before .pass .ensures .0 in
-    let q = c .before .before .pass2 .ensures .0 in
-    let w = word-is (a .list .now) (l .k) (l .at) _ _ (l .inv .1) p q in (
-      l .inv .0 ∙ place-on (a .list .now) (a .w .now) (l .k) (length (a .list .now)) (c .before .before .before .pass .result) (c .before .before .pass2 .result) _ (omega arith) w (c .before .same-part .ensures) (c .if1 .left),
-      over-more (a .list .now) (l .k) (l .at) _ _ (l .inv .1) p q,
-      search needs,
-      search needs,
+    let l = c.before.before.before.before.before.loop in
+    let a = c.before.before.before.before.before.before.before.before.args in
+    let p = c.before.before.before.pass.ensures.0 in
+    let q = c.before.before.pass2.ensures.0 in
+    let w = word-is a.list.now l.k l.at _ _ l.invariant.1 p q in (
+      l.invariant.0 ∙ place-on a.list.now a.w.now l.k (length a.list.now) c.before.before.before.pass.result c.before.before.pass2.result _ (omega arith) w c.before.same-part.ensures c.if1.false,
+      over-more a.list.now l.k l.at _ _ l.invariant.1 p q,
+      search rules,
+      search rules,
     )
 
-returns-2 : tie.Need-returns-2 Inv-loop μ-loop
+returns-2 : tie.Need-returns-2 invariant-loop decreases-loop
 returns-2 c =
-    let l = c .before .loop in
-    let a = c .before .before .before .before .args in
-    sym (l .inv .0 ∙ place-end (a .list .now) (a .w .now) (l .k) (length (a .list .now)) (omega arith))
+    let l = c.before.loop in
+    let a = c.before.before.before.before.args in
+    sym (l.invariant.0 ∙ place_end a.list.now a.w.now l.k (length a.list.now) (omega arith))
 
 pub place-in-spec : {M : Type 1} → statement M
 place-in-spec =
     tie.close
     (tie.spec
-    Inv-loop
-    μ-loop
+    invariant-loop
+    decreases-loop
     loop-holds
     pass-requires
     pass-requires-2

@@ -1,16 +1,16 @@
 -- `decode_single` meets its contract: an arm says what the mode is, the last one what it is not.
-use borrow.Author.Tests.{ne-eqb}
-use Rattle·signals·specs.specs.Codes.{singleMode}
-use Rattle·signals·proofs.proofs.codes.decode_single.Statement.{statement}
-use Rattle·signals·proofs.proofs.codes.decode_single.Tie as tie
+use Rattle.std.proofs.Common.{ne_eqb}
+use Rattle.signals.specs.Codes.{singleMode}
+use Rattle.signals.proofs.codes.decode_single.Statement.{statement}
+use Rattle.signals.proofs.codes.decode_single.Tie as tie
 
 returns : tie.Need-returns
 unfolding singleMode
-returns c = rw (c .match .keys1)
+returns c = rw c.match.keys1
 
 returns-2 : tie.Need-returns-2
 unfolding singleMode
-returns-2 c = simp (ne-eqb _ _ (c .match .rest .1))
+returns-2 c = simp (ne_eqb _ _ c.match.rest.1)
 
 pub decode-single-spec : {M : Type 1} → statement M
 decode-single-spec = tie.close (tie.spec returns returns-2)

@@ -1,20 +1,20 @@
 -- `decode_write` meets its contract: an arm says what the mode is, the last one what it is not.
-use borrow.Author.Tests.{ne-eqb}
-use Rattle·signals·specs.specs.Codes.{writeMode}
-use Rattle·signals·proofs.proofs.codes.decode_write.Statement.{statement}
-use Rattle·signals·proofs.proofs.codes.decode_write.Tie as tie
+use Rattle.std.proofs.Common.{ne_eqb}
+use Rattle.signals.specs.Codes.{writeMode}
+use Rattle.signals.proofs.codes.decode_write.Statement.{statement}
+use Rattle.signals.proofs.codes.decode_write.Tie as tie
 
 returns : tie.Need-returns
 unfolding writeMode
-returns c = rw (c .match .keys1)
+returns c = rw c.match.keys1
 
 returns-2 : tie.Need-returns-2
 unfolding writeMode
-returns-2 c = rw (c .match .keys2)
+returns-2 c = rw c.match.keys2
 
 returns-3 : tie.Need-returns-3
 unfolding writeMode
-returns-3 c = simp (ne-eqb _ _ (c .match .rest .1), ne-eqb _ _ (c .match .rest .0 .1))
+returns-3 c = simp (ne_eqb _ _ c.match.rest.1, ne_eqb _ _ c.match.rest.0.1)
 
 pub decode-write-spec : {M : Type 1} → statement M
 decode-write-spec = tie.close (tie.spec returns returns-2 returns-3)

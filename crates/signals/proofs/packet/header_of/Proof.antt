@@ -1,12 +1,12 @@
 -- `header_of` meets its contract: field by field it is the definition.
-use borrow.Author.Needs.{needs}
-use Rattle·signals·specs.specs.Header.{headerOf}
-use Rattle·signals·proofs.proofs.packet.header_of.Statement.{statement}
-use Rattle·signals·proofs.proofs.packet.header_of.Tie as tie
+use Rattle.std.proofs.Common.{rules}
+use Rattle.signals.specs.Header.{headerOf}
+use Rattle.signals.proofs.packet.header_of.Statement.{statement}
+use Rattle.signals.proofs.packet.header_of.Tie as tie
 
 returns : tie.Need-returns
 unfolding headerOf
-returns c = search needs
+returns c = search rules
 
 pub header-of-spec : {M : Type 1} → statement M
 header-of-spec = tie.close (tie.spec returns)

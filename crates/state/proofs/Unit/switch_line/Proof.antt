@@ -1,12 +1,12 @@
 -- `switch_line` meets its contract: field by field it is the definition.
-use borrow.Author.Needs.{needs}
-use Rattle·state·specs.specs.Changes.{switchedLine}
-use Rattle·state·proofs.proofs.Unit.switch_line.Statement.{statement}
-use Rattle·state·proofs.proofs.Unit.switch_line.Tie as tie
+use borrow.Author.Rules.{rules}
+use Rattle.state.specs.Changes.{switchedLine}
+use Rattle.state.proofs.Unit.switch_line.Statement.{statement}
+use Rattle.state.proofs.Unit.switch_line.Tie as tie
 
 returns : tie.Need-returns
 unfolding switchedLine
-returns c = search needs
+returns c = search rules
 
 pub switch-line-spec : {M : Type 1} → statement M
 switch-line-spec = tie.close (tie.spec returns)

@@ -1,26 +1,26 @@
 -- `state_wrong` meets its contract: each part is what its function ensures.
-use borrow.Author.Needs.{needs}
-use Rattle·state·specs.specs.Checks.{stateWrong}
-use Rattle·state·proofs.proofs.check.state_wrong.Statement.{statement}
-use Rattle·state·proofs.proofs.check.state_wrong.Tie as tie
+use borrow.Author.Rules.{rules}
+use Rattle.state.specs.Checks.{stateWrong}
+use Rattle.state.proofs.check.state_wrong.Statement.{statement}
+use Rattle.state.proofs.check.state_wrong.Tie as tie
 
 tape-wrong-requires : tie.Need-tape-wrong-requires
-tape-wrong-requires c κs = search needs
+tape-wrong-requires c κs = search rules
 
 registers-wrong-requires : tie.Need-registers-wrong-requires
-registers-wrong-requires c κs = search needs
+registers-wrong-requires c κs = search rules
 
 buffer-wrong-requires : tie.Need-buffer-wrong-requires
-buffer-wrong-requires c κs = search needs
+buffer-wrong-requires c κs = search rules
 
 lengths-wrong-requires : tie.Need-lengths-wrong-requires
-lengths-wrong-requires c κs = search needs
+lengths-wrong-requires c κs = search rules
 
 returns : tie.Need-returns
 unfolding stateWrong
 returns c =
-    let r = c .before .before .before in
-    rw (c .lengths-wrong .ensures, c .before .buffer-wrong .ensures, r .registers-wrong .ensures, r .before .tape-wrong .ensures)
+    let r = c.before.before.before in
+    rw (c.lengths-wrong.ensures, c.before.buffer-wrong.ensures, r.registers-wrong.ensures, r.before.tape-wrong.ensures)
 
 pub state-wrong-spec : {M : Type 1} → statement M
 state-wrong-spec =

@@ -1,12 +1,12 @@
 -- `tape_wrong` meets its contract: it is the definition.
-use borrow.Author.Needs.{needs}
-use Rattle·state·specs.specs.Checks.{tapeWrong}
-use Rattle·state·proofs.proofs.check.tape_wrong.Statement.{statement}
-use Rattle·state·proofs.proofs.check.tape_wrong.Tie as tie
+use borrow.Author.Rules.{rules}
+use Rattle.state.specs.Checks.{tapeWrong}
+use Rattle.state.proofs.check.tape_wrong.Statement.{statement}
+use Rattle.state.proofs.check.tape_wrong.Tie as tie
 
 returns : tie.Need-returns
 unfolding tapeWrong
-returns c = search needs
+returns c = search rules
 
 pub tape-wrong-spec : {M : Type 1} → statement M
 tape-wrong-spec = tie.close (tie.spec returns)

@@ -1,78 +1,78 @@
 -- `step` meets its contract: refusal 11 for the objects before it, or for those after it, else the step.
-use mathlib.Core.Path.{ap, sym, _∙_}
-use Rattle·unit.specs.Steps.{tooSmall}
-use Rattle·steps·proofs.proofs.Outs.{small-stops}
-use Rattle·steps·proofs.proofs.Entered.{step-objects}
-use Rattle·steps·proofs.proofs.Readies.{cut-counted}
-use Rattle·unit.proofs.Rows.{small-now}
-use Rattle·unit.proofs.Rows.{enough-before}
-use Rattle·worlds.specs.Worlds.{worldOf}
-use borrow.Author.Needs.{needs}
-use Rattle·steps·proofs.proofs.steps.step.Statement.{statement}
-use Rattle·steps·proofs.proofs.steps.step.Tie as tie
+use mathlib.Core.Path.{ap, sym, ◌∙◌}
+use Rattle.unit.specs.Steps.{tooSmall}
+use Rattle.steps.proofs.Outs.{small-stops}
+use Rattle.steps.proofs.Entered.{step-objects}
+use Rattle.steps.proofs.Readies.{cut-counted}
+use Rattle.unit.proofs.Rows.{small-now}
+use Rattle.unit.proofs.Rows.{enough-before}
+use Rattle.worlds.specs.Worlds.{worldOf}
+use borrow.Author.Rules.{rules}
+use Rattle.steps.proofs.steps.step.Statement.{statement}
+use Rattle.steps.proofs.steps.step.Tie as tie
 
 too-small-requires : tie.Need-too-small-requires
-too-small-requires c κs = search needs
+too-small-requires c κs = search rules
 
 refused-requires : tie.Need-refused-requires
-refused-requires c κs = search needs
+refused-requires c κs = search rules
 
 returns : tie.Need-returns
-returns c = small-stops _ _ _ _ _ _ _ _ _ (small-now _ _ _ (sym (c .before .before .too-small .ensures) ∙ c .before .if1 .taken)) (c .refused .ensures .0) (c .refused .ensures .1)
+returns c = small-stops _ _ _ _ _ _ _ _ _ (small-now _ _ _ (sym c.before.before.too_small.ensures ∙ c.before.if1.true)) c.refused.ensures.0 c.refused.ensures.1
 
 cut-for-requires : tie.Need-cut-for-requires
-cut-for-requires c κs = enough-before _ _ _ (sym (c .before .before .before .before .too-small .ensures) ∙ c .before .before .before .if1 .left) .room
+cut-for-requires c κs = (enough-before _ _ _ (sym c.before.before.before.before.too_small.ensures ∙ c.before.before.before.if1.false)).room
 
 objects-after-requires : tie.Need-objects-after-requires
 objects-after-requires c κs =
-    let s = c .before .before .before .before .before .before .before .before .before .before in
-    cut-counted _ (s .args .table .now) _ (s .args .reel .now) _ (c .cut-for .ensures) (sym (c .before .before .before .before .before .too-small .ensures) ∙ c .before .before .before .before .if1 .left)
+    let s = c.before.before.before.before.before.before.before.before.before.before in
+    cut-counted _ s.args.table.now _ s.args.reel.now _ c.cut-for.ensures (sym c.before.before.before.before.before.too_small.ensures ∙ c.before.before.before.before.if1.false)
 
 too-small-requires-2 : tie.Need-too-small-requires-2
-too-small-requires-2 c κs = search needs
+too-small-requires-2 c κs = search rules
 
 refused-requires-2 : tie.Need-refused-requires-2
-refused-requires-2 c κs = search needs
+refused-requires-2 c κs = search rules
 
-same-length : tie.Need-same-length
-same-length c = search needs
+same_length : tie.Need-same-length
+same_length c = search rules
 
 same-length-2 : tie.Need-same-length-2
-same-length-2 c = search needs
+same-length-2 c = search rules
 
 returns-2 : tie.Need-returns-2
 returns-2 c =
-    let s = c .before .before .before .before .before .before .before .before .before .before .before .before .before .before in
-    let w = worldOf (s .args .k) (s .args .s) (s .args .mem .now) (s .args .reel .now) (s .args .table .now) (s .args .jrnl .now) in
-    let top = step-objects (w .core) (s .args .p) _ (c .before .before .before .before .cut-for .ensures) _ (c .before .before .before .objects-after .ensures) in
-    small-stops _ _ _ _ _ _ _ _ _ (sym (ap (tooSmall _ _) top) ∙ sym (c .before .before .too-small2 .ensures) ∙ c .before .if2 .taken) (c .refused2 .ensures .0) (c .refused2 .ensures .1)
+    let s = c.before.before.before.before.before.before.before.before.before.before.before.before.before.before in
+    let w = worldOf s.args.k s.args.s s.args.mem.now s.args.reel.now s.args.table.now s.args.jrnl.now in
+    let top = step-objects w.core s.args.p _ c.before.before.before.before.cut-for.ensures _ c.before.before.before.objects-after.ensures in
+    small-stops _ _ _ _ _ _ _ _ _ (sym (ap (tooSmall _ _) top) ∙ sym c.before.before.too-small2.ensures ∙ c.before.if2.true) c.refused2.ensures.0 c.refused2.ensures.1
 
 take-step-requires : tie.Need-take-step-requires
 take-step-requires c κs =
     record {
-      ready = c .before .before .before .before .before .before .before .before .before .before .before .before .before .before .before .before .before .pre;
-      cut = c .before .before .before .before .before .before .before .cut-for .ensures;
-      after = c .before .before .before .before .before .before .objects-after .ensures;
-      large = sym (c .before .before .before .before .before .too-small2 .ensures) ∙ c .before .before .before .before .if2 .left;
+      ready = c.before.before.before.before.before.before.before.before.before.before.before.before.before.before.before.before.before.requires;
+      cut = c.before.before.before.before.before.before.before.cut-for.ensures;
+      after = c.before.before.before.before.before.before.objects-after.ensures;
+      large = sym c.before.before.before.before.before.too-small2.ensures ∙ c.before.before.before.before.if2.false;
     }
 
 same-length-3 : tie.Need-same-length-3
-same-length-3 c = search needs
+same-length-3 c = search rules
 
 same-length-4 : tie.Need-same-length-4
-same-length-4 c = search needs
+same-length-4 c = search rules
 
 same-length-5 : tie.Need-same-length-5
-same-length-5 c = search needs
+same-length-5 c = search rules
 
 same-length-6 : tie.Need-same-length-6
-same-length-6 c = search needs
+same-length-6 c = search rules
 
 returns-3 : tie.Need-returns-3
-returns-3 c = c .before .before .before .before .before .before .before .before .take-step .ensures
+returns-3 c = c.before.before.before.before.before.before.before.before.take_step.ensures
 
-pub step-spec : {M : Type 1} → statement M
-step-spec =
+pub step_spec : {M : Type 1} → statement M
+step_spec =
     tie.close
     (tie.spec
     too-small-requires
@@ -82,7 +82,7 @@ step-spec =
     objects-after-requires
     too-small-requires-2
     refused-requires-2
-    same-length
+    same_length
     same-length-2
     returns-2
     take-step-requires

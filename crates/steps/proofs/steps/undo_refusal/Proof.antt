@@ -1,40 +1,40 @@
 -- `undo_refusal` is its definition.
-use borrow.Author.Needs.{needs}
+use borrow.Author.Rules.{rules}
 use borrow.Author.Tests.{not-false, not-true}
-use Rattle·steps·specs.specs.Readiness.{undoRefusal}
-use Rattle·steps·proofs.proofs.steps.undo_refusal.Statement.{statement}
-use Rattle·steps·proofs.proofs.steps.undo_refusal.Tie as tie
+use Rattle.steps.specs.Readiness.{undoRefusal}
+use Rattle.steps.proofs.steps.undo_refusal.Statement.{statement}
+use Rattle.steps.proofs.steps.undo_refusal.Tie as tie
 
 entry-fits-requires : tie.Need-entry-fits-requires
 entry-fits-requires c κs =
-    let s = c .before .before in
-    s .pre
+    let s = c.before.before in
+    s.requires
 
 returns : tie.Need-returns
 unfolding undoRefusal
-returns c = rw (← c .before .entry-fits .ensures, c .if1 .taken)
+returns c = rw (← c.before.entry-fits.ensures, c.if1.true)
 
 returns-2 : tie.Need-returns-2
 unfolding undoRefusal
-returns-2 c = rw (← c .before .before .entry-fits .ensures, c .before .if1 .left, c .if2 .taken)
+returns-2 c = rw (← c.before.before.entry-fits.ensures, c.before.if1.false, c.if2.true)
 
 state-wrong-requires : tie.Need-state-wrong-requires
-state-wrong-requires c κs = search needs
+state-wrong-requires c κs = search rules
 
 returns-3 : tie.Need-returns-3
 unfolding undoRefusal
-returns-3 c = rw (← c .before .before .before .before .entry-fits .ensures, c .before .before .before .if1 .left, c .before .before .if2 .left, ← c .before .state-wrong .ensures, c .if3 .taken)
+returns-3 c = rw (← c.before.before.before.before.entry-fits.ensures, c.before.before.before.if1.false, c.before.before.if2.false, ← c.before.state-wrong.ensures, c.if3.true)
 
 too-small-requires : tie.Need-too-small-requires
-too-small-requires c κs = search needs
+too-small-requires c κs = search rules
 
 returns-4 : tie.Need-returns-4
 unfolding undoRefusal
-returns-4 c = rw (← c .before .before .before .before .before .before .entry-fits .ensures, c .before .before .before .before .before .if1 .left, c .before .before .before .before .if2 .left, ← c .before .before .before .state-wrong .ensures, c .before .before .if3 .left, ← c .before .too-small .ensures, c .if4 .taken)
+returns-4 c = rw (← c.before.before.before.before.before.before.entry-fits.ensures, c.before.before.before.before.before.if1.false, c.before.before.before.before.if2.false, ← c.before.before.before.state-wrong.ensures, c.before.before.if3.false, ← c.before.too_small.ensures, c.if4.true)
 
 returns-5 : tie.Need-returns-5
 unfolding undoRefusal
-returns-5 c = rw (← c .before .before .before .before .before .before .entry-fits .ensures, c .before .before .before .before .before .if1 .left, c .before .before .before .before .if2 .left, ← c .before .before .before .state-wrong .ensures, c .before .before .if3 .left, ← c .before .too-small .ensures, c .if4 .left)
+returns-5 c = rw (← c.before.before.before.before.before.before.entry-fits.ensures, c.before.before.before.before.before.if1.false, c.before.before.before.before.if2.false, ← c.before.before.before.state-wrong.ensures, c.before.before.if3.false, ← c.before.too_small.ensures, c.if4.false)
 
 pub undo-refusal-spec : {M : Type 1} → statement M
 undo-refusal-spec =

@@ -1,21 +1,21 @@
 -- `move_data` meets its contract.
-use borrow.Author.Needs.{needs}
-use Rattle·storing·specs.specs.Stored.{movedOn}
-use Rattle·storing·proofs.proofs.stores.move_data.Statement.{statement}
-use Rattle·storing·proofs.proofs.stores.move_data.Tie as tie
+use borrow.Author.Rules.{rules}
+use Rattle.storing.specs.Stored.{movedOn}
+use Rattle.storing.proofs.stores.move_data.Statement.{statement}
+use Rattle.storing.proofs.stores.move_data.Tie as tie
 
-cast-read-record : tie.Need-cast-read-record
-cast-read-record c = search needs
+cast-read-record : tie.Need-overflow-cast-read-record
+cast-read-record c = search rules
 
 read-record-requires : tie.Need-read-record-requires
-read-record-requires c κs = search needs
+read-record-requires c κs = search rules
 
-same-length : tie.Need-same-length
-same-length c = search needs
+same_length : tie.Need-same-length
+same_length c = search rules
 
 returns : tie.Need-returns
 unfolding movedOn
-returns c = c .before .before .read-record .ensures
+returns c = c.before.before.read-record.ensures
 
 pub move-data-spec : {M : Type 1} → statement M
-move-data-spec = tie.close (tie.spec cast-read-record read-record-requires same-length returns)
+move-data-spec = tie.close (tie.spec cast-read-record read-record-requires same_length returns)

@@ -1,20 +1,20 @@
 -- `save_data` meets its contract: no byte fills an empty slice.
-use Rattle·touched·proofs.proofs.Empty.{none-gathered}
-use borrow.Author.Needs.{needs}
-use Rattle·touched·proofs.proofs.saving.save_data.Statement.{statement}
-use Rattle·touched·proofs.proofs.saving.save_data.Tie as tie
+use Rattle.touched.proofs.Empty.{none-gathered}
+use borrow.Author.Rules.{rules}
+use Rattle.touched.proofs.saving.save_data.Statement.{statement}
+use Rattle.touched.proofs.saving.save_data.Tie as tie
 
 returns : tie.Need-returns
-returns c = none-gathered _ _ _ _ (c .if1 .taken)
+returns c = none-gathered _ _ _ _ c.if1.true
 
 gather-requires : tie.Need-gather-requires
-gather-requires c κs = search needs
+gather-requires c κs = search rules
 
-same-length : tie.Need-same-length
-same-length c = search needs
+same_length : tie.Need-same-length
+same_length c = search rules
 
 returns-2 : tie.Need-returns-2
-returns-2 c = search needs
+returns-2 c = search rules
 
 pub save-data-spec : {M : Type 1} → statement M
 save-data-spec =
@@ -22,5 +22,5 @@ save-data-spec =
     (tie.spec
     returns
     gather-requires
-    same-length
+    same_length
     returns-2)

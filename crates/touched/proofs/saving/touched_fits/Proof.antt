@@ -1,20 +1,20 @@
-use borrow.Author.Needs.{needs}
-use Rattle·touched·specs.specs.Touches.{touchedFits}
-use Rattle·touched·proofs.proofs.saving.touched_fits.Statement.{statement}
-use Rattle·touched·proofs.proofs.saving.touched_fits.Tie as tie
+use borrow.Author.Rules.{rules}
+use Rattle.touched.specs.Touches.{touchedFits}
+use Rattle.touched.proofs.saving.touched_fits.Statement.{statement}
+use Rattle.touched.proofs.saving.touched_fits.Tie as tie
 
 run-fits-requires : tie.Need-run-fits-requires
-run-fits-requires c κs = search needs
+run-fits-requires c κs = search rules
 
 run-fits-requires-2 : tie.Need-run-fits-requires-2
-run-fits-requires-2 c κs = search needs
+run-fits-requires-2 c κs = search rules
 
 run-fits-requires-3 : tie.Need-run-fits-requires-3
-run-fits-requires-3 c κs = search needs
+run-fits-requires-3 c κs = search rules
 
 returns : tie.Need-returns
 unfolding touchedFits
-returns c = rw (c .before .before .run-fits .ensures, c .before .run-fits2 .ensures, c .run-fits3 .ensures)
+returns c = rw (c.before.before.run-fits.ensures, c.before.run-fits2.ensures, c.run-fits3.ensures)
 
 pub touched-fits-spec : {M : Type 1} → statement M
 touched-fits-spec =

@@ -1,24 +1,24 @@
 -- `act_of` meets its contract, act by act.
-use Rattle·ts11·specs.specs.Given.{actOf}
-use borrow.Author.Needs.{needs}
-use Rattle·ts11·proofs.proofs.answers.act_of.Statement.{statement}
-use Rattle·ts11·proofs.proofs.answers.act_of.Tie as tie
+use Rattle.ts11.specs.Given.{actOf}
+use borrow.Author.Rules.{rules}
+use Rattle.ts11.proofs.answers.act_of.Statement.{statement}
+use Rattle.ts11.proofs.answers.act_of.Tie as tie
 
 returns : tie.Need-returns
 unfolding actOf
-returns c = search needs
+returns c = search rules
 
 returns-2 : tie.Need-returns-2
 unfolding actOf
-returns-2 c = search needs
+returns-2 c = search rules
 
 returns-3 : tie.Need-returns-3
 unfolding actOf
-returns-3 c = search needs
+returns-3 c = search rules
 
 returns-4 : tie.Need-returns-4
 unfolding actOf
-returns-4 c = search needs
+returns-4 c = search rules
 
 pub act-of-spec : {M : Type 1} → statement M
 act-of-spec = tie.close (tie.spec returns returns-2 returns-3 returns-4)

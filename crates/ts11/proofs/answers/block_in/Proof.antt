@@ -1,38 +1,38 @@
 -- `block_in` meets its contract, answer by answer.
-use Rattle·commands.specs.Answers.{blockIn}
-use borrow.Author.Needs.{needs}
-use Rattle·ts11·proofs.proofs.answers.block_in.Statement.{statement}
-use Rattle·ts11·proofs.proofs.answers.block_in.Tie as tie
+use Rattle.commands.specs.Answers.{blockIn}
+use borrow.Author.Rules.{rules}
+use Rattle.ts11.proofs.answers.block_in.Statement.{statement}
+use Rattle.ts11.proofs.answers.block_in.Tie as tie
 
 enum-known-a : tie.Need-enum-known-a
-enum-known-a c = search needs
+enum-known-a c = search rules
 
-enum-told : tie.Need-enum-told
-enum-told c = search needs
+enum_told : tie.Need-enum-told
+enum_told c = search rules
 
 enum-told-2 : tie.Need-enum-told-2
-enum-told-2 c = search needs
+enum-told-2 c = search rules
 
 enum-told-3 : tie.Need-enum-told-3
-enum-told-3 c = search needs
+enum-told-3 c = search rules
 
 returns : tie.Need-returns
 unfolding blockIn
-returns c = search needs
+returns c = search rules
 
 returns-2 : tie.Need-returns-2
 unfolding blockIn
-returns-2 c = search needs
+returns-2 c = search rules
 
 returns-3 : tie.Need-returns-3
 unfolding blockIn
-returns-3 c = search needs
+returns-3 c = search rules
 
 returns-4 : tie.Need-returns-4
 unfolding blockIn
-returns-4 c = search needs
+returns-4 c = search rules
 
 pub block-in-spec : {M : Type 1} → statement M
 block-in-spec =
     tie.close
-    (tie.spec enum-known-a enum-told enum-told-2 enum-told-3 returns returns-2 returns-3 returns-4)
+    (tie.spec enum-known-a enum_told enum-told-2 enum-told-3 returns returns-2 returns-3 returns-4)

@@ -1,39 +1,39 @@
 -- `fault_in` meets its contract, answer by answer.
-use Rattle·commands.specs.Answers.{faultIn}
-use borrow.Author.Needs.{needs}
-use Rattle·ts11·proofs.proofs.answers.fault_in.Statement.{statement}
-use Rattle·ts11·proofs.proofs.answers.fault_in.Tie as tie
+use Rattle.commands.specs.Answers.{faultIn}
+use borrow.Author.Rules.{rules}
+use Rattle.ts11.proofs.answers.fault_in.Statement.{statement}
+use Rattle.ts11.proofs.answers.fault_in.Tie as tie
 
 enum-known-a : tie.Need-enum-known-a
-enum-known-a c = search needs
+enum-known-a c = search rules
 
 letter-requires : tie.Need-letter-requires
-letter-requires c κs = search needs
+letter-requires c κs = search rules
 
-enum-told : tie.Need-enum-told
-enum-told c = search needs
+enum_told : tie.Need-enum-told
+enum_told c = search rules
 
 enum-told-2 : tie.Need-enum-told-2
-enum-told-2 c = search needs
+enum-told-2 c = search rules
 
 enum-told-3 : tie.Need-enum-told-3
-enum-told-3 c = search needs
+enum-told-3 c = search rules
 
 returns : tie.Need-returns
 unfolding faultIn
-returns c = rw (c .before .before .a .given .1) (c .letter .ensures)
+returns c = rw c.before.before.a.given.1 c.letter.ensures
 
 returns-2 : tie.Need-returns-2
 unfolding faultIn
-returns-2 c = search needs
+returns-2 c = search rules
 
 returns-3 : tie.Need-returns-3
 unfolding faultIn
-returns-3 c = search needs
+returns-3 c = search rules
 
 returns-4 : tie.Need-returns-4
 unfolding faultIn
-returns-4 c = search needs
+returns-4 c = search rules
 
 pub fault-in-spec : {M : Type 1} → statement M
 fault-in-spec =
@@ -41,7 +41,7 @@ fault-in-spec =
     (tie.spec
     enum-known-a
     letter-requires
-    enum-told
+    enum_told
     enum-told-2
     enum-told-3
     returns

@@ -1,38 +1,38 @@
 -- `interrupts` meets its contract, answer by answer.
-use Rattle·commands.specs.Answers.{interruptIn}
-use borrow.Author.Needs.{needs}
-use Rattle·ts11·proofs.proofs.answers.interrupts.Statement.{statement}
-use Rattle·ts11·proofs.proofs.answers.interrupts.Tie as tie
+use Rattle.commands.specs.Answers.{interruptIn}
+use borrow.Author.Rules.{rules}
+use Rattle.ts11.proofs.answers.interrupts.Statement.{statement}
+use Rattle.ts11.proofs.answers.interrupts.Tie as tie
 
 enum-known-a : tie.Need-enum-known-a
-enum-known-a c = search needs
+enum-known-a c = search rules
 
-enum-told : tie.Need-enum-told
-enum-told c = search needs
+enum_told : tie.Need-enum-told
+enum_told c = search rules
 
 enum-told-2 : tie.Need-enum-told-2
-enum-told-2 c = search needs
+enum-told-2 c = search rules
 
 enum-told-3 : tie.Need-enum-told-3
-enum-told-3 c = search needs
+enum-told-3 c = search rules
 
 returns : tie.Need-returns
 unfolding interruptIn
-returns c = search needs
+returns c = search rules
 
 returns-2 : tie.Need-returns-2
 unfolding interruptIn
-returns-2 c = search needs
+returns-2 c = search rules
 
 returns-3 : tie.Need-returns-3
 unfolding interruptIn
-returns-3 c = search needs
+returns-3 c = search rules
 
 returns-4 : tie.Need-returns-4
 unfolding interruptIn
-returns-4 c = search needs
+returns-4 c = search rules
 
 pub interrupts-spec : {M : Type 1} → statement M
 interrupts-spec =
     tie.close
-    (tie.spec enum-known-a enum-told enum-told-2 enum-told-3 returns returns-2 returns-3 returns-4)
+    (tie.spec enum-known-a enum_told enum-told-2 enum-told-3 returns returns-2 returns-3 returns-4)

@@ -1,38 +1,38 @@
 -- `is_step` meets its contract, answer by answer.
-use Rattle·commands.specs.Answers.{isStep}
-use borrow.Author.Needs.{needs}
-use Rattle·ts11·proofs.proofs.answers.is_step.Statement.{statement}
-use Rattle·ts11·proofs.proofs.answers.is_step.Tie as tie
+use Rattle.commands.specs.Answers.{isStep}
+use borrow.Author.Rules.{rules}
+use Rattle.ts11.proofs.answers.is_step.Statement.{statement}
+use Rattle.ts11.proofs.answers.is_step.Tie as tie
 
-enum-told : tie.Need-enum-told
-enum-told c = search needs
+enum_told : tie.Need-enum-told
+enum_told c = search rules
 
 enum-told-2 : tie.Need-enum-told-2
-enum-told-2 c = search needs
+enum-told-2 c = search rules
 
 enum-told-3 : tie.Need-enum-told-3
-enum-told-3 c = search needs
+enum-told-3 c = search rules
 
 enum-told-4 : tie.Need-enum-told-4
-enum-told-4 c = search needs
+enum-told-4 c = search rules
 
 returns : tie.Need-returns
 unfolding isStep
-returns c = search needs
+returns c = search rules
 
 returns-2 : tie.Need-returns-2
 unfolding isStep
-returns-2 c = search needs
+returns-2 c = search rules
 
 returns-3 : tie.Need-returns-3
 unfolding isStep
-returns-3 c = search needs
+returns-3 c = search rules
 
 returns-4 : tie.Need-returns-4
 unfolding isStep
-returns-4 c = search needs
+returns-4 c = search rules
 
 pub is-step-spec : {M : Type 1} → statement M
 is-step-spec =
     tie.close
-    (tie.spec enum-told enum-told-2 enum-told-3 enum-told-4 returns returns-2 returns-3 returns-4)
+    (tie.spec enum_told enum-told-2 enum-told-3 enum-told-4 returns returns-2 returns-3 returns-4)

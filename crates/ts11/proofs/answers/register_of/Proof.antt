@@ -1,16 +1,16 @@
 -- `register_of` meets its contract.
-use Rattle·ts11·specs.specs.Given.{registerOf}
-use borrow.Author.Needs.{needs}
-use Rattle·ts11·proofs.proofs.answers.register_of.Statement.{statement}
-use Rattle·ts11·proofs.proofs.answers.register_of.Tie as tie
+use Rattle.ts11.specs.Given.{registerOf}
+use borrow.Author.Rules.{rules}
+use Rattle.ts11.proofs.answers.register_of.Statement.{statement}
+use Rattle.ts11.proofs.answers.register_of.Tie as tie
 
 returns : tie.Need-returns
 unfolding registerOf
-returns c = search needs
+returns c = search rules
 
 returns-2 : tie.Need-returns-2
 unfolding registerOf
-returns-2 c = search needs
+returns-2 c = search rules
 
 pub register-of-spec : {M : Type 1} → statement M
 register-of-spec = tie.close (tie.spec returns returns-2)

@@ -1,23 +1,23 @@
 -- `find_block` meets its contract: what was found is told as number, flag and place.
-use Rattle·ts11·proofs.proofs.Ways.{finds}
-use borrow.Author.Needs.{needs}
-use Rattle·ts11·proofs.proofs.finds.find_block.Statement.{statement}
-use Rattle·ts11·proofs.proofs.finds.find_block.Tie as tie
+use Rattle.ts11.proofs.Ways.{finds}
+use borrow.Author.Rules.{rules}
+use Rattle.ts11.proofs.finds.find_block.Statement.{statement}
+use Rattle.ts11.proofs.finds.find_block.Tie as tie
 
 block-given-requires : tie.Need-block-given-requires
-block-given-requires c κs = search needs
+block-given-requires c κs = search rules
 
 is-found-requires : tie.Need-is-found-requires
-is-found-requires c κs = search needs
+is-found-requires c κs = search rules
 
 place-found-requires : tie.Need-place-found-requires
-place-found-requires c κs = search needs
+place-found-requires c κs = search rules
 
 number-in-requires : tie.Need-number-in-requires
-number-in-requires c κs = search needs
+number-in-requires c κs = search rules
 
 returns : tie.Need-returns
-returns c = finds (c .before .before .before .block-given .ensures) (c .number-in .ensures) (c .before .before .is-found .ensures) (c .before .place-found .ensures)
+returns c = finds c.before.before.before.block-given.ensures c.number_in.ensures c.before.before.is_found.ensures c.before.place_found.ensures
 
 pub find-block-spec : {M : Type 1} → statement M
 find-block-spec = tie.close (tie.spec block-given-requires is-found-requires place-found-requires number-in-requires returns)

@@ -1,22 +1,22 @@
 -- `is_found` meets its contract.
-use Rattle·ts11·specs.specs.Finds.{isFound}
-use borrow.Author.Needs.{needs}
-use Rattle·ts11·proofs.proofs.finds.is_found.Statement.{statement}
-use Rattle·ts11·proofs.proofs.finds.is_found.Tie as tie
+use Rattle.ts11.specs.Finds.{isFound}
+use borrow.Author.Rules.{rules}
+use Rattle.ts11.proofs.finds.is_found.Statement.{statement}
+use Rattle.ts11.proofs.finds.is_found.Tie as tie
 
-enum-told : tie.Need-enum-told
-enum-told c = search needs
+enum_told : tie.Need-enum-told
+enum_told c = search rules
 
 enum-told-2 : tie.Need-enum-told-2
-enum-told-2 c = search needs
+enum-told-2 c = search rules
 
 returns : tie.Need-returns
 unfolding isFound
-returns c = search needs
+returns c = search rules
 
 returns-2 : tie.Need-returns-2
 unfolding isFound
-returns-2 c = search needs
+returns-2 c = search rules
 
 pub is-found-spec : {M : Type 1} → statement M
-is-found-spec = tie.close (tie.spec enum-told enum-told-2 returns returns-2)
+is-found-spec = tie.close (tie.spec enum_told enum-told-2 returns returns-2)

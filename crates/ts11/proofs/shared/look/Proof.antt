@@ -1,41 +1,41 @@
 -- `look` is its definition.
-use Rattle·ts11·proofs.proofs.Backing.{look-made, look-missed}
-use Rattle·records.specs.Records.{transportIn}
-use borrow.Author.Needs.{needs}
-use Rattle·ts11·proofs.proofs.shared.look.Statement.{statement}
-use Rattle·ts11·proofs.proofs.shared.look.Tie as tie
+use Rattle.ts11.proofs.Backing.{look-made, look-missed}
+use Rattle.records.specs.Records.{transportIn}
+use borrow.Author.Rules.{rules}
+use Rattle.ts11.proofs.shared.look.Statement.{statement}
+use Rattle.ts11.proofs.shared.look.Tie as tie
 
 element-copy-out-if1 : tie.Need-element-copy-out-if1
-element-copy-out-if1 c = search needs
+element-copy-out-if1 c = search rules
 
 transport-in-requires : tie.Need-transport-in-requires
-transport-in-requires c κs = search needs
+transport-in-requires c κs = search rules
 
 look-at-requires : tie.Need-look-at-requires
-look-at-requires c κs = search needs
+look-at-requires c κs = search rules
 
 record-right-requires : tie.Need-record-right-requires
-record-right-requires c κs = search needs
+record-right-requires c κs = search rules
 
 returns : tie.Need-returns
 unfolding transportIn
 returns c =
-    let s = c .before .before .before .before .before .before in
-    let a = s .args in
-    look-made (a .present) (a .memory) (a .t2) (a .reel) _ _ _ (c .before .before .before .transport-in .ensures) (c .before .before .look-at .ensures) (c .before .record-right .ensures) (c .before .before .before .before .if1 .taken)
+    let s = c.before.before.before.before.before.before in
+    let a = s.args in
+    look-made a.present a.memory a.t2 a.reel _ _ _ c.before.before.before.transport-in.ensures c.before.before.look_at.ensures c.before.record-right.ensures c.before.before.before.before.if1.true
 
 no-look-requires : tie.Need-no-look-requires
-no-look-requires c κs = search needs
+no-look-requires c κs = search rules
 
 returns-2 : tie.Need-returns-2
 unfolding transportIn
 returns-2 c =
-    let s = c .before .before .before in
-    let a = s .args in
-    look-missed (a .present) (a .memory) (a .t2) (a .reel) _ (c .no-look .ensures) (c .before .if1 .left)
+    let s = c.before.before.before in
+    let a = s.args in
+    look-missed a.present a.memory a.t2 a.reel _ c.no-look.ensures c.before.if1.false
 
-pub look-spec : {M : Type 1} → statement M
-look-spec =
+pub look_spec : {M : Type 1} → statement M
+look_spec =
     tie.close
     (tie.spec
     element-copy-out-if1

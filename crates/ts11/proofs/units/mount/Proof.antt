@@ -1,35 +1,34 @@
 -- `mount` meets its contract: what the journal's mount hands back is closed.
-use denote.Ref.{now}
 use lib.ListN.{length}
-use Rattle·worlds.specs.Calls.{mountOn}
-use Rattle·worlds.specs.declared.Session.{Session}
-use Rattle·ts11·proofs.proofs.Ways.{mounts}
-use borrow.Author.Needs.{needs}
-use Rattle·ts11·proofs.proofs.units.mount.Statement.{statement}
-use Rattle·ts11·proofs.proofs.units.mount.Tie as tie
+use Rattle.worlds.specs.Calls.{mountOn}
+use Rattle.worlds.specs.declared.Session.{Session}
+use Rattle.ts11.proofs.Ways.{mounts}
+use borrow.Author.Rules.{rules}
+use Rattle.ts11.proofs.units.mount.Statement.{statement}
+use Rattle.ts11.proofs.units.mount.Tie as tie
 
 session-in-requires : tie.Need-session-in-requires
-session-in-requires c κs = search needs
+session-in-requires c κs = search rules
 
 mount-requires : tie.Need-mount-requires
-mount-requires c κs = search needs
+mount-requires c κs = search rules
 
 block-in-requires : tie.Need-block-in-requires
-block-in-requires c κs = search needs
+block-in-requires c κs = search rules
 
 fault-in-requires : tie.Need-fault-in-requires
-fault-in-requires c κs = search needs
+fault-in-requires c κs = search rules
 
 close-requires : tie.Need-close-requires
-close-requires c κs = search needs
+close-requires c κs = search rules
 
-same-length : tie.Need-same-length
-same-length c = search needs
+same_length : tie.Need-same-length
+same_length c = search rules
 
 returns : tie.Need-returns
 returns c =
-    let a = c .before .before .before .before .before .before .before .before .before .before .before .before .args in
-    mounts (λ (s : Session). mountOn s (a .memory-length) (now (a .reel)) (length (now (a .table))) (a .journal-length) (a .end) (a .online) (a .locked)) _ _ _ _ _ _ _ _ _ _ _ (c .before .before .before .before .before .before .before .before .session-in .ensures) (c .before .before .before .before .before .before .mount .ensures .0) (c .before .before .before .before .before .before .mount .ensures .1) (c .close .ensures) (c .before .before .before .block-in .ensures) (c .before .before .fault-in .ensures)
+    let a = c.before.before.before.before.before.before.before.before.before.before.before.before.args in
+    mounts (λ (s : Session). mountOn s a.memory-length a.reel.now (length a.table.now) a.journal-length a.end a.online a.locked) _ _ _ _ _ _ _ _ _ _ _ c.before.before.before.before.before.before.before.before.session-in.ensures c.before.before.before.before.before.before.mount.ensures.0 c.before.before.before.before.before.before.mount.ensures.1 c.close.ensures c.before.before.before.block_in.ensures c.before.before.fault-in.ensures
 
 pub mount-spec : {M : Type 1} → statement M
 mount-spec =
@@ -40,5 +39,5 @@ mount-spec =
     block-in-requires
     fault-in-requires
     close-requires
-    same-length
+    same_length
     returns)

@@ -1,43 +1,43 @@
 -- `operate` meets its contract: refused with 1 where the numbers are no transport's record, else what the journal's call leaves.
 use mathlib.Core.Path.{ap}
-use Rattle·unit.specs.Asks.{Ask}
-use Rattle·ts11·proofs.proofs.Ways.{asked, step-goes, step-stops}
-use borrow.Author.Needs.{needs}
-use Rattle·ts11·proofs.proofs.units.operate.Statement.{statement}
-use Rattle·ts11·proofs.proofs.units.operate.Tie as tie
+use Rattle.unit.specs.Asks.{Ask}
+use Rattle.ts11.proofs.Ways.{asked, step-goes, step-stops}
+use borrow.Author.Rules.{rules}
+use Rattle.ts11.proofs.units.operate.Statement.{statement}
+use Rattle.ts11.proofs.units.operate.Tie as tie
 
 record-right-requires : tie.Need-record-right-requires
-record-right-requires c κs = search needs
+record-right-requires c κs = search rules
 
 no-record-requires : tie.Need-no-record-requires
-no-record-requires c κs = search needs
+no-record-requires c κs = search rules
 
 returns : tie.Need-returns
-returns c = step-stops _ _ _ _ _ _ _ _ (c .before .before .record-right .ensures) (c .before .if1 .taken) _ _ (c .no-record .ensures)
+returns c = step-stops _ _ _ _ _ _ _ _ c.before.before.record-right.ensures c.before.if1.true _ _ c.no_record.ensures
 
 session-in-requires : tie.Need-session-in-requires
-session-in-requires c κs = search needs
+session-in-requires c κs = search rules
 
 act-of-requires : tie.Need-act-of-requires
-act-of-requires c κs = search needs
+act-of-requires c κs = search rules
 
 operate-requires : tie.Need-operate-requires
-operate-requires c κs = search needs
+operate-requires c κs = search rules
 
 close-requires : tie.Need-close-requires
-close-requires c κs = search needs
+close-requires c κs = search rules
 
-same-length : tie.Need-same-length
-same-length c = search needs
+same_length : tie.Need-same-length
+same_length c = search rules
 
 same-length-2 : tie.Need-same-length-2
-same-length-2 c = search needs
+same-length-2 c = search rules
 
 same-length-3 : tie.Need-same-length-3
-same-length-3 c = search needs
+same-length-3 c = search rules
 
 returns-2 : tie.Need-returns-2
-returns-2 c = step-goes _ _ _ _ _ _ _ _ (c .before .before .before .before .before .before .before .before .before .before .before .before .before .before .before .before .record-right .ensures) _ _ _ _ _ _ (c .before .before .before .before .before .before .before .before .before .before .before .before .before .before .before .if1 .left) (c .before .before .before .before .before .before .before .before .before .before .before .before .before .session-in .ensures) _ (asked _ _ _ _ _ _ _ _ _ _ (ap Ask.operate (c .before .before .before .before .before .before .before .before .before .act-of .ensures)) (c .before .before .before .before .before .before .before .before .operate .ensures)) _ _ (c .close .ensures)
+returns-2 c = step-goes _ _ _ _ _ _ _ _ c.before.before.before.before.before.before.before.before.before.before.before.before.before.before.before.before.record-right.ensures _ _ _ _ _ _ c.before.before.before.before.before.before.before.before.before.before.before.before.before.before.before.if1.false c.before.before.before.before.before.before.before.before.before.before.before.before.before.session-in.ensures _ (asked _ _ _ _ _ _ _ _ _ _ (ap Ask.operate c.before.before.before.before.before.before.before.before.before.act-of.ensures) c.before.before.before.before.before.before.before.before.operate.ensures) _ _ c.close.ensures
 
 pub operate-spec : {M : Type 1} → statement M
 operate-spec =
@@ -50,7 +50,7 @@ operate-spec =
     act-of-requires
     operate-requires
     close-requires
-    same-length
+    same_length
     same-length-2
     same-length-3
     returns-2)

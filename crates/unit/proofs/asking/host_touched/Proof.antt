@@ -1,8 +1,8 @@
 -- `host_touched` is its definition.
-use Rattle·unit·specs.specs.Touching.{hostTouched}
+use Rattle.unit.specs.Touching.{hostTouched}
 use mathlib.Core.Path.{refl}
-use Rattle·unit·proofs.proofs.asking.host_touched.Statement.{statement}
-use Rattle·unit·proofs.proofs.asking.host_touched.Tie as tie
+use Rattle.unit.proofs.asking.host_touched.Statement.{statement}
+use Rattle.unit.proofs.asking.host_touched.Tie as tie
 
 returns : tie.Need-returns
 unfolding hostTouched

@@ -1,15 +1,15 @@
 -- `too_small` is its definition.
-use borrow.Author.Needs.{needs}
-use Rattle·unit·specs.specs.Steps.{tooSmall}
-use Rattle·unit·proofs.proofs.asking.too_small.Statement.{statement}
-use Rattle·unit·proofs.proofs.asking.too_small.Tie as tie
+use borrow.Author.Rules.{rules}
+use Rattle.unit.specs.Steps.{tooSmall}
+use Rattle.unit.proofs.asking.too_small.Statement.{statement}
+use Rattle.unit.proofs.asking.too_small.Tie as tie
 
 places-requires : tie.Need-places-requires
-places-requires c κs = search needs
+places-requires c κs = search rules
 
 returns : tie.Need-returns
 unfolding tooSmall
-returns c = rw (c .places .ensures)
+returns c = rw c.places.ensures
 
 pub too-small-spec : {M : Type 1} → statement M
 too-small-spec = tie.close (tie.spec places-requires returns)

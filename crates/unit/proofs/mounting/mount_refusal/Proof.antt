@@ -1,31 +1,31 @@
 -- `mount_refusal` meets its contract: both tests are the definition's.
-use borrow.Author.Needs.{needs}
+use borrow.Author.Rules.{rules}
 use borrow.Author.Tests.{not-true, not-false}
-use Rattle·unit·specs.specs.Mounts.{mountRefusal}
-use Rattle·unit·proofs.proofs.mounting.mount_refusal.Statement.{statement}
-use Rattle·unit·proofs.proofs.mounting.mount_refusal.Tie as tie
+use Rattle.unit.specs.Mounts.{mountRefusal}
+use Rattle.unit.proofs.mounting.mount_refusal.Statement.{statement}
+use Rattle.unit.proofs.mounting.mount_refusal.Tie as tie
 
 memory-right-requires : tie.Need-memory-right-requires
-memory-right-requires c κs = search needs
+memory-right-requires c κs = search rules
 
 returns : tie.Need-returns
 unfolding mountRefusal
-returns c = rw (← c .before .memory-right .ensures, not-true (c .before .memory-right .result) (c .if1 .taken))
+returns c = rw (← c.before.memory-right.ensures, not-true c.before.memory-right.result c.if1.true)
 
 blocks-right-requires : tie.Need-blocks-right-requires
-blocks-right-requires c κs = search needs
+blocks-right-requires c κs = search rules
 
 returns-2 : tie.Need-returns-2
 unfolding mountRefusal
 returns-2 c =
-    let m = c .before .before .before .memory-right in
-    rw (← m .ensures, not-false (m .result) (c .before .before .if1 .left), ← c .before .blocks-right .ensures, c .if2 .taken)
+    let m = c.before.before.before.memory-right in
+    rw (← m.ensures, not-false m.result c.before.before.if1.false, ← c.before.blocks-right.ensures, c.if2.true)
 
 returns-3 : tie.Need-returns-3
 unfolding mountRefusal
 returns-3 c =
-    let m = c .before .before .before .memory-right in
-    rw (← m .ensures, not-false (m .result) (c .before .before .if1 .left), ← c .before .blocks-right .ensures, c .if2 .left)
+    let m = c.before.before.before.memory-right in
+    rw (← m.ensures, not-false m.result c.before.before.if1.false, ← c.before.blocks-right.ensures, c.if2.false)
 
 pub mount-refusal-spec : {M : Type 1} → statement M
 mount-refusal-spec =

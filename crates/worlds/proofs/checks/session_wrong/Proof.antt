@@ -1,15 +1,15 @@
 -- `session_wrong` is its definition, by the call that looks at the state.
-use Rattle·worlds·specs.specs.Refusals.{sessionWrong}
-use borrow.Author.Needs.{needs}
-use Rattle·worlds·proofs.proofs.checks.session_wrong.Statement.{statement}
-use Rattle·worlds·proofs.proofs.checks.session_wrong.Tie as tie
+use Rattle.worlds.specs.Refusals.{sessionWrong}
+use borrow.Author.Rules.{rules}
+use Rattle.worlds.proofs.checks.session_wrong.Statement.{statement}
+use Rattle.worlds.proofs.checks.session_wrong.Tie as tie
 
 state-wrong-requires : tie.Need-state-wrong-requires
-state-wrong-requires c κs = search needs
+state-wrong-requires c κs = search rules
 
 returns : tie.Need-returns
 unfolding sessionWrong
-returns c = rw (c .before .before .state-wrong .ensures)
+returns c = rw c.before.before.state-wrong.ensures
 
 pub session-wrong-spec : {M : Type 1} → statement M
 session-wrong-spec = tie.close (tie.spec state-wrong-requires returns)

@@ -1,8 +1,8 @@
 -- `looks_standing` is its definition.
 use mathlib.Core.Path.{refl}
-use Rattle·worlds·specs.specs.Looks.{looksStanding}
-use Rattle·worlds·proofs.proofs.looks.looks_standing.Statement.{statement}
-use Rattle·worlds·proofs.proofs.looks.looks_standing.Tie as tie
+use Rattle.worlds.specs.Looks.{looksStanding}
+use Rattle.worlds.proofs.looks.looks_standing.Statement.{statement}
+use Rattle.worlds.proofs.looks.looks_standing.Tie as tie
 
 returns : tie.Need-returns
 unfolding looksStanding

@@ -1,15 +1,15 @@
 -- `coupler_wrong` is its definition, by the call that looks at memory's length.
-use borrow.Author.Needs.{needs}
-use Rattle·worlds·specs.specs.Rows.{couplerWrong}
-use Rattle·worlds·proofs.proofs.rows.coupler_wrong.Statement.{statement}
-use Rattle·worlds·proofs.proofs.rows.coupler_wrong.Tie as tie
+use borrow.Author.Rules.{rules}
+use Rattle.worlds.specs.Rows.{couplerWrong}
+use Rattle.worlds.proofs.rows.coupler_wrong.Statement.{statement}
+use Rattle.worlds.proofs.rows.coupler_wrong.Tie as tie
 
 memory-right-requires : tie.Need-memory-right-requires
-memory-right-requires c κs = search needs
+memory-right-requires c κs = search rules
 
 returns : tie.Need-returns
 unfolding couplerWrong
-returns c = rw (← c .before .before .memory-right .ensures)
+returns c = rw (← c.before.before.memory-right.ensures)
 
 pub coupler-wrong-spec : {M : Type 1} → statement M
 coupler-wrong-spec = tie.close (tie.spec memory-right-requires returns)
