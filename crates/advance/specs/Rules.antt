@@ -1,10 +1,10 @@
 -- Which commands a step speaks of, by code and mode. (01, "Advance, in order", steps 5 to 10)
 use Rattle.std.specs.Prelude.{Bool, true, false, ◌||◌, ◌&&◌, ℕ, eqb, ltb}
 use Rattle.lists.specs.Pick.{pick}
-use Rattle.tape.specs.Numbers.{recordLimit}
+use Rattle.tape.specs.Numbers.{record_limit}
 use Rattle.signals.specs.declared.codes.Command.{Command}
 use Rattle.signals.specs.declared.codes.Command.TheVariants as command
-use Rattle.signals.specs.Header.{hasPointer}
+use Rattle.signals.specs.Header.{has_pointer}
 use Rattle.signals.specs.declared.packet.Header.{Header}
 use Rattle.signals.specs.declared.packet.Packet.{Packet}
 use Rattle.signals.specs.declared.counts.Residual.{Residual}
@@ -12,15 +12,15 @@ use Rattle.signals.specs.declared.counts.Residual.TheVariants as residual
 use Rattle.state.specs.declared.Unit.{Unit}
 
 -- "The residual counts bytes for Read, records or marks for Position modes 0 to 3 .. Ended at steps 8 to 10 they give the whole count"
-unfoldable pub wholeCount : Header → ℕ → Residual
-wholeCount h count =
+unfoldable pub whole_count : Header → ℕ → Residual
+whole_count h count =
     pick (eqb h.code 1) (residual.Bytes (record { 0 = count }))
     (pick (eqb h.code 8 && ltb h.mode 2) (residual.Records (record { 0 = count }))
     (pick (eqb h.code 8 && ltb h.mode 4) (residual.Marks (record { 0 = count })) residual.Nothing))
 
 -- "Tape command (Read, Write, Position, Format, rewind and unload)"
-abbrev pub isTape : Header → Bool
-isTape h =
+abbrev pub is_tape : Header → Bool
+is_tape h =
     (((eqb h.code 1 || eqb h.code 5) || eqb h.code 8) || eqb h.code 9) || (eqb h.code 10 && eqb h.mode 1)
 
 -- "Write or Format"
@@ -28,52 +28,52 @@ abbrev pub writes : Header → Bool
 writes h = eqb h.code 5 || eqb h.code 9
 
 -- "reverse first stage .. (not a rewind)"
-abbrev pub reverseFirst : Header → Bool
-reverseFirst h =
+abbrev pub reverse_first : Header → Bool
+reverse_first h =
     (((eqb h.code 1 && (eqb h.mode 1 || eqb h.mode 2)) || (eqb h.code 5 && eqb h.mode 2))
     || (eqb h.code 8 && (eqb h.mode 1 || eqb h.mode 3)))
     || (eqb h.code 9 && eqb h.mode 2)
 
 -- "Codes 1, 4, 5: data extent"
-abbrev pub hasExtent : Header → Bool
-hasExtent h = hasPointer h.code
+abbrev pub has_extent : Header → Bool
+has_extent h = has_pointer h.code
 
-unfoldable pub isIllegal : Command → Bool
-isIllegal command.ReadNext = false
-isIllegal command.ReadPrevious = false
-isIllegal command.RereadPrevious = false
-isIllegal command.RereadNext = false
-isIllegal command.WriteCharacteristics = false
-isIllegal command.Write = false
-isIllegal command.WriteRetry = false
-isIllegal command.RecordsForward = false
-isIllegal command.RecordsReverse = false
-isIllegal command.MarksForward = false
-isIllegal command.MarksReverse = false
-isIllegal command.Rewind = false
-isIllegal command.WriteMark = false
-isIllegal command.Erase = false
-isIllegal command.MarkRetry = false
-isIllegal command.Release = false
-isIllegal command.Unload = false
-isIllegal command.Clean = false
-isIllegal command.Initialize = false
-isIllegal command.GetStatus = false
-isIllegal command.Illegal = true
+unfoldable pub is_illegal : Command → Bool
+is_illegal command.ReadNext = false
+is_illegal command.ReadPrevious = false
+is_illegal command.RereadPrevious = false
+is_illegal command.RereadNext = false
+is_illegal command.WriteCharacteristics = false
+is_illegal command.Write = false
+is_illegal command.WriteRetry = false
+is_illegal command.RecordsForward = false
+is_illegal command.RecordsReverse = false
+is_illegal command.MarksForward = false
+is_illegal command.MarksReverse = false
+is_illegal command.Rewind = false
+is_illegal command.WriteMark = false
+is_illegal command.Erase = false
+is_illegal command.MarkRetry = false
+is_illegal command.Release = false
+is_illegal command.Unload = false
+is_illegal command.Clean = false
+is_illegal command.Initialize = false
+is_illegal command.GetStatus = false
+is_illegal command.Illegal = true
 
 -- under any record limit
 module _ (limit : ℕ) where
   -- "a written length out of range"
-  abbrev pub lengthWrongUnder : Header → ℕ → Bool
-  lengthWrongUnder h count = eqb h.code 5 && (eqb count 0 || ltb limit count)
+  abbrev pub length_wrong_under : Header → ℕ → Bool
+  length_wrong_under h count = eqb h.code 5 && (eqb count 0 || ltb limit count)
 
   -- "reverse first stage at block 0 (not a rewind), NEF; a written length out of range, NEF"
-  unfoldable pub notExecutableUnder : Unit → Header → Packet → Bool
-  notExecutableUnder u h p = (reverseFirst h && eqb u.tape.position 0) || lengthWrongUnder h p.count
+  unfoldable pub not_executable_under : Unit → Header → Packet → Bool
+  not_executable_under u h p = (reverse_first h && eqb u.tape.position 0) || length_wrong_under h p.count
 
 -- and under this unit's own
-abbrev pub lengthWrong : Header → ℕ → Bool
-lengthWrong = lengthWrongUnder recordLimit
+abbrev pub length_wrong : Header → ℕ → Bool
+length_wrong = length_wrong_under record_limit
 
-abbrev pub notExecutable : Unit → Header → Packet → Bool
-notExecutable = notExecutableUnder recordLimit
+abbrev pub not_executable : Unit → Header → Packet → Bool
+not_executable = not_executable_under record_limit

@@ -1,11 +1,11 @@
 // Advance, in order: a function for each step of the paper, each going on to the next.
 ghost use Rattle.std.specs.Prelude.{◌≡◌, ◌+◌, ◌<◌, ◌≤◌, ltb};
-ghost use Rattle.tape.specs.Numbers.{capacityLimit};
-ghost use Rattle.signals.specs.Numbers.{packetBytes, pointerLimit};
+ghost use Rattle.tape.specs.Numbers.{capacity_limit};
+ghost use Rattle.signals.specs.Numbers.{packet_bytes, pointer_limit};
 ghost use Rattle.lists.specs.Pick.{pick};
 ghost use Rattle.commands.specs.Ends.{plan_of};
-ghost use Rattle.advance.specs.Rules.{hasExtent, isIllegal, isTape, lengthWrong, notExecutable, reverseFirst, wholeCount, writes};
-ghost use Rattle.advance.specs.Steps.{advanced, attended, rejected, stepAttention, stepExecutable, stepExtent, stepFetch, stepHeader, stepIllegal, stepNoBuffer, stepOwner, stepPointer, stepVolume};
+ghost use Rattle.advance.specs.Rules.{has_extent, is_illegal, is_tape, length_wrong, not_executable, reverse_first, whole_count, writes};
+ghost use Rattle.advance.specs.Steps.{advanced, attended, rejected, step_attention, step_executable, step_extent, step_fetch, step_header, step_illegal, step_no_buffer, step_owner, step_pointer, step_volume};
 
 use commands::{Answer, Course, How, Plan, carry_out, plan_of, still_plan, told_course};
 use lists::word;
@@ -30,7 +30,7 @@ fn reject(u: Unit, ie: bool, class: usize, found: u16, residual: Residual) -> Co
 
 // The whole count: bytes for Read, records or marks for Position modes 0 to 3, else 0.
 fn whole_count(h: Header, count: u16) -> Residual
-    ensures { result ≡ wholeCount h count }
+    ensures { result ≡ whole_count h count }
 {
     if h.code == 1 {
         return Residual::Bytes(ByteCount(count));
@@ -46,7 +46,7 @@ fn whole_count(h: Header, count: u16) -> Residual
 
 // Read, Write, Position, Format, rewind and unload.
 fn is_tape(h: Header) -> bool
-    ensures { result ≡ isTape h }
+    ensures { result ≡ is_tape h }
 {
     (h.code == 1) | (h.code == 5) | (h.code == 8) | (h.code == 9) | ((h.code == 10) & (h.mode == 1))
 }
@@ -59,7 +59,7 @@ fn writes_tape(h: Header) -> bool
 
 // The first stage goes in reverse.
 fn reverse_first(h: Header) -> bool
-    ensures { result ≡ reverseFirst h }
+    ensures { result ≡ reverse_first h }
 {
     ((h.code == 1) & ((h.mode == 1) | (h.mode == 2)))
         | ((h.code == 5) & (h.mode == 2))
@@ -68,19 +68,19 @@ fn reverse_first(h: Header) -> bool
 }
 
 fn length_wrong(h: Header, count: u16) -> bool
-    ensures { result ≡ lengthWrong h count }
+    ensures { result ≡ length_wrong h count }
 {
     (h.code == 5) & ((count == 0) | (Geometry::RECORD_LIMIT < count as usize))
 }
 
 fn has_extent(h: Header) -> bool
-    ensures { result ≡ hasExtent h }
+    ensures { result ≡ has_extent h }
 {
     signals::has_pointer(h.code)
 }
 
 fn is_illegal(c: Command) -> bool
-    ensures { result ≡ isIllegal c }
+    ensures { result ≡ is_illegal c }
 {
     match c {
         Command::ReadNext => false,
@@ -109,8 +109,8 @@ fn is_illegal(c: Command) -> bool
 
 // 10. Data extent past the end of memory: NXM, class 5.
 fn step_extent(u: Unit, mem: &[u8], reel: &[u8], h: Header, p: Packet) -> Course
-    requires { (u.tape.end ≤ capacityLimit) × (p.pointer < pointerLimit) }
-    ensures { plan_of result ≡ stepExtent u mem.now reel.now h p }
+    requires { (u.tape.end ≤ capacity_limit) × (p.pointer < pointer_limit) }
+    ensures { plan_of result ≡ step_extent u mem.now reel.now h p }
 {
     if has_extent(h) & (mem.len() < p.pointer + p.count as usize) {
         return reject(u, h.ie, 5, 0, whole_count(h, p.count));
@@ -120,15 +120,15 @@ fn step_extent(u: Unit, mem: &[u8], reel: &[u8], h: Header, p: Packet) -> Course
 
 // What keeps a command of step 9 from running, but for the write lock.
 fn not_executable(u: Unit, h: Header, p: Packet) -> bool
-    ensures { result ≡ notExecutable u h p }
+    ensures { result ≡ not_executable u h p }
 {
     (reverse_first(h) & (u.tape.position == 0)) | length_wrong(h, p.count)
 }
 
 // 9. Off line or VCK: NEF. Write lock: NEF and WLE. Reverse at block 0, a written length out of range: NEF.
 fn step_executable(u: Unit, mem: &[u8], reel: &[u8], h: Header, p: Packet) -> Course
-    requires { (u.tape.end ≤ capacityLimit) × (p.pointer < pointerLimit) }
-    ensures { plan_of result ≡ stepExecutable u mem.now reel.now h p }
+    requires { (u.tape.end ≤ capacity_limit) × (p.pointer < pointer_limit) }
+    ensures { plan_of result ≡ step_executable u mem.now reel.now h p }
 {
     if is_tape(h) & ((!u.panel.online) | u.panel.vck) {
         return reject(u, h.ie, 3, signals::NEF, whole_count(h, p.count));
@@ -150,8 +150,8 @@ fn step_executable(u: Unit, mem: &[u8], reel: &[u8], h: Header, p: Packet) -> Co
 
 // 8. Pointer bits above A17, or odd pointer in Write Characteristics: ILA, class 3.
 fn step_pointer(u: Unit, mem: &[u8], reel: &[u8], h: Header, p: Packet) -> Course
-    requires { (u.tape.end ≤ capacityLimit) × (p.pointer < pointerLimit) }
-    ensures { plan_of result ≡ stepPointer u mem.now reel.now h p }
+    requires { (u.tape.end ≤ capacity_limit) × (p.pointer < pointer_limit) }
+    ensures { plan_of result ≡ step_pointer u mem.now reel.now h p }
 {
     if p.high | ((h.code == 4) & (p.pointer % 2 == 1)) {
         return reject(u, h.ie, 3, signals::ILA, whole_count(h, p.count));
@@ -161,16 +161,16 @@ fn step_pointer(u: Unit, mem: &[u8], reel: &[u8], h: Header, p: Packet) -> Cours
 
 // Does the packet end past memory? All four words are fetched, whichever the command uses.
 fn overhangs(room: usize, at: usize) -> bool
-    requires { at < pointerLimit }
-    ensures { result ≡ ltb room (at + packetBytes) }
+    requires { at < pointer_limit }
+    ensures { result ≡ ltb room (at + packet_bytes) }
 {
     room < at + signals::PACKET_BYTES
 }
 
 // 7. One of the packet's eight bytes outside memory: NXM, class 5.
 fn step_fetch(u: Unit, mem: &[u8], reel: &[u8], h: Header) -> Course
-    requires { (u.tape.end ≤ capacityLimit) × (u.registers.pointer < pointerLimit) }
-    ensures { plan_of result ≡ stepFetch u mem.now reel.now h }
+    requires { (u.tape.end ≤ capacity_limit) × (u.registers.pointer < pointer_limit) }
+    ensures { plan_of result ≡ step_fetch u mem.now reel.now h }
 {
     let at = u.registers.pointer;
     if overhangs(mem.len(), at) {
@@ -181,8 +181,8 @@ fn step_fetch(u: Unit, mem: &[u8], reel: &[u8], h: Header) -> Course
 
 // 6. NBA set and not Write Characteristics: class 3.
 fn step_no_buffer(u: Unit, mem: &[u8], reel: &[u8], h: Header) -> Course
-    requires { (u.tape.end ≤ capacityLimit) × (u.registers.pointer < pointerLimit) }
-    ensures { plan_of result ≡ stepNoBuffer u mem.now reel.now h }
+    requires { (u.tape.end ≤ capacity_limit) × (u.registers.pointer < pointer_limit) }
+    ensures { plan_of result ≡ step_no_buffer u mem.now reel.now h }
 {
     if u.registers.nba & (h.code != 4) {
         return reject(u, h.ie, 3, 0, Residual::Nothing);
@@ -192,8 +192,8 @@ fn step_no_buffer(u: Unit, mem: &[u8], reel: &[u8], h: Header) -> Course
 
 // 5. Bits 7:5 neither 000 nor 100, or unknown code or mode: ILC, class 3.
 fn step_illegal(u: Unit, mem: &[u8], reel: &[u8], h: Header) -> Course
-    requires { (u.tape.end ≤ capacityLimit) × (u.registers.pointer < pointerLimit) }
-    ensures { plan_of result ≡ stepIllegal u mem.now reel.now h }
+    requires { (u.tape.end ≤ capacity_limit) × (u.registers.pointer < pointer_limit) }
+    ensures { plan_of result ≡ step_illegal u mem.now reel.now h }
 {
     if (!h.plain) | is_illegal(signals::decode(h.code, h.mode)) {
         return reject(u, h.ie, 3, signals::ILC, Residual::Nothing);
@@ -203,8 +203,8 @@ fn step_illegal(u: Unit, mem: &[u8], reel: &[u8], h: Header) -> Course
 
 // 4. CVC clears VCK.
 fn step_volume(u: Unit, mem: &[u8], reel: &[u8], h: Header) -> Course
-    requires { (u.tape.end ≤ capacityLimit) × (u.registers.pointer < pointerLimit) }
-    ensures { plan_of result ≡ stepVolume u mem.now reel.now h }
+    requires { (u.tape.end ≤ capacity_limit) × (u.registers.pointer < pointer_limit) }
+    ensures { plan_of result ≡ step_volume u mem.now reel.now h }
 {
     let mut v = u;
     let vck = u.panel.vck & !h.cvc;
@@ -223,8 +223,8 @@ fn attend(u: Unit, ie: bool) -> Course
 
 // 3. Attention pending and the unit owns the buffer: the command is lost.
 fn step_attention(u: Unit, mem: &[u8], reel: &[u8], h: Header) -> Course
-    requires { (u.tape.end ≤ capacityLimit) × (u.registers.pointer < pointerLimit) }
-    ensures { plan_of result ≡ stepAttention u mem.now reel.now h }
+    requires { (u.tape.end ≤ capacity_limit) × (u.registers.pointer < pointer_limit) }
+    ensures { plan_of result ≡ step_attention u mem.now reel.now h }
 {
     if u.attention.pending {
         return attend(u, h.ie);
@@ -234,8 +234,8 @@ fn step_attention(u: Unit, mem: &[u8], reel: &[u8], h: Header) -> Course
 
 // 2. ACK gives the message buffer to the unit. No ACK while the CPU owns it: class 0, no message, the command isn't run.
 fn step_owner(u: Unit, mem: &[u8], reel: &[u8], h: Header) -> Course
-    requires { (u.tape.end ≤ capacityLimit) × (u.registers.pointer < pointerLimit) }
-    ensures { plan_of result ≡ stepOwner u mem.now reel.now h }
+    requires { (u.tape.end ≤ capacity_limit) × (u.registers.pointer < pointer_limit) }
+    ensures { plan_of result ≡ step_owner u mem.now reel.now h }
 {
     let owns = u.attention.unit_owns | h.ack;
     let mut v = u;
@@ -252,8 +252,8 @@ fn step_owner(u: Unit, mem: &[u8], reel: &[u8], h: Header) -> Course
 
 // 1. Header word outside memory: NXM, class 5, no message, no interrupt, the message buffer's owner kept.
 fn step_header(u: Unit, mem: &[u8], reel: &[u8]) -> Course
-    requires { (u.tape.end ≤ capacityLimit) × (u.registers.pointer < pointerLimit) }
-    ensures { plan_of result ≡ stepHeader u mem.now reel.now }
+    requires { (u.tape.end ≤ capacity_limit) × (u.registers.pointer < pointer_limit) }
+    ensures { plan_of result ≡ step_header u mem.now reel.now }
 {
     let at = u.registers.pointer;
     if mem.len() < at + 2 {
@@ -268,8 +268,8 @@ fn step_header(u: Unit, mem: &[u8], reel: &[u8]) -> Course
 
 // The command that waits, or the attention that goes out with the release's IE.
 fn course(u: Unit, mem: &[u8], reel: &[u8]) -> Course
-    requires { (u.tape.end ≤ capacityLimit) × (u.registers.pointer < pointerLimit) }
-    ensures { plan_of result ≡ pick u.registers.ssr (attended u u.attention.release_ie) (stepHeader u mem.now reel.now) }
+    requires { (u.tape.end ≤ capacity_limit) × (u.registers.pointer < pointer_limit) }
+    ensures { plan_of result ≡ pick u.registers.ssr (attended u u.attention.release_ie) (step_header u mem.now reel.now) }
 {
     if u.registers.ssr {
         return attend(u, u.attention.release_ie);
@@ -279,7 +279,7 @@ fn course(u: Unit, mem: &[u8], reel: &[u8]) -> Course
 
 // What an advance is about to do. With no command waiting, and no attention that the unit may send, nothing.
 pub fn plan_advance(u: Unit, mem: &[u8], reel: &[u8]) -> Plan
-    requires { (u.tape.end ≤ capacityLimit) × (u.registers.pointer < pointerLimit) }
+    requires { (u.tape.end ≤ capacity_limit) × (u.registers.pointer < pointer_limit) }
     ensures { result ≡ advanced u mem.now reel.now }
 {
     if u.registers.ssr & !(u.attention.pending & u.attention.unit_owns) {

@@ -6,29 +6,29 @@ use native.Mathlib.Omega.{arith}
 use lib.ListN.{length, take, drop}
 use lib.Seq.{drop_at, length-take-le, take-add, take-take}
 use lib.Dec.{eqb}
-use Rattle.lists.specs.Words.{word_at, wordSum}
-use Rattle.lists.proofs.Sums.{sum-split}
-use Rattle.tape.specs.Numbers.{checkModulus, summedBytes, summedWords}
-use Rattle.tape.specs.Layout.{checkOf}
-use Rattle.tape.specs.Reading.{checkRight}
+use Rattle.lists.specs.Words.{word_at, word_sum}
+use Rattle.lists.proofs.Sums.{sum_split}
+use Rattle.tape.specs.Numbers.{check_modulus, summed_bytes, summed_words}
+use Rattle.tape.specs.Layout.{check_of}
+use Rattle.tape.specs.Reading.{check_right}
 
-module _ (b : List ℕ) (w : ℕ) (long : summedBytes ≤ length b) (low : w ≤ summedWords) where
-  in_two : take summedBytes b ≡ take (2 * w) b ++ take (summedBytes - 2 * w) (drop (2 * w) b)
+module _ (b : List ℕ) (w : ℕ) (long : summed_bytes ≤ length b) (low : w ≤ summed_words) where
+  in_two : take summed_bytes b ≡ take (2 * w) b ++ take (summed_bytes - 2 * w) (drop (2 * w) b)
   in_two =
-      let e : summedBytes ≡ 2 * w + (summedBytes - 2 * w) = omega arith in
-      ap (λ (n : ℕ). take n b) e ∙ take-add (2 * w) (summedBytes - 2 * w) b
+      let e : summed_bytes ≡ 2 * w + (summed_bytes - 2 * w) = omega arith in
+      ap (λ (n : ℕ). take n b) e ∙ take-add (2 * w) (summed_bytes - 2 * w) b
 
-  second : drop (2 * w) (take summedBytes b) ≡ take (summedBytes - 2 * w) (drop (2 * w) b)
-  second = rw in_two (drop_at (take (2 * w) b) (take (summedBytes - 2 * w) (drop (2 * w) b)) (2 * w) (length-take-le (2 * w) b (omega arith)))
+  second : drop (2 * w) (take summed_bytes b) ≡ take (summed_bytes - 2 * w) (drop (2 * w) b)
+  second = rw in_two (drop_at (take (2 * w) b) (take (summed_bytes - 2 * w) (drop (2 * w) b)) (2 * w) (length-take-le (2 * w) b (omega arith)))
 
   -- the second run, as the words of the part that is lent
-  pub second-lent : take (2 * (summedWords - w)) (take (summedBytes - 2 * w) (drop (2 * w) b)) ≡ drop (2 * w) (take summedBytes b)
-  second-lent =
-      let e : 2 * (summedWords - w) ≡ summedBytes - 2 * w = omega arith in
-      rw (e, second) (take-take (summedBytes - 2 * w) (summedBytes - 2 * w) (drop (2 * w) b) (omega arith))
+  pub second_lent : take (2 * (summed_words - w)) (take (summed_bytes - 2 * w) (drop (2 * w) b)) ≡ drop (2 * w) (take summed_bytes b)
+  second_lent =
+      let e : 2 * (summed_words - w) ≡ summed_bytes - 2 * w = omega arith in
+      rw (e, second) (take-take (summed_bytes - 2 * w) (summed_bytes - 2 * w) (drop (2 * w) b) (omega arith))
 
-  pub check-in-two : checkRight b ≡ eqb (word_at b summedBytes) ((wordSum (take (2 * w) b) + wordSum (drop (2 * w) (take summedBytes b))) % checkModulus)
-  unfolding checkRight checkOf
-  check-in-two =
-      let e : wordSum (take summedBytes b) ≡ wordSum (take (2 * w) b) + wordSum (drop (2 * w) (take summedBytes b)) = rw second (ap wordSum in_two ∙ sum-split w b (take (summedBytes - 2 * w) (drop (2 * w) b)) (omega arith)) in
-      ap (λ (n : ℕ). eqb (word_at b summedBytes) (n % checkModulus)) e
+  pub check_in_two : check_right b ≡ eqb (word_at b summed_bytes) ((word_sum (take (2 * w) b) + word_sum (drop (2 * w) (take summed_bytes b))) % check_modulus)
+  unfolding check_right check_of
+  check_in_two =
+      let e : word_sum (take summed_bytes b) ≡ word_sum (take (2 * w) b) + word_sum (drop (2 * w) (take summed_bytes b)) = rw second (ap word_sum in_two ∙ sum_split w b (take (summed_bytes - 2 * w) (drop (2 * w) b)) (omega arith)) in
+      ap (λ (n : ℕ). eqb (word_at b summed_bytes) (n % check_modulus)) e

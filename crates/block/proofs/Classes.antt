@@ -7,107 +7,107 @@ use borrow.Author.Tests.{le-ltb, lt-ltb}
 use lib.ListN.{length}
 use Rattle.lists.specs.Pick.{pick}
 use Rattle.lists.specs.Words.{word_at}
-use Rattle.tape.specs.Numbers.{blockBytes}
-use Rattle.tape.specs.Reading.{block_at, checkRight, class_at, classAtUnder, classBy, classByUnder, class_of, classOfUnder, indexRight, kind_of, kindRight, lengthRight, orDamaged, paddingRight, usedOf}
+use Rattle.tape.specs.Numbers.{block_bytes}
+use Rattle.tape.specs.Reading.{block_at, check_right, class_at, class_at_under, class_by, class_by_under, class_of, class_of_under, index_right, kind_of, kind_right, length_right, or_damaged, padding_right, used_of}
 use Rattle.tape.specs.declared.BlockFault.{BlockFault}
 use Rattle.tape.specs.declared.BlockFault.TheVariants as fault
 use Rattle.tape.proofs.Accepted.{clash}
-use Rattle.block.specs.Halves.{bodyRight, wrongBy, wrongIn, headRight}
+use Rattle.block.specs.Halves.{body_right, wrong_by, wrong_in, head_right}
 use Rattle.tape.specs.declared.Block.{Block}
 use Rattle.tape.specs.declared.Block.TheVariants as block
 
-true-false : true ≡ false → ⊥
-true-false e = clash (cc e)
+true_false : true ≡ false → ⊥
+true_false e = clash (cc e)
 
 -- three tests, then two, told by the first that fails
 by_three : (p q r : Bool) (x : Block) (g : BlockFault) → (p && (q && r)) ≡ false
-    → block.Damaged (pick p (pick q (pick r g fault.Index) fault.Length) fault.Kind) ≡ orDamaged fault.Kind p (orDamaged fault.Length q (orDamaged fault.Index r x))
+    → block.Damaged (pick p (pick q (pick r g fault.Index) fault.Length) fault.Kind) ≡ or_damaged fault.Kind p (or_damaged fault.Length q (or_damaged fault.Index r x))
 by_three false q r x g h = refl
 by_three true false r x g h = refl
 by_three true true false x g h = refl
-by_three true true true x g h = absurd (true-false h)
+by_three true true true x g h = absurd (true_false h)
 
-by_two : (p q : Bool) (x : Block) → (p && q) ≡ false → block.Damaged (pick p fault.Check fault.Padding) ≡ orDamaged fault.Padding p (orDamaged fault.Check q x)
+by_two : (p q : Bool) (x : Block) → (p && q) ≡ false → block.Damaged (pick p fault.Check fault.Padding) ≡ or_damaged fault.Padding p (or_damaged fault.Check q x)
 by_two false q x h = refl
 by_two true false x h = refl
-by_two true true x h = absurd (true-false h)
+by_two true true x h = absurd (true_false h)
 
 -- past all that are right
-past_three : (p q r : Bool) (x : Block) → (p && (q && r)) ≡ true → orDamaged fault.Kind p (orDamaged fault.Length q (orDamaged fault.Index r x)) ≡ x
+past_three : (p q r : Bool) (x : Block) → (p && (q && r)) ≡ true → or_damaged fault.Kind p (or_damaged fault.Length q (or_damaged fault.Index r x)) ≡ x
 past_three true true true x h = refl
-past_three false q r x h = absurd (true-false (sym h))
-past_three true false r x h = absurd (true-false (sym h))
-past_three true true false x h = absurd (true-false (sym h))
+past_three false q r x h = absurd (true_false (sym h))
+past_three true false r x h = absurd (true_false (sym h))
+past_three true true false x h = absurd (true_false (sym h))
 
 past_words : (p q r : Bool) (g : BlockFault) → (p && (q && r)) ≡ true → pick p (pick q (pick r g fault.Index) fault.Length) fault.Kind ≡ g
 past_words true true true g h = refl
-past_words false q r g h = absurd (true-false (sym h))
-past_words true false r g h = absurd (true-false (sym h))
-past_words true true false g h = absurd (true-false (sym h))
+past_words false q r g h = absurd (true_false (sym h))
+past_words true false r g h = absurd (true_false (sym h))
+past_words true true false g h = absurd (true_false (sym h))
 
-past_two : (p q : Bool) (x : Block) → (p && q) ≡ true → orDamaged fault.Padding p (orDamaged fault.Check q x) ≡ x
+past_two : (p q : Bool) (x : Block) → (p && q) ≡ true → or_damaged fault.Padding p (or_damaged fault.Check q x) ≡ x
 past_two true true x h = refl
-past_two false q x h = absurd (true-false (sym h))
-past_two true false x h = absurd (true-false (sym h))
+past_two false q x h = absurd (true_false (sym h))
+past_two true false x h = absurd (true_false (sym h))
 
 -- the three words go by the names under which a caller has read them
 module _ (b : List ℕ) (k n i : ℕ) (p : k ≡ word_at b 0) (q : n ≡ word_at b 2) (r : i ≡ word_at b 4) where
-  by-words : classBy b k n i ≡ class_of b
-  unfolding classOfUnder
-  by-words = cc
+  by_words : class_by b k n i ≡ class_of b
+  unfolding class_of_under
+  by_words = cc
 
-  words-wrong : wrongBy b k n i ≡ wrongIn b
-  unfolding wrongIn
-  words-wrong = cc
+  words_wrong : wrong_by b k n i ≡ wrong_in b
+  unfolding wrong_in
+  words_wrong = cc
 
   -- the fault, one law for each that can be the first
-  pub fault-kind : kindRight k ≡ false → fault.Kind ≡ wrongIn b
-  unfolding wrongBy
-  fault-kind a = rw (← words-wrong, a)
+  pub fault_kind : kind_right k ≡ false → fault.Kind ≡ wrong_in b
+  unfolding wrong_by
+  fault_kind a = rw (← words_wrong, a)
 
-  pub fault-length : kindRight k ≡ true → lengthRight k n ≡ false → fault.Length ≡ wrongIn b
-  unfolding wrongBy
-  fault-length a c = rw (← words-wrong, a, c)
+  pub fault_length : kind_right k ≡ true → length_right k n ≡ false → fault.Length ≡ wrong_in b
+  unfolding wrong_by
+  fault_length a c = rw (← words_wrong, a, c)
 
-  pub fault-index : kindRight k ≡ true → lengthRight k n ≡ true → indexRight k n i ≡ false → fault.Index ≡ wrongIn b
-  unfolding wrongBy
-  fault-index a c d = rw (← words-wrong, a, c, d)
+  pub fault_index : kind_right k ≡ true → length_right k n ≡ true → index_right k n i ≡ false → fault.Index ≡ wrong_in b
+  unfolding wrong_by
+  fault_index a c d = rw (← words_wrong, a, c, d)
 
-  pub fault-padding : {x : ℕ} → kindRight k ≡ true → lengthRight k n ≡ true → indexRight k n i ≡ true → x ≡ usedOf k n i → paddingRight b x ≡ false → fault.Padding ≡ wrongIn b
-  unfolding wrongBy
-  fault-padding a c d u e = rw (← words-wrong, a, c, d, ← u, e)
+  pub fault_padding : {x : ℕ} → kind_right k ≡ true → length_right k n ≡ true → index_right k n i ≡ true → x ≡ used_of k n i → padding_right b x ≡ false → fault.Padding ≡ wrong_in b
+  unfolding wrong_by
+  fault_padding a c d u e = rw (← words_wrong, a, c, d, ← u, e)
 
-  pub fault-check : {x : ℕ} → kindRight k ≡ true → lengthRight k n ≡ true → indexRight k n i ≡ true → x ≡ usedOf k n i → paddingRight b x ≡ true → fault.Check ≡ wrongIn b
-  unfolding wrongBy
-  fault-check a c d u e = rw (← words-wrong, a, c, d, ← u, e)
+  pub fault_check : {x : ℕ} → kind_right k ≡ true → length_right k n ≡ true → index_right k n i ≡ true → x ≡ used_of k n i → padding_right b x ≡ true → fault.Check ≡ wrong_in b
+  unfolding wrong_by
+  fault_check a c d u e = rw (← words_wrong, a, c, d, ← u, e)
 
-  pub class-head : {f : BlockFault} → headRight k n i ≡ false → f ≡ wrongIn b → block.Damaged f ≡ class_of b
-  unfolding classByUnder headRight wrongBy
-  class-head h e = ap block.Damaged (e ∙ sym words-wrong) ∙ by_three (kindRight k) (lengthRight k n) (indexRight k n i) _ _ h ∙ by-words
+  pub class_head : {f : BlockFault} → head_right k n i ≡ false → f ≡ wrong_in b → block.Damaged f ≡ class_of b
+  unfolding class_by_under head_right wrong_by
+  class_head h e = ap block.Damaged (e ∙ sym words_wrong) ∙ by_three (kind_right k) (length_right k n) (index_right k n i) _ _ h ∙ by_words
 
   -- a right head leaves padding and check
-  by-body : headRight k n i ≡ true → orDamaged fault.Padding (paddingRight b (usedOf k n i)) (orDamaged fault.Check (checkRight b) (kind_of k n i)) ≡ class_of b
-  unfolding classByUnder headRight
-  by-body h = sym (past_three (kindRight k) (lengthRight k n) (indexRight k n i) _ h) ∙ by-words
+  by_body : head_right k n i ≡ true → or_damaged fault.Padding (padding_right b (used_of k n i)) (or_damaged fault.Check (check_right b) (kind_of k n i)) ≡ class_of b
+  unfolding class_by_under head_right
+  by_body h = sym (past_three (kind_right k) (length_right k n) (index_right k n i) _ h) ∙ by_words
 
-  body-wrong : headRight k n i ≡ true → wrongBy b k n i ≡ pick (paddingRight b (usedOf k n i)) fault.Check fault.Padding
-  unfolding wrongBy headRight
-  body-wrong h = past_words (kindRight k) (lengthRight k n) (indexRight k n i) _ h
+  body_wrong : head_right k n i ≡ true → wrong_by b k n i ≡ pick (padding_right b (used_of k n i)) fault.Check fault.Padding
+  unfolding wrong_by head_right
+  body_wrong h = past_words (kind_right k) (length_right k n) (index_right k n i) _ h
 
-  pub class-body : {x : ℕ} {f : BlockFault} → headRight k n i ≡ true → x ≡ usedOf k n i → bodyRight b x ≡ false → f ≡ wrongIn b → block.Damaged f ≡ class_of b
-  unfolding bodyRight
-  class-body h u e d =
-      ap block.Damaged (d ∙ sym words-wrong ∙ body-wrong h) ∙ by_two (paddingRight b (usedOf k n i)) (checkRight b) (kind_of k n i) (rw u at e) ∙ by-body h
+  pub class_body : {x : ℕ} {f : BlockFault} → head_right k n i ≡ true → x ≡ used_of k n i → body_right b x ≡ false → f ≡ wrong_in b → block.Damaged f ≡ class_of b
+  unfolding body_right
+  class_body h u e d =
+      ap block.Damaged (d ∙ sym words_wrong ∙ body_wrong h) ∙ by_two (padding_right b (used_of k n i)) (check_right b) (kind_of k n i) (rw u at e) ∙ by_body h
 
-  pub class-right : {x : ℕ} {t : Block} → headRight k n i ≡ true → x ≡ usedOf k n i → bodyRight b x ≡ true → t ≡ kind_of k n i → t ≡ class_of b
-  unfolding bodyRight
-  class-right h u e o = o ∙ sym (past_two (paddingRight b (usedOf k n i)) (checkRight b) _ (rw u at e)) ∙ by-body h
+  pub class_right : {x : ℕ} {t : Block} → head_right k n i ≡ true → x ≡ used_of k n i → body_right b x ≡ true → t ≡ kind_of k n i → t ≡ class_of b
+  unfolding body_right
+  class_right h u e o = o ∙ sym (past_two (padding_right b (used_of k n i)) (check_right b) _ (rw u at e)) ∙ by_body h
 
 module _ (s : List ℕ) (k : ℕ) where
-  pub class-outside : length s / blockBytes ≤ k → block.Damaged fault.Index ≡ class_at s k
-  unfolding classAtUnder
-  class-outside h = simp (le-ltb k (length s / blockBytes) h)
+  pub class_outside : length s / block_bytes ≤ k → block.Damaged fault.Index ≡ class_at s k
+  unfolding class_at_under
+  class_outside h = simp (le-ltb k (length s / block_bytes) h)
 
-  pub class-inside : {r : Block} → k < length s / blockBytes → r ≡ class_of (block_at s k) → r ≡ class_at s k
-  unfolding classAtUnder
-  class-inside h e = simp (lt-ltb k (length s / blockBytes) h) e
+  pub class_inside : {r : Block} → k < length s / block_bytes → r ≡ class_of (block_at s k) → r ≡ class_at s k
+  unfolding class_at_under
+  class_inside h e = simp (lt-ltb k (length s / block_bytes) h) e

@@ -7,10 +7,10 @@ use borrow.Author.Tests.{eq-eqb, ne_eqb}
 use lib.Dec.{eqb}
 use lib.ListN.{length, take, drop, get_or}
 use lib.Seq.{take-add, take-take}
-use Rattle.lists.specs.Words.{word_at, wordSum}
-use Rattle.lists.proofs.Sums.{sum-split}
-use Rattle.block.specs.Sums.{longAt, longSum}
-use Rattle.tape.specs.Numbers.{checkModulus}
+use Rattle.lists.specs.Words.{word_at, word_sum}
+use Rattle.lists.proofs.Sums.{sum_split}
+use Rattle.block.specs.Sums.{long_at, long_sum}
+use Rattle.tape.specs.Numbers.{check_modulus}
 
 -- four times a number by recursion, since `4 * suc j` does not compute
 abbrev four : ℕ → ℕ
@@ -21,8 +21,8 @@ four_is : (j : ℕ) → four j ≡ 4 * j
 four_is zero = refl
 four_is (suc j) = omega (arith, four_is j)
 
-step : (j : ℕ) (l : List ℕ) → four (suc j) ≤ length l → longSum (take (four (suc j)) l) ≡ longSum (take (four j) l) + (get_or l (four j) 0 + 256 * get_or l (suc (four j)) 0 + 65536 * (get_or l (suc (suc (four j))) 0 + 256 * get_or l (suc (suc (suc (four j)))) 0))
-unfolding longSum
+step : (j : ℕ) (l : List ℕ) → four (suc j) ≤ length l → long_sum (take (four (suc j)) l) ≡ long_sum (take (four j) l) + (get_or l (four j) 0 + 256 * get_or l (suc (four j)) 0 + 65536 * (get_or l (suc (suc (four j))) 0 + 256 * get_or l (suc (suc (suc (four j)))) 0))
+unfolding long_sum
 step j [] h = absurd (omega arith)
 step j (a ∷ []) h = absurd (omega arith)
 step j (a ∷ (b ∷ [])) h = absurd (omega arith)
@@ -31,7 +31,7 @@ step zero (a ∷ (b ∷ (c ∷ (d ∷ r)))) h = omega arith
 step (suc j) (a ∷ (b ∷ (c ∷ (d ∷ r)))) h = omega (arith, step j r (omega arith))
 
 -- one number more
-more : (j : ℕ) (l : List ℕ) → 4 * j + 3 < length l → longSum (take (4 * (j + 1)) l) ≡ longSum (take (4 * j) l) + longAt l (4 * j)
+more : (j : ℕ) (l : List ℕ) → 4 * j + 3 < length l → long_sum (take (4 * (j + 1)) l) ≡ long_sum (take (4 * j) l) + long_at l (4 * j)
 more j l h =
     let e : 4 * (j + 1) ≡ four (suc j) = omega (arith, four_is j) in
     let f : 4 * j ≡ four j = omega (arith, four_is j) in
@@ -41,8 +41,8 @@ more j l h =
     rw (e, r, q, p, f) (step j l (omega (arith, four_is j)))
 
 -- two numbers more
-pub two-more : (j : ℕ) (l : List ℕ) → 8 * j + 7 < length l → longSum (take (8 * (j + 1)) l) ≡ longSum (take (8 * j) l) + (longAt l (8 * j) + longAt l (8 * j + 4))
-two-more j l h =
+pub two_more : (j : ℕ) (l : List ℕ) → 8 * j + 7 < length l → long_sum (take (8 * (j + 1)) l) ≡ long_sum (take (8 * j) l) + (long_at l (8 * j) + long_at l (8 * j + 4))
+two_more j l h =
     let a : 8 * j ≡ 4 * (2 * j) = omega arith in
     let b : 8 * j + 4 ≡ 4 * (2 * j + 1) = omega arith in
     let c : 8 * (j + 1) ≡ 4 * (2 * j + 1 + 1) = omega arith in
@@ -51,11 +51,11 @@ two-more j l h =
 -- the words and the numbers of one list, and how the two sums differ
 pub record Folds (s t : ℕ) : Type 0 where
   pub over : ℕ
-  pub is : s ≡ t + checkModulus * over
+  pub is : s ≡ t + check_modulus * over
   pub least : over ≤ t
 
-folds : (j : ℕ) (l : List ℕ) → four j ≤ length l → Folds (longSum (take (four j) l)) (wordSum (take (four j) l))
-unfolding longSum wordSum
+folds : (j : ℕ) (l : List ℕ) → four j ≤ length l → Folds (long_sum (take (four j) l)) (word_sum (take (four j) l))
+unfolding long_sum word_sum
 folds zero l h = record { over = 0; is = refl; least = omega arith }
 folds (suc j) [] h = absurd (omega arith)
 folds (suc j) (a ∷ []) h = absurd (omega arith)
@@ -65,36 +65,36 @@ folds (suc j) (a ∷ (b ∷ (c ∷ (d ∷ r)))) h =
     let f = folds j r (omega arith) in
     record { over = c + 256 * d + f.over; is = omega (arith, f.is); least = omega (arith, f.least) }
 
-none-by : (s t k : ℕ) → s ≡ t + checkModulus * k → k ≤ t → eqb s 0 ≡ eqb t 0
-none-by s zero k e h = eq-eqb s 0 (omega arith) ∙ sym (eq-eqb 0 0 refl)
-none-by s (suc t) k e h = ne_eqb s 0 (λ (z : s ≡ 0). omega arith) ∙ sym (ne_eqb (suc t) 0 (λ (z : suc t ≡ 0). omega arith))
+none_by : (s t k : ℕ) → s ≡ t + check_modulus * k → k ≤ t → eqb s 0 ≡ eqb t 0
+none_by s zero k e h = eq-eqb s 0 (omega arith) ∙ sym (eq-eqb 0 0 refl)
+none_by s (suc t) k e h = ne_eqb s 0 (λ (z : s ≡ 0). omega arith) ∙ sym (ne_eqb (suc t) 0 (λ (z : suc t ≡ 0). omega arith))
 
 module _ (s t : ℕ) (f : Folds s t) where
-  pub fold_same : s % checkModulus ≡ t % checkModulus
+  pub fold_same : s % check_modulus ≡ t % check_modulus
   fold_same = omega (arith, f.is)
 
-  pub fold-none : eqb s 0 ≡ eqb t 0
-  fold-none = none-by s t f.over f.is f.least
+  pub fold_none : eqb s 0 ≡ eqb t 0
+  fold_none = none_by s t f.over f.is f.least
 
 -- the first n words: runs of eight bytes as numbers, and the words left over
 module _ (b : List ℕ) (n : ℕ) (long : 2 * n ≤ length b) where
   abbrev cut : ℕ
   cut = 8 * (n / 4)
 
-  parts : wordSum (take (2 * n) b) ≡ wordSum (take cut b) + wordSum (take (2 * (n % 4)) (drop cut b))
+  parts : word_sum (take (2 * n) b) ≡ word_sum (take cut b) + word_sum (take (2 * (n % 4)) (drop cut b))
   parts =
       let e : 2 * n ≡ cut + 2 * (n % 4) = omega arith in
       let c : cut ≡ 2 * (4 * (n / 4)) = omega arith in
       let whole : take (2 * n) b ≡ take cut b ++ take (2 * (n % 4)) (drop cut b) = ap (λ (k : ℕ). take k b) e ∙ take-add cut (2 * (n % 4)) b in
-      ap wordSum whole ∙ rw c (sum-split (4 * (n / 4)) b (take (2 * (n % 4)) (drop (2 * (4 * (n / 4))) b)) (omega arith))
+      ap word_sum whole ∙ rw c (sum_split (4 * (n / 4)) b (take (2 * (n % 4)) (drop (2 * (4 * (n / 4))) b)) (omega arith))
 
-  pub summed : (x y : ℕ) → x ≡ longSum (take cut b) → y ≡ wordSum (take (2 * (n % 4)) (drop cut b)) → Folds (x + y) (wordSum (take (2 * n) b))
+  pub summed : (x y : ℕ) → x ≡ long_sum (take cut b) → y ≡ word_sum (take (2 * (n % 4)) (drop cut b)) → Folds (x + y) (word_sum (take (2 * n) b))
   summed x y p q =
       let e : four (2 * (n / 4)) ≡ cut = four_is (2 * (n / 4)) ∙ omega arith in
       let f = folds (2 * (n / 4)) b (omega (arith, e)) in
-      let g : Folds (longSum (take cut b)) (wordSum (take cut b)) = rw (← e) f in
+      let g : Folds (long_sum (take cut b)) (word_sum (take cut b)) = rw (← e) f in
       record { over = g.over; is = omega (arith, parts, p, q, g.is); least = omega (arith, parts, g.least) }
 
   -- the words left over, as they stand in the part that is lent
-  pub summed-lent : (x y : ℕ) → x ≡ longSum (take cut b) → y ≡ wordSum (take (2 * (n % 4)) (take (length b - cut) (drop cut b))) → Folds (x + y) (wordSum (take (2 * n) b))
-  summed-lent x y p q = summed x y p (q ∙ ap wordSum (take-take (2 * (n % 4)) (length b - cut) (drop cut b) (omega arith)))
+  pub summed_lent : (x y : ℕ) → x ≡ long_sum (take cut b) → y ≡ word_sum (take (2 * (n % 4)) (take (length b - cut) (drop cut b))) → Folds (x + y) (word_sum (take (2 * n) b))
+  summed_lent x y p q = summed x y p (q ∙ ap word_sum (take-take (2 * (n % 4)) (length b - cut) (drop cut b) (omega arith)))

@@ -9,67 +9,67 @@ use borrow.Author.Tests.{eq-eqb, ne_eqb}
 use lib.Dec.{eqb}
 use lib.ListN.{length, take, drop, get_or}
 use lib.Seq.{drop_at, length-take-le, slice-cons}
-use Rattle.lists.specs.Words.{wordSum}
-use Rattle.tape.specs.Numbers.{dataBytes, headBytes, summedBytes}
-use Rattle.tape.specs.Reading.{paddingRight, zeros}
+use Rattle.lists.specs.Words.{word_sum}
+use Rattle.tape.specs.Numbers.{data_bytes, head_bytes, summed_bytes}
+use Rattle.tape.specs.Reading.{padding_right, zeros}
 
 -- a sum is 0 just where each of its parts is
-word-zero : (a b s : ℕ) → (eqb a 0 && (eqb b 0 && eqb s 0)) ≡ eqb (a + 256 * b + s) 0
-word-zero zero zero zero = refl
-word-zero (suc a) b s = simp (ne_eqb (suc a) 0 (λ e. omega arith), ne_eqb (suc a + 256 * b + s) 0 (λ e. omega arith))
-word-zero zero (suc b) s = simp (ne_eqb (suc b) 0 (λ e. omega arith), ne_eqb (0 + 256 * suc b + s) 0 (λ e. omega arith))
-word-zero zero zero (suc s) = simp (ne_eqb (suc s) 0 (λ e. omega arith), ne_eqb (0 + 256 * 0 + suc s) 0 (λ e. omega arith))
+word_zero : (a b s : ℕ) → (eqb a 0 && (eqb b 0 && eqb s 0)) ≡ eqb (a + 256 * b + s) 0
+word_zero zero zero zero = refl
+word_zero (suc a) b s = simp (ne_eqb (suc a) 0 (λ e. omega arith), ne_eqb (suc a + 256 * b + s) 0 (λ e. omega arith))
+word_zero zero (suc b) s = simp (ne_eqb (suc b) 0 (λ e. omega arith), ne_eqb (0 + 256 * suc b + s) 0 (λ e. omega arith))
+word_zero zero zero (suc s) = simp (ne_eqb (suc s) 0 (λ e. omega arith), ne_eqb (0 + 256 * 0 + suc s) 0 (λ e. omega arith))
 
-pub zeros-sum : (l : List ℕ) → zeros l ≡ eqb (wordSum l) 0
-unfolding zeros wordSum
-zeros-sum [] = refl
-zeros-sum (a ∷ []) = and-true (eqb a 0)
-zeros-sum (a ∷ (b ∷ r)) = rw (zeros-sum r) (word-zero a b (wordSum r))
+pub zeros_sum : (l : List ℕ) → zeros l ≡ eqb (word_sum l) 0
+unfolding zeros word_sum
+zeros_sum [] = refl
+zeros_sum (a ∷ []) = and-true (eqb a 0)
+zeros_sum (a ∷ (b ∷ r)) = rw (zeros_sum r) (word_zero a b (word_sum r))
 
 -- a block whose data bytes are all in use has no padding
-pub full-padding : (b : List ℕ) → summedBytes ≤ length b → drop summedBytes (take summedBytes b) ≡ []
-full-padding b long =
-    ap (drop summedBytes) (sym (append-nil (take summedBytes b)))
-    ∙ drop_at (take summedBytes b) [] summedBytes (length-take-le summedBytes b long)
+pub full_padding : (b : List ℕ) → summed_bytes ≤ length b → drop summed_bytes (take summed_bytes b) ≡ []
+full_padding b long =
+    ap (drop summed_bytes) (sym (append-nil (take summed_bytes b)))
+    ∙ drop_at (take summed_bytes b) [] summed_bytes (length-take-le summed_bytes b long)
 
 -- the same a byte at a time, from place j on
-module _ (b : List ℕ) (j : ℕ) (long : summedBytes ≤ length b) where
-  zeros-at : j < summedBytes → zeros (drop j (take summedBytes b)) ≡ (eqb (get_or b j 0) 0 && zeros (drop (j + 1) (take summedBytes b)))
+module _ (b : List ℕ) (j : ℕ) (long : summed_bytes ≤ length b) where
+  zeros_at : j < summed_bytes → zeros (drop j (take summed_bytes b)) ≡ (eqb (get_or b j 0) 0 && zeros (drop (j + 1) (take summed_bytes b)))
   unfolding zeros
-  zeros-at h = rw (add-one j, slice-cons j summedBytes b 0 h long)
+  zeros_at h = rw (add-one j, slice-cons j summed_bytes b 0 h long)
 
-  pub zeros-next : j < summedBytes → get_or b j 0 ≡ 0 → zeros (drop (j + 1) (take summedBytes b)) ≡ zeros (drop j (take summedBytes b))
-  zeros-next h e = rw (zeros-at h, eq-eqb (get_or b j 0) 0 e)
+  pub zeros_next : j < summed_bytes → get_or b j 0 ≡ 0 → zeros (drop (j + 1) (take summed_bytes b)) ≡ zeros (drop j (take summed_bytes b))
+  zeros_next h e = rw (zeros_at h, eq-eqb (get_or b j 0) 0 e)
 
-  pub zeros-stop : j < summedBytes → (get_or b j 0 ≡ 0 → ⊥) → false ≡ zeros (drop j (take summedBytes b))
-  zeros-stop h f = rw (zeros-at h, ne_eqb (get_or b j 0) 0 f)
+  pub zeros_stop : j < summed_bytes → (get_or b j 0 ≡ 0 → ⊥) → false ≡ zeros (drop j (take summed_bytes b))
+  zeros_stop h f = rw (zeros_at h, ne_eqb (get_or b j 0) 0 f)
 
   -- and at the end nothing is left to look at
-  pub zeros-end : j ≡ summedBytes → zeros (drop j (take summedBytes b)) ≡ true
+  pub zeros_end : j ≡ summed_bytes → zeros (drop j (take summed_bytes b)) ≡ true
   unfolding zeros
-  zeros-end e = rw (e, full-padding b long)
+  zeros_end e = rw (e, full_padding b long)
 
 -- how many words hold the head and the data: an odd last byte counts as a word
-abbrev pub wordsWith : ℕ → ℕ
-wordsWith used = 3 + (used + 1) / 2
+abbrev pub words_with : ℕ → ℕ
+words_with used = 3 + (used + 1) / 2
 
-module _ (b : List ℕ) (used : ℕ) (long : summedBytes ≤ length b) (low : used ≤ dataBytes) where
-  even : used % 2 ≡ 0 → paddingRight b used ≡ zeros (drop (2 * wordsWith used) (take summedBytes b))
-  unfolding paddingRight
+module _ (b : List ℕ) (used : ℕ) (long : summed_bytes ≤ length b) (low : used ≤ data_bytes) where
+  even : used % 2 ≡ 0 → padding_right b used ≡ zeros (drop (2 * words_with used) (take summed_bytes b))
+  unfolding padding_right
   even e =
-      let p : headBytes + used ≡ 2 * wordsWith used = omega arith in
+      let p : head_bytes + used ≡ 2 * words_with used = omega arith in
       rw p
 
-  odd : used % 2 ≡ 1 → paddingRight b used ≡ (eqb (get_or b (headBytes + used) 0) 0 && zeros (drop (2 * wordsWith used) (take summedBytes b)))
-  unfolding paddingRight zeros
+  odd : used % 2 ≡ 1 → padding_right b used ≡ (eqb (get_or b (head_bytes + used) 0) 0 && zeros (drop (2 * words_with used) (take summed_bytes b)))
+  unfolding padding_right zeros
   odd e =
-      let p : 2 * wordsWith used ≡ suc (headBytes + used) = omega arith in
-      rw (p, slice-cons (headBytes + used) summedBytes b 0 (omega arith) long)
+      let p : 2 * words_with used ≡ suc (head_bytes + used) = omega arith in
+      rw (p, slice-cons (head_bytes + used) summed_bytes b 0 (omega arith) long)
 
-  by-rest : (m : ℕ) → used % 2 ≡ m → paddingRight b used ≡ ((eqb (used % 2) 0 || eqb (get_or b (headBytes + used) 0) 0) && zeros (drop (2 * wordsWith used) (take summedBytes b)))
-  by-rest zero e = even e ∙ rw e
-  by-rest (suc zero) e = odd e ∙ rw e
-  by-rest (suc (suc m)) e = absurd (omega arith)
+  by_rest : (m : ℕ) → used % 2 ≡ m → padding_right b used ≡ ((eqb (used % 2) 0 || eqb (get_or b (head_bytes + used) 0) 0) && zeros (drop (2 * words_with used) (take summed_bytes b)))
+  by_rest zero e = even e ∙ rw e
+  by_rest (suc zero) e = odd e ∙ rw e
+  by_rest (suc (suc m)) e = absurd (omega arith)
 
-  pub padding-sum : paddingRight b used ≡ ((eqb (used % 2) 0 || eqb (get_or b (headBytes + used) 0) 0) && eqb (wordSum (drop (2 * wordsWith used) (take summedBytes b))) 0)
-  padding-sum = by-rest (used % 2) refl ∙ rw (zeros-sum (drop (2 * wordsWith used) (take summedBytes b)))
+  pub padding_sum : padding_right b used ≡ ((eqb (used % 2) 0 || eqb (get_or b (head_bytes + used) 0) 0) && eqb (word_sum (drop (2 * words_with used) (take summed_bytes b))) 0)
+  padding_sum = by_rest (used % 2) refl ∙ rw (zeros_sum (drop (2 * words_with used) (take summed_bytes b)))

@@ -1,8 +1,8 @@
 // Laying one block: its data bytes go from memory straight into their place.
 ghost use Rattle.std.specs.Prelude.{◌≡◌, ◌+◌, ◌%◌, ◌<◌, ◌≤◌, length};
 ghost use Rattle.lists.specs.Places.{gathered};
-ghost use Rattle.lists.specs.Words.{wordLimit};
-ghost use Rattle.tape.specs.Numbers.{blockBytes, dataBytes};
+ghost use Rattle.lists.specs.Words.{word_limit};
+ghost use Rattle.tape.specs.Numbers.{block_bytes, data_bytes};
 ghost use Rattle.tape.specs.Layout.{block_of};
 
 use crate::sum::check_sum;
@@ -20,7 +20,7 @@ pub fn lay_block(
     used: usize,
     swb: bool,
 )
-    requires { (length b.old ≡ blockBytes) × (k < wordLimit) × (n < wordLimit) × (i < wordLimit) × (used ≤ dataBytes) × (a + used ≤ length mem.now) × (length mem.now % 2 ≡ 0) }
+    requires { (length b.old ≡ block_bytes) × (k < word_limit) × (n < word_limit) × (i < word_limit) × (used ≤ data_bytes) × (a + used ≤ length mem.now) × (length mem.now % 2 ≡ 0) }
     ensures { b.new ≡ block_of k n i (gathered swb mem.now a used) }
 {
     put_word(b, 0, k);

@@ -1,21 +1,21 @@
 // The block reader. Kind, length, index, padding and check are looked at in this order.
 ghost use Rattle.std.specs.Prelude.{true, ◌≡◌, ◌≤◌, length};
-ghost use Rattle.tape.specs.Numbers.{blockBytes, dataBytes};
-ghost use Rattle.tape.specs.Reading.{class_at, class_of, indexRight, kind_of, kindRight, lengthRight, paddingRight, usedOf};
-ghost use Rattle.block.specs.Halves.{bodyRight, wrongIn, headRight};
+ghost use Rattle.tape.specs.Numbers.{block_bytes, data_bytes};
+ghost use Rattle.tape.specs.Reading.{class_at, class_of, index_right, kind_of, kind_right, length_right, padding_right, used_of};
+ghost use Rattle.block.specs.Halves.{body_right, wrong_in, head_right};
 
 use crate::sum::check_sum;
 use lists::{wide, word};
 use tape::{Block, BlockFault, Geometry};
 
 fn kind_right(k: usize) -> bool
-    ensures { result ≡ kindRight k }
+    ensures { result ≡ kind_right k }
 {
     (tape::PIECE_KIND <= k) & (k <= tape::GAP_KIND)
 }
 
 fn length_right(k: usize, n: usize) -> bool
-    ensures { result ≡ lengthRight k n }
+    ensures { result ≡ length_right k n }
 {
     if k == tape::PIECE_KIND {
         (1 <= n) & (n <= Geometry::RECORD_LIMIT)
@@ -25,7 +25,7 @@ fn length_right(k: usize, n: usize) -> bool
 }
 
 fn index_right(k: usize, n: usize, i: usize) -> bool
-    ensures { result ≡ indexRight k n i }
+    ensures { result ≡ index_right k n i }
 {
     if k == tape::PIECE_KIND {
         i < tape::pieces(n)
@@ -35,16 +35,16 @@ fn index_right(k: usize, n: usize, i: usize) -> bool
 }
 
 fn head_right(k: usize, n: usize, i: usize) -> bool
-    ensures { result ≡ headRight k n i }
+    ensures { result ≡ head_right k n i }
 {
     kind_right(k) & (length_right(k, n) & index_right(k, n, i))
 }
 
 // How many data bytes the block uses.
 fn used_of(k: usize, n: usize, i: usize) -> usize
-    requires { headRight k n i ≡ true }
-    ensures is { result ≡ usedOf k n i }
-    ensures low { result ≤ dataBytes }
+    requires { head_right k n i ≡ true }
+    ensures is { result ≡ used_of k n i }
+    ensures low { result ≤ data_bytes }
 {
     if k == tape::PIECE_KIND {
         let left = n - Geometry::DATA * i;
@@ -60,8 +60,8 @@ fn used_of(k: usize, n: usize, i: usize) -> usize
 
 // Padding and check in one pass: the words in use are summed, then those that must be 0. An odd last data byte shares its word.
 fn padded_right(b: &[u8], used: usize) -> bool
-    requires { (length b.now ≡ blockBytes) × (used ≤ dataBytes) }
-    ensures { result ≡ bodyRight b.now used }
+    requires { (length b.now ≡ block_bytes) × (used ≤ data_bytes) }
+    ensures { result ≡ body_right b.now used }
 {
     let words = 3 + (used + 1) / 2;
     let cut = 2 * words;
@@ -73,8 +73,8 @@ fn padded_right(b: &[u8], used: usize) -> bool
 
 // Padding alone.
 fn padding_right(b: &[u8], used: usize) -> bool
-    requires { (length b.now ≡ blockBytes) × (used ≤ dataBytes) }
-    ensures { result ≡ paddingRight b.now used }
+    requires { (length b.now ≡ block_bytes) × (used ≤ data_bytes) }
+    ensures { result ≡ padding_right b.now used }
 {
     let mut i = Geometry::HEAD + used;
     while i < Geometry::SUMMED {
@@ -88,15 +88,15 @@ fn padding_right(b: &[u8], used: usize) -> bool
 
 // All data bytes are in use, so there is no padding. Its own function, since the sum then runs over a fixed number of words.
 fn full_right(b: &[u8]) -> bool
-    requires { length b.now ≡ blockBytes }
-    ensures { result ≡ bodyRight b.now dataBytes }
+    requires { length b.now ≡ block_bytes }
+    ensures { result ≡ body_right b.now data_bytes }
 {
     word(b, Geometry::SUMMED) == check_sum(b, Geometry::SUMMED_WORDS) % Geometry::CHECK_MODULUS
 }
 
 fn body_right(b: &[u8], used: usize) -> bool
-    requires { (length b.now ≡ blockBytes) × (used ≤ dataBytes) }
-    ensures { result ≡ bodyRight b.now used }
+    requires { (length b.now ≡ block_bytes) × (used ≤ data_bytes) }
+    ensures { result ≡ body_right b.now used }
 {
     if used == Geometry::DATA {
         return full_right(b);
@@ -119,8 +119,8 @@ fn kind_of(k: usize, n: usize, i: usize) -> Block
 // The first thing that is wrong with a block that isn't right; the check, if nothing else is. Only a block known to be wrong comes here, and all of it is
 // read again: so a sound one costs nothing more.
 fn wrong_in(b: &[u8]) -> BlockFault
-    requires { length b.now ≡ blockBytes }
-    ensures { result ≡ wrongIn b.now }
+    requires { length b.now ≡ block_bytes }
+    ensures { result ≡ wrong_in b.now }
 {
     let k = word(b, 0);
     let n = word(b, 2);
@@ -141,7 +141,7 @@ fn wrong_in(b: &[u8]) -> BlockFault
 }
 
 fn class_of(b: &[u8]) -> Block
-    requires { length b.now ≡ blockBytes }
+    requires { length b.now ≡ block_bytes }
     ensures { result ≡ class_of b.now }
 {
     let k = word(b, 0);

@@ -10,40 +10,40 @@ use Rattle.signals.specs.declared.packet.Header.{Header}
 use Rattle.signals.specs.declared.packet.Packet.{Packet}
 use Rattle.signals.specs.contracts.codes.Command as variants
 use Rattle.state.specs.declared.Unit.{Unit}
-use Rattle.commands.specs.Ends.{motionPlan, motionPlanUnder}
-use Rattle.commands.specs.Commands.{carriedOut, carriedOutUnder, formattedUnder, motionOf, motionOfUnder, plainEffectUnder, positionedByUnder, readByUnder, rereadByUnder, rewoundUnder, writtenByUnder}
+use Rattle.commands.specs.Ends.{motion_plan, motion_plan_under}
+use Rattle.commands.specs.Commands.{carried_out, carried_out_under, formatted_under, motion_of, motion_of_under, plain_effect_under, positioned_by_under, read_by_under, reread_by_under, rewound_under, written_by_under}
 
 -- by their tags: none of these three
-abbrev notCharacteristics : List ℕ
-notCharacteristics = 0 ∷ 1 ∷ 2 ∷ 3 ∷ 5 ∷ 6 ∷ 7 ∷ 8 ∷ 9 ∷ 10 ∷ 11 ∷ 12 ∷ 13 ∷ 14 ∷ 15 ∷ 16 ∷ 17 ∷ 18 ∷ 19 ∷ 20 ∷ []
+abbrev not_characteristics : List ℕ
+not_characteristics = 0 ∷ 1 ∷ 2 ∷ 3 ∷ 5 ∷ 6 ∷ 7 ∷ 8 ∷ 9 ∷ 10 ∷ 11 ∷ 12 ∷ 13 ∷ 14 ∷ 15 ∷ 16 ∷ 17 ∷ 18 ∷ 19 ∷ 20 ∷ []
 
-abbrev notRelease : List ℕ
-notRelease = 0 ∷ 1 ∷ 2 ∷ 3 ∷ 4 ∷ 5 ∷ 6 ∷ 7 ∷ 8 ∷ 9 ∷ 10 ∷ 11 ∷ 12 ∷ 13 ∷ 14 ∷ 16 ∷ 17 ∷ 18 ∷ 19 ∷ 20 ∷ []
+abbrev not_release : List ℕ
+not_release = 0 ∷ 1 ∷ 2 ∷ 3 ∷ 4 ∷ 5 ∷ 6 ∷ 7 ∷ 8 ∷ 9 ∷ 10 ∷ 11 ∷ 12 ∷ 13 ∷ 14 ∷ 16 ∷ 17 ∷ 18 ∷ 19 ∷ 20 ∷ []
 
-abbrev notUnload : List ℕ
-notUnload = 0 ∷ 1 ∷ 2 ∷ 3 ∷ 4 ∷ 5 ∷ 6 ∷ 7 ∷ 8 ∷ 9 ∷ 10 ∷ 11 ∷ 12 ∷ 13 ∷ 14 ∷ 15 ∷ 17 ∷ 18 ∷ 19 ∷ 20 ∷ []
+abbrev not_unload : List ℕ
+not_unload = 0 ∷ 1 ∷ 2 ∷ 3 ∷ 4 ∷ 5 ∷ 6 ∷ 7 ∷ 8 ∷ 9 ∷ 10 ∷ 11 ∷ 12 ∷ 13 ∷ 14 ∷ 15 ∷ 17 ∷ 18 ∷ 19 ∷ 20 ∷ []
 
 module _ (u : Unit) (m s : List ℕ) (h : Header) (p : Packet) where
-  pub ends-as-moved : (c : Command) → OneOf notCharacteristics (tag_of variants.the_type c) → OneOf notRelease (tag_of variants.the_type c) → OneOf notUnload (tag_of variants.the_type c) → motionPlan u h.ie (motionOf u s h p c) ≡ carriedOut u m s h p c
-  unfolding carriedOutUnder motionOfUnder readByUnder rereadByUnder positionedByUnder writtenByUnder formattedUnder rewoundUnder plainEffectUnder motionPlanUnder
-  ends-as-moved command.ReadNext a b d = refl
-  ends-as-moved command.ReadPrevious a b d = refl
-  ends-as-moved command.RereadPrevious a b d = refl
-  ends-as-moved command.RereadNext a b d = refl
-  ends-as-moved command.WriteCharacteristics a b d = absurd (miss notCharacteristics 4 tt a)
-  ends-as-moved command.Write a b d = refl
-  ends-as-moved command.WriteRetry a b d = refl
-  ends-as-moved command.RecordsForward a b d = refl
-  ends-as-moved command.RecordsReverse a b d = refl
-  ends-as-moved command.MarksForward a b d = refl
-  ends-as-moved command.MarksReverse a b d = refl
-  ends-as-moved command.Rewind a b d = refl
-  ends-as-moved command.WriteMark a b d = refl
-  ends-as-moved command.Erase a b d = refl
-  ends-as-moved command.MarkRetry a b d = refl
-  ends-as-moved command.Release a b d = absurd (miss notRelease 15 tt b)
-  ends-as-moved command.Unload a b d = absurd (miss notUnload 16 tt d)
-  ends-as-moved command.Clean a b d = refl
-  ends-as-moved command.Initialize a b d = refl
-  ends-as-moved command.GetStatus a b d = refl
-  ends-as-moved command.Illegal a b d = refl
+  pub ends_as_moved : (c : Command) → OneOf not_characteristics (tag_of variants.the_type c) → OneOf not_release (tag_of variants.the_type c) → OneOf not_unload (tag_of variants.the_type c) → motion_plan u h.ie (motion_of u s h p c) ≡ carried_out u m s h p c
+  unfolding carried_out_under motion_of_under read_by_under reread_by_under positioned_by_under written_by_under formatted_under rewound_under plain_effect_under motion_plan_under
+  ends_as_moved command.ReadNext a b d = refl
+  ends_as_moved command.ReadPrevious a b d = refl
+  ends_as_moved command.RereadPrevious a b d = refl
+  ends_as_moved command.RereadNext a b d = refl
+  ends_as_moved command.WriteCharacteristics a b d = absurd (miss not_characteristics 4 tt a)
+  ends_as_moved command.Write a b d = refl
+  ends_as_moved command.WriteRetry a b d = refl
+  ends_as_moved command.RecordsForward a b d = refl
+  ends_as_moved command.RecordsReverse a b d = refl
+  ends_as_moved command.MarksForward a b d = refl
+  ends_as_moved command.MarksReverse a b d = refl
+  ends_as_moved command.Rewind a b d = refl
+  ends_as_moved command.WriteMark a b d = refl
+  ends_as_moved command.Erase a b d = refl
+  ends_as_moved command.MarkRetry a b d = refl
+  ends_as_moved command.Release a b d = absurd (miss not_release 15 tt b)
+  ends_as_moved command.Unload a b d = absurd (miss not_unload 16 tt d)
+  ends_as_moved command.Clean a b d = refl
+  ends_as_moved command.Initialize a b d = refl
+  ends_as_moved command.GetStatus a b d = refl
+  ends_as_moved command.Illegal a b d = refl

@@ -4,17 +4,17 @@ use mathlib.Core.Path.{◌≡◌, refl}
 use Prim.Native.Nat.{ℕ, ◌≤◌}
 use borrow.Author.Tests.{not-true}
 use Rattle.tape.specs.declared.BlockFault.{BlockFault}
-use Rattle.state.specs.Checks.{lastClass}
+use Rattle.state.specs.Checks.{last_class}
 use Rattle.state.specs.Legal.{Legal}
 use Rattle.state.specs.declared.Attention.{Attention}
 use Rattle.state.specs.declared.Tape.{Tape}
 use Rattle.state.specs.declared.Unit.{Unit}
-use Rattle.state.proofs.Legal.{legal-with}
-use Rattle.motions.specs.Parts.{noLay, noMove}
+use Rattle.state.proofs.Legal.{legal_with}
+use Rattle.motions.specs.Parts.{no_lay, no_move}
 use Rattle.motions.specs.declared.parts.Ending.{Ending}
 use Rattle.motions.specs.declared.parts.Motion.{Motion}
 use Rattle.motions.specs.declared.parts.Motion.TheVariants as motion
-use Rattle.commands.specs.Ends.{ended, motionPlan, motionPlanUnder, still, told, toldUnder, toldUnit, untold, withAttention, withTape}
+use Rattle.commands.specs.Ends.{ended, motion_plan, motion_plan_under, still, told, told_under, told_unit, untold, with_attention, with_tape}
 use Rattle.commands.specs.declared.plans.Answer.{Answer}
 use Rattle.commands.specs.declared.plans.Answer.TheVariants as answer
 use Rattle.commands.specs.declared.plans.Plan.{Plan}
@@ -31,7 +31,7 @@ pub record EndsAs (u : Unit) (t : Tape) (k : ℕ) (v : Unit) : Type 0 where
   pub class : v.registers.class ≡ k
   pub ssr : v.registers.ssr ≡ true
 
-ends_with : (u : Unit) (t : Tape) (class : ℕ) (a : Attention) → EndsAs u t class (withAttention (ended (withTape u t) class) a)
+ends_with : (u : Unit) (t : Tape) (class : ℕ) (a : Attention) → EndsAs u t class (with_attention (ended (with_tape u t) class) a)
 unfolding ended
 ends_with u t class a =
     record {
@@ -46,18 +46,18 @@ ends_with u t class a =
       ssr = refl;
     }
 
-pub told-ends : (u : Unit) (ie : Bool) (x : Ending) → EndsAs u x.tape x.end.class (told u ie x).unit
-unfolding toldUnder toldUnit
-told-ends u ie x = ends_with u x.tape x.end.class _
+pub told_ends : (u : Unit) (ie : Bool) (x : Ending) → EndsAs u x.tape x.end.class (told u ie x).unit
+unfolding told_under told_unit
+told_ends u ie x = ends_with u x.tape x.end.class _
 
-pub untold-ends : (u : Unit) (class : ℕ) (interrupts : Bool) → EndsAs u u.tape class (untold u class interrupts).unit
+pub untold_ends : (u : Unit) (class : ℕ) (interrupts : Bool) → EndsAs u u.tape class (untold u class interrupts).unit
 unfolding untold still
-untold-ends u class interrupts = ends_with u u.tape class _
+untold_ends u class interrupts = ends_with u u.tape class _
 
 -- a legal state stays one, if the tape that is left fits the reel
-pub ends-legal : (u : Unit) → Legal u → {t : Tape} {class : ℕ} {v : Unit} → EndsAs u t class v → t.position ≤ t.end → t.end ≤ u.lengths.blocks → class ≤ lastClass → Legal v
-ends-legal u l {v = v} e place capacity h =
-    legal-with u v l e.lengths
+pub ends_legal : (u : Unit) → Legal u → {t : Tape} {class : ℕ} {v : Unit} → EndsAs u t class v → t.position ≤ t.end → t.end ≤ u.lengths.blocks → class ≤ last_class → Legal v
+ends_legal u l {v = v} e place capacity h =
+    legal_with u v l e.lengths
     (rw e.tape place)
     (rw (e.tape, e.lengths) capacity)
     (rw e.pointer l.pointer)
@@ -65,25 +65,25 @@ ends-legal u l {v = v} e place capacity h =
     (λ n. rw (e.characteristics, e.lengths) (l.buffer (rw e.nba at n)))
 
 -- "A message goes out only if NBA is clear."
-pub told-sends : (u : Unit) (ie : Bool) (x : Ending) → (told u ie x).sends ≡ true → u.registers.nba ≡ false
-unfolding toldUnder toldUnit ended
-told-sends u ie x = not-true u.registers.nba
+pub told_sends : (u : Unit) (ie : Bool) (x : Ending) → (told u ie x).sends ≡ true → u.registers.nba ≡ false
+unfolding told_under told_unit ended
+told_sends u ie x = not-true u.registers.nba
 
 -- what holds of every end that is told and of every fault holds of every motion
-pub motion-either : (u : Unit) (ie : Bool) (P : Plan → Type 0) (y : Motion) → ((x : Ending) → y ≡ motion.Ended x → P (told u ie x)) → ((why : BlockFault) (k : ℕ) → y ≡ motion.Fault why k → P (still u (answer.BadBlock why k))) → P (motionPlan u ie y)
-unfolding motionPlanUnder
-motion-either u ie P (motion.Ended x) p q = p x refl
-motion-either u ie P (motion.Fault why k) p q = q why k refl
+pub motion_either : (u : Unit) (ie : Bool) (P : Plan → Type 0) (y : Motion) → ((x : Ending) → y ≡ motion.Ended x → P (told u ie x)) → ((why : BlockFault) (k : ℕ) → y ≡ motion.Fault why k → P (still u (answer.BadBlock why k))) → P (motion_plan u ie y)
+unfolding motion_plan_under
+motion_either u ie P (motion.Ended x) p q = p x refl
+motion_either u ie P (motion.Fault why k) p q = q why k refl
 
 pub record StoresNothing (p : Plan) : Type 0 where
-  pub moved : p.moved ≡ noMove
-  pub laid : p.laid ≡ noLay
+  pub moved : p.moved ≡ no_move
+  pub laid : p.laid ≡ no_lay
   pub sends : p.sends ≡ false
 
-pub still-stores-nothing : (u : Unit) (a : Answer) → StoresNothing (still u a)
+pub still_stores_nothing : (u : Unit) (a : Answer) → StoresNothing (still u a)
 unfolding still
-still-stores-nothing u a = record { moved = refl; laid = refl; sends = refl }
+still_stores_nothing u a = record { moved = refl; laid = refl; sends = refl }
 
-pub untold-stores-nothing : (u : Unit) (class : ℕ) (interrupts : Bool) → StoresNothing (untold u class interrupts)
+pub untold_stores_nothing : (u : Unit) (class : ℕ) (interrupts : Bool) → StoresNothing (untold u class interrupts)
 unfolding untold
-untold-stores-nothing u class interrupts = still-stores-nothing _ _
+untold_stores_nothing u class interrupts = still_stores_nothing _ _

@@ -2,26 +2,26 @@
 use Rattle.std.specs.Prelude.{◌≡◌, Bool, true, false, ◌||◌, List, ℕ, ◌+◌, ◌*◌, ◌/◌, ◌%◌, ◌≤◌, eqb, leb, ltb, length}
 use Rattle.lists.specs.Pick.{pick}
 use Rattle.lists.specs.Words.{word_at}
-use Rattle.tape.specs.Numbers.{margin, recordLimit}
-use Rattle.signals.specs.Numbers.{pointerLimit}
+use Rattle.tape.specs.Numbers.{margin, record_limit}
+use Rattle.signals.specs.Numbers.{pointer_limit}
 use Rattle.signals.specs.declared.codes.Command.{Command}
 use Rattle.signals.specs.declared.codes.Command.TheVariants as command
 use Rattle.signals.specs.declared.packet.Header.{Header}
 use Rattle.signals.specs.declared.packet.Packet.{Packet}
 use Rattle.signals.specs.declared.message.End.{End}
 use Rattle.signals.specs.declared.counts.Residual.TheVariants as residual
-use Rattle.state.specs.Changes.{withRegisters}
-use Rattle.state.specs.Checks.{bufferWrong}
+use Rattle.state.specs.Changes.{with_registers}
+use Rattle.state.specs.Checks.{buffer_wrong}
 use Rattle.state.specs.declared.Unit.{Unit}
 use Rattle.state.specs.declared.Characteristics.{Characteristics}
 use Rattle.state.specs.declared.Tape.{Tape}
 use Rattle.moves.specs.Counting.{marks, records}
 use Rattle.moves.specs.declared.spacing.Count.{Count}
 use Rattle.motions.specs.Parts.{end, resting, standing, stops}
-use Rattle.motions.specs.Reads.{readOneUnder, rereadUnder}
-use Rattle.motions.specs.Spaces.{positionedUnder}
-use Rattle.motions.specs.Writes.{retriedUnder, writtenAtUnder}
-use Rattle.commands.specs.Ends.{motionPlanUnder, toldUnder, untold, withAttention, withPanel}
+use Rattle.motions.specs.Reads.{read_one_under, reread_under}
+use Rattle.motions.specs.Spaces.{positioned_under}
+use Rattle.motions.specs.Writes.{retried_under, written_at_under}
+use Rattle.commands.specs.Ends.{motion_plan_under, told_under, untold, with_attention, with_panel}
 use Rattle.motions.specs.declared.parts.Laid.{Laid}
 use Rattle.motions.specs.declared.parts.Motion.{Motion}
 use Rattle.motions.specs.declared.parts.ObjectKind.{ObjectKind}
@@ -29,35 +29,35 @@ use Rattle.motions.specs.declared.parts.ObjectKind.TheVariants as kind
 use Rattle.motions.specs.declared.reads.Buffer.{Buffer}
 use Rattle.commands.specs.declared.plans.Plan.{Plan}
 
-abbrev pub plainEnd : End
-plainEnd = end 0 0 0 residual.Nothing
+abbrev pub plain_end : End
+plain_end = end 0 0 0 residual.Nothing
 
 -- "a release carried out, which sends none and keeps the owner"; its IE is an idle attention's
 unfoldable pub released : Unit → Bool → Plan
 released u ie =
     untold
-    (withAttention u (record { unit_owns = u.attention.unit_owns; pending = u.attention.pending; release_ie = ie }))
+    (with_attention u (record { unit_owns = u.attention.unit_owns; pending = u.attention.pending; release_ie = ie }))
     0
     false
 
 -- "mode word (0 if the count is under 8)"
-unfoldable pub modeWord : List ℕ → Packet → ℕ
-modeWord m p = pick (ltb p.count 8) 0 (word_at m (p.pointer + 6))
+unfoldable pub mode_word : List ℕ → Packet → ℕ
+mode_word m p = pick (ltb p.count 8) 0 (word_at m (p.pointer + 6))
 
 -- "Write Characteristics data: address low, high, length, mode word"; ESS is bit 7, ENB bit 6, EAI bit 5
-unfoldable pub characteristicsAt : List ℕ → Packet → Characteristics
-characteristicsAt m p =
+unfoldable pub characteristics_at : List ℕ → Packet → Characteristics
+characteristics_at m p =
     record {
       address = word_at m p.pointer + 65536 * word_at m (p.pointer + 2);
       length = word_at m (p.pointer + 4);
-      eai = eqb (modeWord m p / 32 % 2) 1;
-      ess = eqb (modeWord m p / 128 % 2) 1;
-      enb = eqb (modeWord m p / 64 % 2) 1;
+      eai = eqb (mode_word m p / 32 % 2) 1;
+      ess = eqb (mode_word m p / 128 % 2) 1;
+      enb = eqb (mode_word m p / 64 % 2) 1;
     }
 
-abbrev pub withNba : Unit → Bool → Unit
-withNba u nba =
-    withRegisters u
+abbrev pub with_nba : Unit → Bool → Unit
+with_nba u nba =
+    with_registers u
     (record {
       pointer = u.registers.pointer;
       class = u.registers.class;
@@ -67,8 +67,8 @@ withNba u nba =
       ssr = u.registers.ssr;
     })
 
-abbrev pub withCharacteristics : Unit → Characteristics → Unit
-withCharacteristics u c =
+abbrev pub with_characteristics : Unit → Characteristics → Unit
+with_characteristics u c =
     record {
       tape = u.tape;
       registers = u.registers;
@@ -83,8 +83,8 @@ abbrev pub asked : Header → Packet → Buffer
 asked h p = record { pointer = p.pointer; count = record { 0 = p.count }; swb = h.swb }
 
 -- an object where the tape stands
-abbrev pub laidHere : Tape → ObjectKind → ℕ → ℕ → Bool → Laid
-laidHere t o pointer n swb =
+abbrev pub laid_here : Tape → ObjectKind → ℕ → ℕ → Bool → Laid
+laid_here t o pointer n swb =
     record { at = t.position; gap_first = false; object = o; pointer = pointer; length = n; swb = swb }
 
 -- what a Write Characteristics asks of its packet: the data are in memory (step 10)
@@ -94,155 +94,155 @@ DataFit c p m = c ≡ command.WriteCharacteristics → p.pointer + p.count ≤ l
 -- under any EOT margin
 module _ (eotMargin : ℕ) where
   -- "clean (no action)", "Initialize 11/0 (house: no action). Get Status 15/0."
-  unfoldable pub plainEffectUnder : Unit → Bool → Plan
-  plainEffectUnder u ie = toldUnder eotMargin u ie (resting plainEnd u.tape)
+  unfoldable pub plain_effect_under : Unit → Bool → Plan
+  plain_effect_under u ie = told_under eotMargin u ie (resting plain_end u.tape)
 
   -- "4 rewind"
-  unfoldable pub rewoundUnder : Unit → Bool → Plan
-  rewoundUnder u ie = toldUnder eotMargin u ie (resting plainEnd (standing 0 u.tape.end))
+  unfoldable pub rewound_under : Unit → Bool → Plan
+  rewound_under u ie = told_under eotMargin u ie (resting plain_end (standing 0 u.tape.end))
 
   -- "rewind and unload (ends off line, no attention)"
-  unfoldable pub unloadedUnder : Unit → Bool → Plan
-  unloadedUnder u ie =
-      toldUnder eotMargin (withPanel u (record { online = false; locked = u.panel.locked; vck = u.panel.vck })) ie
-      (resting plainEnd (standing 0 u.tape.end))
+  unfoldable pub unloaded_under : Unit → Bool → Plan
+  unloaded_under u ie =
+      told_under eotMargin (with_panel u (record { online = false; locked = u.panel.locked; vck = u.panel.vck })) ie
+      (resting plain_end (standing 0 u.tape.end))
 
   -- "NBA set, class 3, all old values kept"
-  unfoldable pub refusedCharacteristicsUnder : Unit → Bool → Plan
-  refusedCharacteristicsUnder u ie = toldUnder eotMargin (withNba u true) ie (resting (end 3 0 0 residual.Nothing) u.tape)
+  unfoldable pub refused_characteristics_under : Unit → Bool → Plan
+  refused_characteristics_under u ie = told_under eotMargin (with_nba u true) ie (resting (end 3 0 0 residual.Nothing) u.tape)
 
   -- "Otherwise NBA clears and all are taken."
-  unfoldable pub takenCharacteristicsUnder : Unit → Characteristics → Bool → Plan
-  takenCharacteristicsUnder u c ie = toldUnder eotMargin (withCharacteristics (withNba u false) c) ie (resting plainEnd u.tape)
+  unfoldable pub taken_characteristics_under : Unit → Characteristics → Bool → Plan
+  taken_characteristics_under u c ie = told_under eotMargin (with_characteristics (with_nba u false) c) ie (resting plain_end u.tape)
 
   -- "Count under 6, address odd or past 18 bits, length under 14, or buffer not inside memory"
-  unfoldable pub characterizedUnder : Unit → List ℕ → Packet → Bool → Plan
-  characterizedUnder u m p ie =
-      pick (ltb p.count 6) (refusedCharacteristicsUnder u ie)
-      (pick (leb pointerLimit (characteristicsAt m p).address || bufferWrong (characteristicsAt m p) (length m))
-      (refusedCharacteristicsUnder u ie)
-      (takenCharacteristicsUnder u (characteristicsAt m p) ie))
+  unfoldable pub characterized_under : Unit → List ℕ → Packet → Bool → Plan
+  characterized_under u m p ie =
+      pick (ltb p.count 6) (refused_characteristics_under u ie)
+      (pick (leb pointer_limit (characteristics_at m p).address || buffer_wrong (characteristics_at m p) (length m))
+      (refused_characteristics_under u ie)
+      (taken_characteristics_under u (characteristics_at m p) ie))
 
 -- under any record limit
 module _ (limit : ℕ) where
   -- "In Marks with ESS .. or with ENB too"
-  abbrev pub positioningUnder : List ℕ → Tape → Characteristics → Count → Bool → Motion
-  positioningUnder s t c count reverse = positionedUnder limit s t (record { reverse = reverse; ess = c.ess }) count c.enb
+  abbrev pub positioning_under : List ℕ → Tape → Characteristics → Count → Bool → Motion
+  positioning_under s t c count reverse = positioned_under limit s t (record { reverse = reverse; ess = c.ess }) count c.enb
 
 -- under any record limit and any EOT margin
 module _ (limit eotMargin : ℕ) where
-  unfoldable pub readByUnder : Unit → List ℕ → Header → Packet → Bool → Plan
-  readByUnder u s h p reverse = motionPlanUnder eotMargin u h.ie (readOneUnder limit s u.tape (asked h p) reverse)
+  unfoldable pub read_by_under : Unit → List ℕ → Header → Packet → Bool → Plan
+  read_by_under u s h p reverse = motion_plan_under eotMargin u h.ie (read_one_under limit s u.tape (asked h p) reverse)
 
-  unfoldable pub rereadByUnder : Unit → List ℕ → Header → Packet → Bool → Plan
-  rereadByUnder u s h p reverse = motionPlanUnder eotMargin u h.ie (rereadUnder limit s u.tape (asked h p) reverse h.opp)
+  unfoldable pub reread_by_under : Unit → List ℕ → Header → Packet → Bool → Plan
+  reread_by_under u s h p reverse = motion_plan_under eotMargin u h.ie (reread_under limit s u.tape (asked h p) reverse h.opp)
 
-  unfoldable pub positionedByUnder : Unit → List ℕ → Header → Count → Bool → Plan
-  positionedByUnder u s h count reverse = motionPlanUnder eotMargin u h.ie (positioningUnder limit s u.tape u.characteristics count reverse)
+  unfoldable pub positioned_by_under : Unit → List ℕ → Header → Count → Bool → Plan
+  positioned_by_under u s h count reverse = motion_plan_under eotMargin u h.ie (positioning_under limit s u.tape u.characteristics count reverse)
 
   -- "Write 5 / 0, 2 retry", "Format 9 / 0 mark, .. 2 mark retry"
-  abbrev pub layingUnder : List ℕ → Tape → ℕ → Laid → Bool → Bool → Motion
-  layingUnder s t blocks l mark again = pick again (retriedUnder limit eotMargin s t blocks l mark) (writtenAtUnder eotMargin t blocks l mark)
+  abbrev pub laying_under : List ℕ → Tape → ℕ → Laid → Bool → Bool → Motion
+  laying_under s t blocks l mark again = pick again (retried_under limit eotMargin s t blocks l mark) (written_at_under eotMargin t blocks l mark)
 
-  unfoldable pub writtenByUnder : Unit → List ℕ → Header → Packet → Bool → Plan
-  writtenByUnder u s h p again =
-      motionPlanUnder eotMargin u h.ie
-      (layingUnder s u.tape u.lengths.blocks (laidHere u.tape kind.Record p.pointer p.count h.swb) false again)
+  unfoldable pub written_by_under : Unit → List ℕ → Header → Packet → Bool → Plan
+  written_by_under u s h p again =
+      motion_plan_under eotMargin u h.ie
+      (laying_under s u.tape u.lengths.blocks (laid_here u.tape kind.Record p.pointer p.count h.swb) false again)
 
-  unfoldable pub formattedUnder : Unit → List ℕ → Header → ObjectKind → Bool → Bool → Plan
-  formattedUnder u s h o mark again =
-      motionPlanUnder eotMargin u h.ie (layingUnder s u.tape u.lengths.blocks (laidHere u.tape o 0 0 false) mark again)
+  unfoldable pub formatted_under : Unit → List ℕ → Header → ObjectKind → Bool → Bool → Plan
+  formatted_under u s h o mark again =
+      motion_plan_under eotMargin u h.ie (laying_under s u.tape u.lengths.blocks (laid_here u.tape o 0 0 false) mark again)
 
-  -- the motion of a command, as `carriedOutUnder` below has it; those that move nothing end where the tape stands
-  unfoldable pub motionOfUnder : Unit → List ℕ → Header → Packet → Command → Motion
-  motionOfUnder u s h p command.ReadNext = readOneUnder limit s u.tape (asked h p) false
-  motionOfUnder u s h p command.ReadPrevious = readOneUnder limit s u.tape (asked h p) true
-  motionOfUnder u s h p command.RereadPrevious = rereadUnder limit s u.tape (asked h p) true h.opp
-  motionOfUnder u s h p command.RereadNext = rereadUnder limit s u.tape (asked h p) false h.opp
-  motionOfUnder u s h p command.Write = layingUnder s u.tape u.lengths.blocks (laidHere u.tape kind.Record p.pointer p.count h.swb) false false
-  motionOfUnder u s h p command.WriteRetry = layingUnder s u.tape u.lengths.blocks (laidHere u.tape kind.Record p.pointer p.count h.swb) false true
-  motionOfUnder u s h p command.RecordsForward = positioningUnder limit s u.tape u.characteristics (records p.count) false
-  motionOfUnder u s h p command.RecordsReverse = positioningUnder limit s u.tape u.characteristics (records p.count) true
-  motionOfUnder u s h p command.MarksForward = positioningUnder limit s u.tape u.characteristics (marks p.count) false
-  motionOfUnder u s h p command.MarksReverse = positioningUnder limit s u.tape u.characteristics (marks p.count) true
-  motionOfUnder u s h p command.Rewind = stops plainEnd (standing 0 u.tape.end)
-  motionOfUnder u s h p command.WriteMark = layingUnder s u.tape u.lengths.blocks (laidHere u.tape kind.Mark 0 0 false) true false
-  motionOfUnder u s h p command.Erase = layingUnder s u.tape u.lengths.blocks (laidHere u.tape kind.Gap 0 0 false) false false
-  motionOfUnder u s h p command.MarkRetry = layingUnder s u.tape u.lengths.blocks (laidHere u.tape kind.Mark 0 0 false) true true
-  motionOfUnder u s h p command.WriteCharacteristics = stops plainEnd u.tape
-  motionOfUnder u s h p command.Release = stops plainEnd u.tape
-  motionOfUnder u s h p command.Unload = stops plainEnd u.tape
-  motionOfUnder u s h p command.Clean = stops plainEnd u.tape
-  motionOfUnder u s h p command.Initialize = stops plainEnd u.tape
-  motionOfUnder u s h p command.GetStatus = stops plainEnd u.tape
-  motionOfUnder u s h p command.Illegal = stops plainEnd u.tape
+  -- the motion of a command, as `carried_out_under` below has it; those that move nothing end where the tape stands
+  unfoldable pub motion_of_under : Unit → List ℕ → Header → Packet → Command → Motion
+  motion_of_under u s h p command.ReadNext = read_one_under limit s u.tape (asked h p) false
+  motion_of_under u s h p command.ReadPrevious = read_one_under limit s u.tape (asked h p) true
+  motion_of_under u s h p command.RereadPrevious = reread_under limit s u.tape (asked h p) true h.opp
+  motion_of_under u s h p command.RereadNext = reread_under limit s u.tape (asked h p) false h.opp
+  motion_of_under u s h p command.Write = laying_under s u.tape u.lengths.blocks (laid_here u.tape kind.Record p.pointer p.count h.swb) false false
+  motion_of_under u s h p command.WriteRetry = laying_under s u.tape u.lengths.blocks (laid_here u.tape kind.Record p.pointer p.count h.swb) false true
+  motion_of_under u s h p command.RecordsForward = positioning_under limit s u.tape u.characteristics (records p.count) false
+  motion_of_under u s h p command.RecordsReverse = positioning_under limit s u.tape u.characteristics (records p.count) true
+  motion_of_under u s h p command.MarksForward = positioning_under limit s u.tape u.characteristics (marks p.count) false
+  motion_of_under u s h p command.MarksReverse = positioning_under limit s u.tape u.characteristics (marks p.count) true
+  motion_of_under u s h p command.Rewind = stops plain_end (standing 0 u.tape.end)
+  motion_of_under u s h p command.WriteMark = laying_under s u.tape u.lengths.blocks (laid_here u.tape kind.Mark 0 0 false) true false
+  motion_of_under u s h p command.Erase = laying_under s u.tape u.lengths.blocks (laid_here u.tape kind.Gap 0 0 false) false false
+  motion_of_under u s h p command.MarkRetry = laying_under s u.tape u.lengths.blocks (laid_here u.tape kind.Mark 0 0 false) true true
+  motion_of_under u s h p command.WriteCharacteristics = stops plain_end u.tape
+  motion_of_under u s h p command.Release = stops plain_end u.tape
+  motion_of_under u s h p command.Unload = stops plain_end u.tape
+  motion_of_under u s h p command.Clean = stops plain_end u.tape
+  motion_of_under u s h p command.Initialize = stops plain_end u.tape
+  motion_of_under u s h p command.GetStatus = stops plain_end u.tape
+  motion_of_under u s h p command.Illegal = stops plain_end u.tape
 
-  unfoldable pub carriedOutUnder : Unit → List ℕ → List ℕ → Header → Packet → Command → Plan
-  carriedOutUnder u m s h p command.ReadNext = readByUnder u s h p false
-  carriedOutUnder u m s h p command.ReadPrevious = readByUnder u s h p true
-  carriedOutUnder u m s h p command.RereadPrevious = rereadByUnder u s h p true
-  carriedOutUnder u m s h p command.RereadNext = rereadByUnder u s h p false
-  carriedOutUnder u m s h p command.WriteCharacteristics = characterizedUnder eotMargin u m p h.ie
-  carriedOutUnder u m s h p command.Write = writtenByUnder u s h p false
-  carriedOutUnder u m s h p command.WriteRetry = writtenByUnder u s h p true
-  carriedOutUnder u m s h p command.RecordsForward = positionedByUnder u s h (records p.count) false
-  carriedOutUnder u m s h p command.RecordsReverse = positionedByUnder u s h (records p.count) true
-  carriedOutUnder u m s h p command.MarksForward = positionedByUnder u s h (marks p.count) false
-  carriedOutUnder u m s h p command.MarksReverse = positionedByUnder u s h (marks p.count) true
-  carriedOutUnder u m s h p command.Rewind = rewoundUnder eotMargin u h.ie
-  carriedOutUnder u m s h p command.WriteMark = formattedUnder u s h kind.Mark true false
-  carriedOutUnder u m s h p command.Erase = formattedUnder u s h kind.Gap false false
-  carriedOutUnder u m s h p command.MarkRetry = formattedUnder u s h kind.Mark true true
-  carriedOutUnder u m s h p command.Release = released u h.ie
-  carriedOutUnder u m s h p command.Unload = unloadedUnder eotMargin u h.ie
-  carriedOutUnder u m s h p command.Clean = plainEffectUnder eotMargin u h.ie
-  carriedOutUnder u m s h p command.Initialize = plainEffectUnder eotMargin u h.ie
-  carriedOutUnder u m s h p command.GetStatus = plainEffectUnder eotMargin u h.ie
+  unfoldable pub carried_out_under : Unit → List ℕ → List ℕ → Header → Packet → Command → Plan
+  carried_out_under u m s h p command.ReadNext = read_by_under u s h p false
+  carried_out_under u m s h p command.ReadPrevious = read_by_under u s h p true
+  carried_out_under u m s h p command.RereadPrevious = reread_by_under u s h p true
+  carried_out_under u m s h p command.RereadNext = reread_by_under u s h p false
+  carried_out_under u m s h p command.WriteCharacteristics = characterized_under eotMargin u m p h.ie
+  carried_out_under u m s h p command.Write = written_by_under u s h p false
+  carried_out_under u m s h p command.WriteRetry = written_by_under u s h p true
+  carried_out_under u m s h p command.RecordsForward = positioned_by_under u s h (records p.count) false
+  carried_out_under u m s h p command.RecordsReverse = positioned_by_under u s h (records p.count) true
+  carried_out_under u m s h p command.MarksForward = positioned_by_under u s h (marks p.count) false
+  carried_out_under u m s h p command.MarksReverse = positioned_by_under u s h (marks p.count) true
+  carried_out_under u m s h p command.Rewind = rewound_under eotMargin u h.ie
+  carried_out_under u m s h p command.WriteMark = formatted_under u s h kind.Mark true false
+  carried_out_under u m s h p command.Erase = formatted_under u s h kind.Gap false false
+  carried_out_under u m s h p command.MarkRetry = formatted_under u s h kind.Mark true true
+  carried_out_under u m s h p command.Release = released u h.ie
+  carried_out_under u m s h p command.Unload = unloaded_under eotMargin u h.ie
+  carried_out_under u m s h p command.Clean = plain_effect_under eotMargin u h.ie
+  carried_out_under u m s h p command.Initialize = plain_effect_under eotMargin u h.ie
+  carried_out_under u m s h p command.GetStatus = plain_effect_under eotMargin u h.ie
   -- ended at step 5
-  carriedOutUnder u m s h p command.Illegal = plainEffectUnder eotMargin u h.ie
+  carried_out_under u m s h p command.Illegal = plain_effect_under eotMargin u h.ie
 
 -- and under this unit's own
-abbrev pub plainEffect : Unit → Bool → Plan
-plainEffect = plainEffectUnder margin
+abbrev pub plain_effect : Unit → Bool → Plan
+plain_effect = plain_effect_under margin
 
 abbrev pub rewound : Unit → Bool → Plan
-rewound = rewoundUnder margin
+rewound = rewound_under margin
 
 abbrev pub unloaded : Unit → Bool → Plan
-unloaded = unloadedUnder margin
+unloaded = unloaded_under margin
 
-abbrev pub refusedCharacteristics : Unit → Bool → Plan
-refusedCharacteristics = refusedCharacteristicsUnder margin
+abbrev pub refused_characteristics : Unit → Bool → Plan
+refused_characteristics = refused_characteristics_under margin
 
-abbrev pub takenCharacteristics : Unit → Characteristics → Bool → Plan
-takenCharacteristics = takenCharacteristicsUnder margin
+abbrev pub taken_characteristics : Unit → Characteristics → Bool → Plan
+taken_characteristics = taken_characteristics_under margin
 
 abbrev pub characterized : Unit → List ℕ → Packet → Bool → Plan
-characterized = characterizedUnder margin
+characterized = characterized_under margin
 
 abbrev pub positioning : List ℕ → Tape → Characteristics → Count → Bool → Motion
-positioning = positioningUnder recordLimit
+positioning = positioning_under record_limit
 
 abbrev pub read_by : Unit → List ℕ → Header → Packet → Bool → Plan
-read_by = readByUnder recordLimit margin
+read_by = read_by_under record_limit margin
 
-abbrev pub rereadBy : Unit → List ℕ → Header → Packet → Bool → Plan
-rereadBy = rereadByUnder recordLimit margin
+abbrev pub reread_by : Unit → List ℕ → Header → Packet → Bool → Plan
+reread_by = reread_by_under record_limit margin
 
-abbrev pub positionedBy : Unit → List ℕ → Header → Count → Bool → Plan
-positionedBy = positionedByUnder recordLimit margin
+abbrev pub positioned_by : Unit → List ℕ → Header → Count → Bool → Plan
+positioned_by = positioned_by_under record_limit margin
 
 abbrev pub laying : List ℕ → Tape → ℕ → Laid → Bool → Bool → Motion
-laying = layingUnder recordLimit margin
+laying = laying_under record_limit margin
 
 abbrev pub written_by : Unit → List ℕ → Header → Packet → Bool → Plan
-written_by = writtenByUnder recordLimit margin
+written_by = written_by_under record_limit margin
 
 abbrev pub formatted : Unit → List ℕ → Header → ObjectKind → Bool → Bool → Plan
-formatted = formattedUnder recordLimit margin
+formatted = formatted_under record_limit margin
 
-abbrev pub motionOf : Unit → List ℕ → Header → Packet → Command → Motion
-motionOf = motionOfUnder recordLimit margin
+abbrev pub motion_of : Unit → List ℕ → Header → Packet → Command → Motion
+motion_of = motion_of_under record_limit margin
 
-abbrev pub carriedOut : Unit → List ℕ → List ℕ → Header → Packet → Command → Plan
-carriedOut = carriedOutUnder recordLimit margin
+abbrev pub carried_out : Unit → List ℕ → List ℕ → Header → Packet → Command → Plan
+carried_out = carried_out_under record_limit margin

@@ -1,8 +1,8 @@
 // The commands, carried out.
 ghost use Rattle.std.specs.Prelude.{true, ◌≡◌, ◌+◌, ◌≤◌, length};
-ghost use Rattle.tape.specs.Numbers.{capacityLimit};
+ghost use Rattle.tape.specs.Numbers.{capacity_limit};
 ghost use Rattle.commands.specs.Ends.{plan_of};
-ghost use Rattle.commands.specs.Commands.{DataFit, asked, carriedOut, characteristicsAt, characterized, laidHere, laying, modeWord, motionOf, plainEnd, positioning, refusedCharacteristics, released, takenCharacteristics, unloaded};
+ghost use Rattle.commands.specs.Commands.{DataFit, asked, carried_out, characteristics_at, characterized, laid_here, laying, mode_word, motion_of, plain_end, positioning, refused_characteristics, released, taken_characteristics, unloaded};
 
 use crate::ends::told_course;
 use crate::plans::{Course, How};
@@ -15,7 +15,7 @@ use signals::{ByteCount, Command, End, Header, MarkCount, Packet, RecordCount, R
 use state::{Characteristics, Tape, Unit};
 
 fn plain_end() -> End
-    ensures { result ≡ plainEnd }
+    ensures { result ≡ plain_end }
 {
     let residual = Residual::Nothing;
     End {
@@ -55,7 +55,7 @@ fn unload(u: Unit, ie: bool) -> Course
 // The mode word, 0 if the count is under 8.
 fn mode_word(mem: &[u8], p: Packet) -> usize
     requires { p.pointer + p.count ≤ length mem.now }
-    ensures { result ≡ modeWord mem.now p }
+    ensures { result ≡ mode_word mem.now p }
 {
     if p.count < 8 {
         return 0;
@@ -66,7 +66,7 @@ fn mode_word(mem: &[u8], p: Packet) -> usize
 // Address low, high, length, mode word.
 fn characteristics_at(mem: &[u8], p: Packet) -> Characteristics
     requires { (p.pointer + p.count ≤ length mem.now) × (6 ≤ p.count) }
-    ensures { result ≡ characteristicsAt mem.now p }
+    ensures { result ≡ characteristics_at mem.now p }
 {
     let address = word(mem, p.pointer) + 65536 * word(mem, p.pointer + 2);
     let length = word(mem, p.pointer + 4);
@@ -82,7 +82,7 @@ fn characteristics_at(mem: &[u8], p: Packet) -> Characteristics
 
 // NBA set, class 3, all old values kept.
 fn refuse_characteristics(u: Unit, ie: bool) -> Course
-    ensures { plan_of result ≡ refusedCharacteristics u ie }
+    ensures { plan_of result ≡ refused_characteristics u ie }
 {
     let mut v = u;
     v.registers.nba = true;
@@ -99,7 +99,7 @@ fn refuse_characteristics(u: Unit, ie: bool) -> Course
 
 // NBA clears and all are taken.
 fn take_characteristics(u: Unit, c: Characteristics, ie: bool) -> Course
-    ensures { plan_of result ≡ takenCharacteristics u c ie }
+    ensures { plan_of result ≡ taken_characteristics u c ie }
 {
     let mut v = u;
     v.registers.nba = false;
@@ -134,7 +134,7 @@ fn asked_buffer(h: Header, p: Packet) -> Buffer
 }
 
 fn space(reel: &[u8], t: Tape, c: Characteristics, count: Count, reverse: bool) -> Motion
-    requires { t.end ≤ capacityLimit }
+    requires { t.end ≤ capacity_limit }
     ensures { result ≡ positioning reel.now t c count reverse }
 {
     let rule = Rule {
@@ -146,7 +146,7 @@ fn space(reel: &[u8], t: Tape, c: Characteristics, count: Count, reverse: bool) 
 
 // An object where the tape stands.
 fn lay_here(t: Tape, object: ObjectKind, pointer: usize, length: u16, swb: bool) -> Laid
-    ensures { result ≡ laidHere t object pointer length swb }
+    ensures { result ≡ laid_here t object pointer length swb }
 {
     Laid {
         at: t.position,
@@ -170,8 +170,8 @@ fn lay(reel: &[u8], t: Tape, blocks: usize, l: Laid, mark: bool, again: bool) ->
 
 // The motion of a command; those that move nothing end where the tape stands.
 fn move_tape(u: Unit, reel: &[u8], h: Header, p: Packet, c: Command) -> Motion
-    requires { u.tape.end ≤ capacityLimit }
-    ensures { result ≡ motionOf u reel.now h p c }
+    requires { u.tape.end ≤ capacity_limit }
+    ensures { result ≡ motion_of u reel.now h p c }
 {
     let t = u.tape;
     let x = u.characteristics;
@@ -217,8 +217,8 @@ fn move_tape(u: Unit, reel: &[u8], h: Header, p: Packet, c: Command) -> Motion
 
 // All but three commands end as their motion does.
 pub fn carry_out(u: Unit, mem: &[u8], reel: &[u8], h: Header, p: Packet, c: Command) -> Course
-    requires { (u.tape.end ≤ capacityLimit) × DataFit c p mem.now }
-    ensures { plan_of result ≡ carriedOut u mem.now reel.now h p c }
+    requires { (u.tape.end ≤ capacity_limit) × DataFit c p mem.now }
+    ensures { plan_of result ≡ carried_out u mem.now reel.now h p c }
 {
     if let Command::WriteCharacteristics = c {
         return characterize(u, mem, p, h.ie);

@@ -1,6 +1,6 @@
 // How a command, or an attention, ends: the state that it leaves, what it says, and whether it is told.
 ghost use Rattle.std.specs.Prelude.{◌≡◌};
-ghost use Rattle.commands.specs.Ends.{ended, motionPlan, plan_of, quiet, statusOf, still, told, untold};
+ghost use Rattle.commands.specs.Ends.{ended, motion_plan, plan_of, quiet, status_of, still, told, untold};
 
 use crate::plans::{Answer, Course, How, Plan};
 use motions::{Ending, Motion, laid_blocks, no_lay, no_move};
@@ -45,7 +45,7 @@ fn ended_unit(u: Unit, class: usize) -> Unit
 
 // The unit's condition, for XST0.
 fn status_of(u: Unit, ie: bool, mot: bool) -> Status
-    ensures { result ≡ statusOf u ie mot }
+    ensures { result ≡ status_of u ie mot }
 {
     let marker = Geometry {
         capacity: u.lengths.blocks,
@@ -96,7 +96,7 @@ fn untell(u: Unit, class: usize, interrupts: bool) -> Plan
 
 // A motion that ended is told; a block at fault refuses with 7.
 fn plan_motion(u: Unit, ie: bool, m: Motion) -> Plan
-    ensures { result ≡ motionPlan u ie m }
+    ensures { result ≡ motion_plan u ie m }
 {
     match m {
         Motion::Ended(x) => tell(u, ie, x),
@@ -106,7 +106,7 @@ fn plan_motion(u: Unit, ie: bool, m: Motion) -> Plan
 
 // A motion that is told.
 pub fn told_course(unit: Unit, ie: bool, m: Motion) -> Course
-    ensures { plan_of result ≡ motionPlan unit ie m }
+    ensures { plan_of result ≡ motion_plan unit ie m }
 {
     Course {
         unit,

@@ -1,18 +1,18 @@
 // A step back over a row: which transport the newest entry names, and what refuses it. What is undone is then that transport's alone (`steps::undo`), or memory's
 // (`steps::undo_none`), so whoever holds four reels lends one.
 ghost use Rattle.std.specs.Prelude.{◌≡◌, ◌≤◌, length};
-ghost use Rattle.entries.specs.Entries.{entryBare, usedIn};
+ghost use Rattle.entries.specs.Entries.{entry_bare, used_in};
 ghost use Rattle.worlds.specs.Coupled.{named_in};
-ghost use Rattle.worlds.specs.Looks.{looksRefusal};
-ghost use Rattle.worlds.specs.Rows.{backRefusal, row_of};
+ghost use Rattle.worlds.specs.Looks.{looks_refusal};
+ghost use Rattle.worlds.specs.Rows.{back_refusal, row_of};
 
 use entries::{BARE, TRANSPORTS, newest_entry};
 use worlds::{Coupler, Look, Seat, look_of, looks_check, looks_standing};
 
 // The number that the newest entry has: a transport's, or the one that names none.
 pub fn named(c: Coupler, jrnl: &[u8]) -> usize
-    requires { (entryBare ≤ c.used) × (c.used ≤ length jrnl.now) }
-    ensures { result ≡ named_in (usedIn c.used jrnl.now) }
+    requires { (entry_bare ≤ c.used) × (c.used ≤ length jrnl.now) }
+    ensures { result ≡ named_in (used_in c.used jrnl.now) }
 {
     let e = newest_entry(jrnl, c.used, 0);
     e.transport
@@ -28,7 +28,7 @@ pub fn looks_refusal(
     memory: usize,
     jrnl: &[u8],
 ) -> usize
-    ensures { result ≡ looksRefusal c l0 l1 l2 l3 memory (length jrnl.now) (named_in (usedIn c.used jrnl.now)) }
+    ensures { result ≡ looks_refusal c l0 l1 l2 l3 memory (length jrnl.now) (named_in (used_in c.used jrnl.now)) }
 {
     let r = looks_check(c, l0, l1, l2, l3, memory, jrnl.len());
     if r != 0 {
@@ -58,7 +58,7 @@ pub fn back_refusal(
     memory: usize,
     jrnl: &[u8],
 ) -> usize
-    ensures { result ≡ backRefusal c (row_of n s0 s1 s2 s3) memory (length jrnl.now) (named_in (usedIn c.used jrnl.now)) }
+    ensures { result ≡ back_refusal c (row_of n s0 s1 s2 s3) memory (length jrnl.now) (named_in (used_in c.used jrnl.now)) }
 {
     let m = c.memory;
     looks_refusal(

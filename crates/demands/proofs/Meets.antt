@@ -8,17 +8,17 @@ use Rattle.lists.specs.Pick.{Always}
 use Rattle.tape.specs.Pass.{ahead, passed}
 use Rattle.tape.specs.declared.Met.{Met}
 use Rattle.tape.specs.declared.Met.TheVariants as met
-use Rattle.tape.proofs.Within.{Onward, PassIn, fewer-ahead, pass-in}
+use Rattle.tape.proofs.Within.{Onward, PassIn, fewer_ahead, pass_in}
 use Rattle.tape.specs.declared.BlockFault.{BlockFault}
 use Rattle.state.specs.declared.Unit.{Unit}
-use Rattle.moves.specs.Seeking.{sought, soughtUnder, soughtFrom, soughtFromUnder, soughtOn}
+use Rattle.moves.specs.Seeking.{sought, sought_under, sought_from, sought_from_under, sought_on}
 use Rattle.moves.specs.declared.seeking.Sought.{Sought}
 use Rattle.moves.specs.declared.seeking.Sought.TheVariants as sought-as
-use Rattle.moves.proofs.Finds.{ahead-most}
+use Rattle.moves.proofs.Finds.{ahead_most}
 use Rattle.motions.specs.declared.parts.Ending.{Ending}
 use Rattle.motions.specs.declared.parts.Motion.{Motion}
 use Rattle.motions.specs.declared.parts.Motion.TheVariants as motion
-use Rattle.commands.specs.Ends.{motionPlan, motionPlanUnder, still, toldUnder}
+use Rattle.commands.specs.Ends.{motion_plan, motion_plan_under, still, told_under}
 use Rattle.commands.specs.declared.plans.Answer.{Answer}
 use Rattle.commands.specs.declared.plans.Answer.TheVariants as answer
 
@@ -32,8 +32,8 @@ module _ (s : List ℕ) (e : ℕ) (reverse : Bool) (At : ℕ → Type 0) (behind
   Meets (sought-as.Bad why k) = (q : ℕ) × At q × (passed s reverse q e ≡ met.Bad why k)
 
   meets_on : (q : ℕ) (x : Met) (onward : ℕ → Sought) → At q → passed s reverse q e ≡ x → (p ≤ e → PassIn reverse q e x)
-      → ((t : ℕ) → (p ≤ e → Onward reverse q e t) → At t → Meets (onward t)) → Meets (soughtOn x q onward)
-  unfolding soughtOn
+      → ((t : ℕ) → (p ≤ e → Onward reverse q e t) → At t → Meets (onward t)) → Meets (sought_on x q onward)
+  unfolding sought_on
   meets_on q (met.Record n t) onward a y i on = (q, a, y)
   meets_on q (met.Mark t) onward a y i on = (q, a, y)
   meets_on q (met.Gap t) onward a y i on = on t i (behind q t a y)
@@ -41,20 +41,20 @@ module _ (s : List ℕ) (e : ℕ) (reverse : Bool) (At : ℕ → Type 0) (behind
   meets_on q (met.Bad why k) onward a y i on = (q, a, y)
 
   -- a gap takes a block, so the turns are enough
-  meets-from : (turns q : ℕ) → (p ≤ e → (q ≤ e) × (ahead reverse q e ≤ turns)) → At q → Meets (soughtFrom turns s reverse q e)
-  unfolding soughtFromUnder
-  meets-from zero q l a = (a, λ h. omega (arith, (l h).1))
-  meets-from (suc turns) q l a =
-      meets_on q (passed s reverse q e) (λ t. soughtFrom turns s reverse t e) a refl (λ h. pass-in s reverse q e (l h).0)
-      (λ t o b. meets-from turns t (λ h. ((o h).below, omega (arith, (l h).1, fewer-ahead reverse q e t (l h).0 (o h)))) b)
+  meets_from : (turns q : ℕ) → (p ≤ e → (q ≤ e) × (ahead reverse q e ≤ turns)) → At q → Meets (sought_from turns s reverse q e)
+  unfolding sought_from_under
+  meets_from zero q l a = (a, λ h. omega (arith, (l h).1))
+  meets_from (suc turns) q l a =
+      meets_on q (passed s reverse q e) (λ t. sought_from turns s reverse t e) a refl (λ h. pass_in s reverse q e (l h).0)
+      (λ t o b. meets_from turns t (λ h. ((o h).below, omega (arith, (l h).1, fewer_ahead reverse q e t (l h).0 (o h)))) b)
 
   pub meets : At p → Meets (sought s reverse p e)
-  unfolding soughtUnder
-  meets a = meets-from e p (λ h. (h, ahead-most reverse p e h)) a
+  unfolding sought_under
+  meets a = meets_from e p (λ h. (h, ahead_most reverse p e h)) a
 
 -- where a search from inside the recorded part finds nothing, nothing more lies ahead
-pub nothing-ahead : (s : List ℕ) (e : ℕ) (reverse : Bool) (p : ℕ) {q : ℕ} → p ≤ e → sought s reverse p e ≡ sought-as.Nothing q → ahead reverse q e ≡ 0
-nothing-ahead s e reverse p h none = (rw none at (meets s e reverse (λ q. Always) (λ q t a y. tt) p tt)).1 h
+pub nothing_ahead : (s : List ℕ) (e : ℕ) (reverse : Bool) (p : ℕ) {q : ℕ} → p ≤ e → sought s reverse p e ≡ sought-as.Nothing q → ahead reverse q e ≡ 0
+nothing_ahead s e reverse p h none = (rw none at (meets s e reverse (λ q. Always) (λ q t a y. tt) p tt)).1 h
 
 -- how a motion came out: Q of its ending, or F of the block that refuses it
 abbrev pub Comes : (Ending → Type 0) → (BlockFault → ℕ → Type 0) → Motion → Type 0
@@ -69,7 +69,7 @@ Answers F answer.Idle = Always
 Answers F (answer.Refused n) = Always
 
 -- a motion's fault is its plan's answer
-pub motion-answers : (Q : Ending → Type 0) (F : BlockFault → ℕ → Type 0) (u : Unit) (ie : Bool) (x : Motion) → Comes Q F x → Answers F (motionPlan u ie x).answer
-unfolding motionPlanUnder toldUnder still
-motion-answers Q F u ie (motion.Ended x) c = tt
-motion-answers Q F u ie (motion.Fault why k) c = c
+pub motion_answers : (Q : Ending → Type 0) (F : BlockFault → ℕ → Type 0) (u : Unit) (ie : Bool) (x : Motion) → Comes Q F x → Answers F (motion_plan u ie x).answer
+unfolding motion_plan_under told_under still
+motion_answers Q F u ie (motion.Ended x) c = tt
+motion_answers Q F u ie (motion.Fault why k) c = c

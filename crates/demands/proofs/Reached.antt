@@ -9,209 +9,209 @@ use lib.Dec.{eqb, leb, ltb}
 use lib.ListN.{length}
 use Rattle.tape.specs.declared.BlockFault.{BlockFault}
 use Rattle.lists.specs.Pick.{Always}
-use Rattle.lists.proofs.Cases.{by-test, pick-told}
-use Rattle.signals.specs.Codes.{commandOf, controlMode, formatMode, positionMode, readMode, singleMode, writeMode}
-use Rattle.signals.specs.Numbers.{pointerLimit}
+use Rattle.lists.proofs.Cases.{by_test, pick_told}
+use Rattle.signals.specs.Codes.{command_of, control_mode, format_mode, position_mode, read_mode, single_mode, write_mode}
+use Rattle.signals.specs.Numbers.{pointer_limit}
 use Rattle.signals.specs.declared.codes.Command.{Command}
 use Rattle.signals.specs.declared.codes.Command.TheVariants as command
 use Rattle.signals.specs.declared.packet.Header.{Header}
 use Rattle.signals.specs.declared.packet.Packet.{Packet}
-use Rattle.state.specs.Checks.{bufferWrong}
+use Rattle.state.specs.Checks.{buffer_wrong}
 use Rattle.state.specs.declared.Tape.{Tape}
 use Rattle.state.specs.declared.Unit.{Unit}
 use Rattle.state.proofs.Tests.{either}
-use Rattle.moves.specs.Counting.{howMany}
+use Rattle.moves.specs.Counting.{how_many}
 use Rattle.moves.specs.Seeking.{sought}
 use Rattle.moves.specs.declared.seeking.Sought.{Sought}
 use Rattle.moves.specs.declared.seeking.Sought.TheVariants as sought-as
-use Rattle.motions.specs.Parts.{laidBlocks}
-use Rattle.motions.specs.Writes.{behindGap, noRoom, retried, retriedUnder, retriedBy, retriedByUnder, writtenAt, writtenAtUnder, writtenMotionUnder}
+use Rattle.motions.specs.Parts.{laid_blocks}
+use Rattle.motions.specs.Writes.{behind_gap, no_room, retried, retried_under, retried_by, retried_by_under, written_at, written_at_under, written_motion_under}
 use Rattle.motions.specs.declared.parts.Laid.{Laid}
 use Rattle.motions.specs.declared.parts.Motion.{Motion}
-use Rattle.commands.specs.Commands.{carriedOut, carriedOutUnder, characteristicsAt, characterized, characterizedUnder, formattedUnder, plainEffectUnder, positionedBy, positionedByUnder, refusedCharacteristicsUnder, released, rewoundUnder, takenCharacteristicsUnder, unloadedUnder, writtenByUnder}
-use Rattle.commands.specs.Ends.{motionPlan, still, toldUnder, untold}
+use Rattle.commands.specs.Commands.{carried_out, carried_out_under, characteristics_at, characterized, characterized_under, formatted_under, plain_effect_under, positioned_by, positioned_by_under, refused_characteristics_under, released, rewound_under, taken_characteristics_under, unloaded_under, written_by_under}
+use Rattle.commands.specs.Ends.{motion_plan, still, told_under, untold}
 use Rattle.commands.specs.declared.plans.Answer.{Answer}
 use Rattle.commands.specs.declared.plans.Answer.TheVariants as answer
 use Rattle.commands.specs.declared.plans.Plan.{Plan}
-use Rattle.advance.specs.Rules.{reverseFirst, writes}
+use Rattle.advance.specs.Rules.{reverse_first, writes}
 use Rattle.advance.specs.Steps.{advanced}
-use Rattle.demands.specs.Done.{Gapped, RunsOn, at_once, behind-gap, way}
-use Rattle.demands.specs.Faults.{FirstFault, ReadOver, nothing_yet, then-gap}
-use Rattle.demands.specs.MustRead.{MustRead, of-many, of_one}
-use Rattle.demands.specs.Saying.{countAsked, markAtStart, ruleAsked}
+use Rattle.demands.specs.Done.{Gapped, RunsOn, at_once, after_gap, way}
+use Rattle.demands.specs.Faults.{FirstFault, ReadOver, nothing_yet, then_gap}
+use Rattle.demands.specs.MustRead.{MustRead, of_many, of_one}
+use Rattle.demands.specs.Saying.{count_asked, mark_at_start, rule_asked}
 use Rattle.demands.specs.Stops.{SpaceRefused}
-use Rattle.demands.specs.Ways.{Way, attention, bad-pointer, carried, header, idle, locked, lost, no_buffer, no-extent, no_header, no_words, not-executable, not-mounted, not-owned, packet, started, unknown}
-use Rattle.demands.proofs.Done.{FirstBad, position-mode, position-reverse, read-command, read-refused}
-use Rattle.demands.proofs.Faults.{first-here}
-use Rattle.demands.proofs.Meets.{Answers, Comes, Meets, meets, motion-answers}
-use Rattle.demands.proofs.Stopping.{space-comes, space-of-none}
-use Rattle.demands.proofs.Ways.{advanced-way}
+use Rattle.demands.specs.Ways.{Way, attention, bad_pointer, carried, header, idle, locked, lost, no_buffer, no_extent, no_header, no_words, no_execution, not_mounted, not_owned, packet, started, unknown}
+use Rattle.demands.proofs.Done.{FirstBad, position_mode_lem, position_reverse, read_command, read_refused}
+use Rattle.demands.proofs.Faults.{first_here}
+use Rattle.demands.proofs.Meets.{Answers, Comes, Meets, meets, motion_answers}
+use Rattle.demands.proofs.Stopping.{space_comes, space_of_none}
+use Rattle.demands.proofs.Ways.{advanced_way}
 
 -- what the block named means, said in other words
-answers-as : (F G : BlockFault → ℕ → Type 0) (a : Answer) → ((why : BlockFault) (k : ℕ) → F why k → G why k) → Answers F a → Answers G a
-answers-as F G (answer.BadBlock why k) f h = f why k h
-answers-as F G (answer.Done i) f h = tt
-answers-as F G answer.Idle f h = tt
-answers-as F G (answer.Refused n) f h = tt
+answers_as : (F G : BlockFault → ℕ → Type 0) (a : Answer) → ((why : BlockFault) (k : ℕ) → F why k → G why k) → Answers F a → Answers G a
+answers_as F G (answer.BadBlock why k) f h = f why k h
+answers_as F G (answer.Done i) f h = tt
+answers_as F G answer.Idle f h = tt
+answers_as F G (answer.Refused n) f h = tt
 
 -- the commands that read one object: a Read, and a retry, which goes in reverse first
-abbrev readsOne : Header → Bool
-readsOne h = eqb h.code 1 || (writes h && eqb h.mode 2)
+abbrev reads_one : Header → Bool
+reads_one h = eqb h.code 1 || (writes h && eqb h.mode 2)
 
-read_one : (h : Header) → h.code ≡ 1 → readsOne h ≡ true
+read_one : (h : Header) → h.code ≡ 1 → reads_one h ≡ true
 read_one h y = rw y
 
-write-one : (h : Header) → h.code ≡ 5 → h.mode ≡ 2 → (readsOne h ≡ true) × (reverseFirst h ≡ true)
-write-one h y z = (rw (y, z), rw (y, z))
+write_one : (h : Header) → h.code ≡ 5 → h.mode ≡ 2 → (reads_one h ≡ true) × (reverse_first h ≡ true)
+write_one h y z = (rw (y, z), rw (y, z))
 
-format-one : (h : Header) → h.code ≡ 9 → h.mode ≡ 2 → (readsOne h ≡ true) × (reverseFirst h ≡ true)
-format-one h y z = (rw (y, z), rw (y, z))
+format_one : (h : Header) → h.code ≡ 9 → h.mode ≡ 2 → (reads_one h ≡ true) × (reverse_first h ≡ true)
+format_one h y z = (rw (y, z), rw (y, z))
 
 module _ (F : BlockFault → ℕ → Type 0) where
   -- nothing is read where an object is written
-  written_none : (t : Tape) (blocks : ℕ) (l : Laid) (mark : Bool) → Comes (λ x. Always) F (writtenAt t blocks l mark)
-  unfolding writtenAtUnder noRoom writtenMotionUnder
-  written_none t blocks l mark = either (Comes (λ x. Always) F) (ltb blocks (l.at + laidBlocks l)) _ _ tt tt
+  written_none : (t : Tape) (blocks : ℕ) (l : Laid) (mark : Bool) → Comes (λ x. Always) F (written_at t blocks l mark)
+  unfolding written_at_under no_room written_motion_under
+  written_none t blocks l mark = either (Comes (λ x. Always) F) (ltb blocks (l.at + laid_blocks l)) _ _ tt tt
 
   -- nor by Write Characteristics, taken or refused
-  characterized-none : (v : Unit) (m : List ℕ) (x : Packet) (ie : Bool) → Answers F (characterized v m x ie).answer
-  unfolding characterizedUnder refusedCharacteristicsUnder takenCharacteristicsUnder toldUnder
-  characterized-none v m x ie =
-      let c = characteristicsAt m x in
+  characterized_none : (v : Unit) (m : List ℕ) (x : Packet) (ie : Bool) → Answers F (characterized v m x ie).answer
+  unfolding characterized_under refused_characteristics_under taken_characteristics_under told_under
+  characterized_none v m x ie =
+      let c = characteristics_at m x in
       let P : Plan → Type 0 = λ q. Answers F q.answer in
-      either P (ltb x.count 6) _ _ tt (either P (leb pointerLimit c.address || bufferWrong c (length m)) _ _ tt tt)
+      either P (ltb x.count 6) _ _ tt (either P (leb pointer_limit c.address || buffer_wrong c (length m)) _ _ tt tt)
 
   -- nor by a rewind
-  rewind-none : (v : Unit) (m s : List ℕ) (h : Header) (x : Packet) (mode : ℕ) → 4 ≤ mode → Answers F (carriedOut v m s h x (positionMode mode)).answer
-  unfolding positionMode carriedOutUnder rewoundUnder plainEffectUnder toldUnder
-  rewind-none v m s h x mode l =
+  rewind_none : (v : Unit) (m s : List ℕ) (h : Header) (x : Packet) (mode : ℕ) → 4 ≤ mode → Answers F (carried_out v m s h x (position_mode mode)).answer
+  unfolding position_mode carried_out_under rewound_under plain_effect_under told_under
+  rewind_none v m s h x mode l =
       let other : (k : ℕ) → k < 4 → eqb mode k ≡ false = λ k j. ne_eqb mode k (λ z. omega arith) in
       rw (other 0 (omega arith), other 1 (omega arith), other 2 (omega arith), other 3 (omega arith))
-      (either (λ c. Answers F (carriedOut v m s h x c).answer) (eqb mode 4) command.Rewind command.Illegal tt tt)
+      (either (λ c. Answers F (carried_out v m s h x c).answer) (eqb mode 4) command.Rewind command.Illegal tt tt)
 
 module _ (u : Unit) (m s : List ℕ) (inside : u.tape.position ≤ u.tape.end) where
   -- a command that runs
   module _ (ran : RunsOn u m s) where
     abbrev Must : Command → Type 0
-    Must c = Answers (MustRead u m s) (carriedOut (started u m s) m s (header u m s) (packet u m s) c).answer
+    Must c = Answers (MustRead u m s) (carried_out (started u m s) m s (header u m s) (packet u m s) c).answer
 
     abbrev Moves : Motion → Type 0
-    Moves y = Answers (MustRead u m s) (motionPlan (started u m s) (header u m s).ie y).answer
+    Moves y = Answers (MustRead u m s) (motion_plan (started u m s) (header u m s).ie y).answer
 
     -- a Read
-    read-must : (header u m s).code ≡ 1 → Must (readMode (header u m s).mode)
-    read-must code =
+    read_must : (header u m s).code ≡ 1 → Must (read_mode (header u m s).mode)
+    read_must code =
         let h : Header = header u m s in
-        subst Must (read-command h.code h.mode code)
-        (answers-as (FirstBad u m s) (MustRead u m s) (carriedOut (started u m s) m s h (packet u m s) (commandOf h.code h.mode)).answer
-        (λ why k (q, g, y). of_one ran (read_one h code) g y) (read-refused u m s inside code ran))
+        subst Must (read_command h.code h.mode code)
+        (answers_as (FirstBad u m s) (MustRead u m s) (carried_out (started u m s) m s h (packet u m s) (command_of h.code h.mode)).answer
+        (λ why k (q, g, y). of_one ran (read_one h code) g y) (read_refused u m s inside code ran))
 
     -- a retry, by what its space back met
-    module _ (l : Laid) (mark : Bool) (one : readsOne (header u m s) ≡ true) where
-      retry-by : (f : Sought) → Meets s u.tape.end (way u m s) (Gapped u m s) (λ q t g y. behind-gap g y) u.tape.position f
-          → Comes (λ x. Always) (MustRead u m s) (retriedBy u.tape u.lengths.blocks l mark f)
-      unfolding retriedByUnder
-      retry-by (sought-as.Record n q) o = written_none (MustRead u m s) u.tape u.lengths.blocks (behindGap l q) mark
-      retry-by (sought-as.Mark q) o = written_none (MustRead u m s) u.tape u.lengths.blocks (behindGap l q) mark
-      retry-by (sought-as.Nothing q) o = tt
-      retry-by (sought-as.Bad why k) (q, g, y) = of_one ran one g y
+    module _ (l : Laid) (mark : Bool) (one : reads_one (header u m s) ≡ true) where
+      retry_by : (f : Sought) → Meets s u.tape.end (way u m s) (Gapped u m s) (λ q t g y. after_gap g y) u.tape.position f
+          → Comes (λ x. Always) (MustRead u m s) (retried_by u.tape u.lengths.blocks l mark f)
+      unfolding retried_by_under
+      retry_by (sought-as.Record n q) o = written_none (MustRead u m s) u.tape u.lengths.blocks (behind_gap l q) mark
+      retry_by (sought-as.Mark q) o = written_none (MustRead u m s) u.tape u.lengths.blocks (behind_gap l q) mark
+      retry_by (sought-as.Nothing q) o = tt
+      retry_by (sought-as.Bad why k) (q, g, y) = of_one ran one g y
 
-      retry-must : way u m s ≡ true → Moves (retried s u.tape u.lengths.blocks l mark)
-      unfolding retriedUnder
-      retry-must back =
-          let by : Bool → Motion = λ b. retriedBy u.tape u.lengths.blocks l mark (sought s b u.tape.position u.tape.end) in
+      retry_must : way u m s ≡ true → Moves (retried s u.tape u.lengths.blocks l mark)
+      unfolding retried_under
+      retry_must back =
+          let by : Bool → Motion = λ b. retried_by u.tape u.lengths.blocks l mark (sought s b u.tape.position u.tape.end) in
           subst (λ b. Moves (by b)) back
-          (motion-answers (λ x. Always) (MustRead u m s) (started u m s) (header u m s).ie (by (way u m s))
-          (retry-by _ (meets s u.tape.end (way u m s) (Gapped u m s) (λ q t g y. behind-gap g y) u.tape.position at_once)))
+          (motion_answers (λ x. Always) (MustRead u m s) (started u m s) (header u m s).ie (by (way u m s))
+          (retry_by _ (meets s u.tape.end (way u m s) (Gapped u m s) (λ q t g y. after_gap g y) u.tape.position at_once)))
 
     -- an object written where the tape stands
-    written-must : (l : Laid) (mark : Bool) → Moves (writtenAt u.tape u.lengths.blocks l mark)
-    written-must l mark =
-        motion-answers (λ x. Always) (MustRead u m s) (started u m s) (header u m s).ie (writtenAt u.tape u.lengths.blocks l mark) (written_none (MustRead u m s) u.tape u.lengths.blocks l mark)
+    written_must : (l : Laid) (mark : Bool) → Moves (written_at u.tape u.lengths.blocks l mark)
+    written_must l mark =
+        motion_answers (λ x. Always) (MustRead u m s) (started u m s) (header u m s).ie (written_at u.tape u.lengths.blocks l mark) (written_none (MustRead u m s) u.tape u.lengths.blocks l mark)
 
-    write-must : (header u m s).code ≡ 5 → Must (writeMode (header u m s).mode)
-    unfolding writeMode carriedOutUnder writtenByUnder plainEffectUnder toldUnder
-    write-must code =
+    write_must : (header u m s).code ≡ 5 → Must (write_mode (header u m s).mode)
+    unfolding write_mode carried_out_under written_by_under plain_effect_under told_under
+    write_must code =
         let mode : ℕ = (header u m s).mode in
-        either Must (eqb mode 0) _ _ (written-must _ _) (pick-told Must (eqb mode 2) _ _ (λ t. let w = write-one (header u m s) code (eqb-true mode 2 t) in retry-must _ _ w.0 w.1) (λ t. tt))
+        either Must (eqb mode 0) _ _ (written_must _ _) (pick_told Must (eqb mode 2) _ _ (λ t. let w = write_one (header u m s) code (eqb-true mode 2 t) in retry_must _ _ w.0 w.1) (λ t. tt))
 
-    format-must : (header u m s).code ≡ 9 → Must (formatMode (header u m s).mode)
-    unfolding formatMode carriedOutUnder formattedUnder plainEffectUnder toldUnder
-    format-must code =
+    format_must : (header u m s).code ≡ 9 → Must (format_mode (header u m s).mode)
+    unfolding format_mode carried_out_under formatted_under plain_effect_under told_under
+    format_must code =
         let mode : ℕ = (header u m s).mode in
-        either Must (eqb mode 0) _ _ (written-must _ _)
-        (either Must (eqb mode 1) _ _ (written-must _ _) (pick-told Must (eqb mode 2) _ _ (λ t. let w = format-one (header u m s) code (eqb-true mode 2 t) in retry-must _ _ w.0 w.1) (λ t. tt)))
+        either Must (eqb mode 0) _ _ (written_must _ _)
+        (either Must (eqb mode 1) _ _ (written_must _ _) (pick_told Must (eqb mode 2) _ _ (λ t. let w = format_one (header u m s) code (eqb-true mode 2 t) in retry_must _ _ w.0 w.1) (λ t. tt)))
 
     -- a Position mode 0 to 3, with a count or without
     abbrev Refuses : BlockFault → ℕ → Type 0
-    Refuses = SpaceRefused s u.tape (ruleAsked u m s) (countAsked u m s) (markAtStart u m s)
+    Refuses = SpaceRefused s u.tape (rule_asked u m s) (count_asked u m s) (mark_at_start u m s)
 
-    space-answers : Answers Refuses (positionedBy (started u m s) s (header u m s) (countAsked u m s) (way u m s)).answer
-    unfolding positionedByUnder
-    space-answers =
+    space_answers : Answers Refuses (positioned_by (started u m s) s (header u m s) (count_asked u m s) (way u m s)).answer
+    unfolding positioned_by_under
+    space_answers =
         let v : Unit = started u m s in
         let ie : Bool = (header u m s).ie in
-        let n : ℕ = howMany (countAsked u m s) in
-        by-test (eqb n 0)
-        (λ z. motion-answers (λ x. Always) Refuses v ie _ (rw (space-of-none s u.tape (ruleAsked u m s) (countAsked u m s) u.characteristics.enb (eqb-true n 0 z)) tt))
-        (λ z. motion-answers _ Refuses v ie _ (space-comes s u.tape (ruleAsked u m s) (countAsked u m s) u.characteristics.enb inside z))
+        let n : ℕ = how_many (count_asked u m s) in
+        by_test (eqb n 0)
+        (λ z. motion_answers (λ x. Always) Refuses v ie _ (rw (space_of_none s u.tape (rule_asked u m s) (count_asked u m s) u.characteristics.enb (eqb-true n 0 z)) tt))
+        (λ z. motion_answers _ Refuses v ie _ (space_comes s u.tape (rule_asked u m s) (count_asked u m s) u.characteristics.enb inside z))
 
-    position-must : (header u m s).code ≡ 8 → Must (positionMode (header u m s).mode)
-    position-must code =
+    position_must : (header u m s).code ≡ 8 → Must (position_mode (header u m s).mode)
+    position_must code =
         let h : Header = header u m s in
-        let by : Bool → Plan = λ b. positionedBy (started u m s) s h (countAsked u m s) b in
-        by-test (ltb h.mode 4)
+        let by : Bool → Plan = λ b. positioned_by (started u m s) s h (count_asked u m s) b in
+        by_test (ltb h.mode 4)
         (λ t.
         let few : h.mode < 4 = ltb-true h.mode 4 t in
-        let is : carriedOut (started u m s) m s h (packet u m s) (positionMode h.mode) ≡ by (way u m s) = position-mode (started u m s) m s h (packet u m s) h.mode few ∙ ap by (sym (position-reverse h code)) in
-        rw is (answers-as Refuses (MustRead u m s) (by (way u m s)).answer (λ why k x. of-many ran code few x) space-answers))
-        (λ t. rewind-none (MustRead u m s) (started u m s) m s h (packet u m s) h.mode (ltb-false h.mode 4 t))
+        let is : carried_out (started u m s) m s h (packet u m s) (position_mode h.mode) ≡ by (way u m s) = position_mode_lem (started u m s) m s h (packet u m s) h.mode few ∙ ap by (sym (position_reverse h code)) in
+        rw is (answers_as Refuses (MustRead u m s) (by (way u m s)).answer (λ why k x. of_many ran code few x) space_answers))
+        (λ t. rewind_none (MustRead u m s) (started u m s) m s h (packet u m s) h.mode (ltb-false h.mode 4 t))
 
     -- every command, by its code
-    command-must : Must (commandOf (header u m s).code (header u m s).mode)
-    unfolding commandOf singleMode controlMode carriedOutUnder released unloadedUnder plainEffectUnder toldUnder untold still
-    command-must =
+    command_must : Must (command_of (header u m s).code (header u m s).mode)
+    unfolding command_of single_mode control_mode carried_out_under released unloaded_under plain_effect_under told_under untold still
+    command_must =
         let code : ℕ = (header u m s).code in
         let mode : ℕ = (header u m s).mode in
-        pick-told Must (eqb code 1) _ _ (λ t. read-must (eqb-true code 1 t)) (λ f.
-        pick-told Must (eqb code 4) _ _ (λ t. either Must (eqb mode 0) _ _ (characterized-none (MustRead u m s) (started u m s) m (packet u m s) (header u m s).ie) tt) (λ f.
-        pick-told Must (eqb code 5) _ _ (λ t. write-must (eqb-true code 5 t)) (λ f.
-        pick-told Must (eqb code 8) _ _ (λ t. position-must (eqb-true code 8 t)) (λ f.
-        pick-told Must (eqb code 9) _ _ (λ t. format-must (eqb-true code 9 t)) (λ f.
+        pick_told Must (eqb code 1) _ _ (λ t. read_must (eqb-true code 1 t)) (λ f.
+        pick_told Must (eqb code 4) _ _ (λ t. either Must (eqb mode 0) _ _ (characterized_none (MustRead u m s) (started u m s) m (packet u m s) (header u m s).ie) tt) (λ f.
+        pick_told Must (eqb code 5) _ _ (λ t. write_must (eqb-true code 5 t)) (λ f.
+        pick_told Must (eqb code 8) _ _ (λ t. position_must (eqb-true code 8 t)) (λ f.
+        pick_told Must (eqb code 9) _ _ (λ t. format_must (eqb-true code 9 t)) (λ f.
         either Must (eqb code 10) _ _ (either Must (eqb mode 0) _ _ tt (either Must (eqb mode 1) _ _ tt (either Must (eqb mode 2) _ _ tt tt)))
         (either Must (eqb code 11) _ _ (either Must (eqb mode 0) _ _ tt tt)
         (either Must (eqb code 15) _ _ (either Must (eqb mode 0) _ _ tt tt) tt)))))))
 
   -- only a command carried out can answer with a block: the other ways answer Done or Idle
-  way-must : {x : Plan} → Way u m s x → Answers (MustRead u m s) x.answer
-  unfolding toldUnder untold still
-  way-must (idle a b) = tt
-  way-must (attention a b) = tt
-  way-must (no_header a b) = tt
-  way-must (not-owned w a) = tt
-  way-must (lost w a b) = tt
-  way-must (unknown b a) = tt
-  way-must (no_buffer b a c) = tt
-  way-must (no_words b a c d) = tt
-  way-must (bad-pointer f a) = tt
-  way-must (not-mounted f a b) = tt
-  way-must (locked f a b c) = tt
-  way-must (not-executable f a b c d) = tt
-  way-must (no-extent r a) = tt
-  way-must (carried r a) = command-must (r, a)
+  way_must : {x : Plan} → Way u m s x → Answers (MustRead u m s) x.answer
+  unfolding told_under untold still
+  way_must (idle a b) = tt
+  way_must (attention a b) = tt
+  way_must (no_header a b) = tt
+  way_must (not_owned w a) = tt
+  way_must (lost w a b) = tt
+  way_must (unknown b a) = tt
+  way_must (no_buffer b a c) = tt
+  way_must (no_words b a c d) = tt
+  way_must (bad_pointer f a) = tt
+  way_must (not_mounted f a b) = tt
+  way_must (locked f a b c) = tt
+  way_must (no_execution f a b c d) = tt
+  way_must (no_extent r a) = tt
+  way_must (carried r a) = command_must (r, a)
 
 -- "7 a block that mount or the command must read is damaged or out of place (its number is given)": the command must read it
-pub advanced-must : (u : Unit) (m s : List ℕ) (why : BlockFault) (k : ℕ) → u.tape.position ≤ u.tape.end → (advanced u m s).answer ≡ answer.BadBlock why k → MustRead u m s why k
-advanced-must u m s why k inside y =
-    let a : Answers (MustRead u m s) (advanced u m s).answer = way-must u m s inside (advanced-way u m s) in
+pub advanced_must : (u : Unit) (m s : List ℕ) (why : BlockFault) (k : ℕ) → u.tape.position ≤ u.tape.end → (advanced u m s).answer ≡ answer.BadBlock why k → MustRead u m s why k
+advanced_must u m s why k inside y =
+    let a : Answers (MustRead u m s) (advanced u m s).answer = way_must u m s inside (advanced_way u m s) in
     rw y at a
 
 -- gaps were read over
-gapped-over : (u : Unit) (m s : List ℕ) {q : ℕ} → Gapped u m s q → ReadOver s u.tape.end (way u m s) u.tape.position q
-gapped-over u m s at_once = nothing_yet
-gapped-over u m s (behind-gap g y) = then-gap (gapped-over u m s g) y
+gapped_over : (u : Unit) (m s : List ℕ) {q : ℕ} → Gapped u m s q → ReadOver s u.tape.end (way u m s) u.tape.position q
+gapped_over u m s at_once = nothing_yet
+gapped_over u m s (after_gap g y) = then_gap (gapped_over u m s g) y
 
 -- a block that a command must read is the first at fault that lies ahead of where the tape stands, the way of its first stage
-pub must-first : (u : Unit) (m s : List ℕ) (why : BlockFault) (k : ℕ) → u.tape.position ≤ u.tape.end → MustRead u m s why k → FirstFault s u.tape.end (reverseFirst (header u m s)) u.tape.position why k
-must-first u m s why k inside (of_one ran one g y) = first-here s u.tape.end (way u m s) inside (gapped-over u m s g) y
-must-first u m s why k inside (of-many ran code few x) = first-here s u.tape.end (way u m s) inside x.over x.bad
+pub must_first : (u : Unit) (m s : List ℕ) (why : BlockFault) (k : ℕ) → u.tape.position ≤ u.tape.end → MustRead u m s why k → FirstFault s u.tape.end (reverse_first (header u m s)) u.tape.position why k
+must_first u m s why k inside (of_one ran one g y) = first_here s u.tape.end (way u m s) inside (gapped_over u m s g) y
+must_first u m s why k inside (of_many ran code few x) = first_here s u.tape.end (way u m s) inside x.over x.bad

@@ -8,15 +8,15 @@ use native.Mathlib.Omega.{arith}
 use borrow.Author.Tests.{eqb-true}
 use lib.Dec.{eqb}
 use Rattle.lists.specs.Pick.{Always}
-use Rattle.lists.proofs.Cases.{pick-told}
+use Rattle.lists.proofs.Cases.{pick_told}
 use Rattle.tape.specs.Objects.{Holds, Object}
 use Rattle.tape.specs.declared.BlockFault.{BlockFault}
-use Rattle.signals.specs.Residuals.{residualWord}
+use Rattle.signals.specs.Residuals.{residual_word}
 use Rattle.signals.specs.declared.message.End.{End}
 use Rattle.state.specs.declared.Tape.{Tape}
 use Rattle.state.proofs.Tests.{either}
-use Rattle.moves.specs.Between.{Between, Bound, countIn}
-use Rattle.moves.specs.Counting.{howMany, ofMarks}
+use Rattle.moves.specs.Between.{Between, Bound, count_in}
+use Rattle.moves.specs.Counting.{how_many, of_marks}
 use Rattle.moves.specs.Spacing.{spaced}
 use Rattle.moves.specs.declared.seeking.Sought.{Sought}
 use Rattle.moves.specs.declared.seeking.Sought.TheVariants as sought-as
@@ -27,163 +27,163 @@ use Rattle.moves.specs.declared.spacing.Span.{Span}
 use Rattle.moves.specs.declared.spacing.Spaced.{Spaced}
 use Rattle.moves.specs.declared.spacing.Stop.{Stop}
 use Rattle.moves.specs.declared.spacing.Stop.TheVariants as stop-as
-use Rattle.moves.proofs.Bounds.{bound-below, stays}
-use Rattle.moves.proofs.Counts.{spaced-between, spaced-sound, spaced-why}
-use Rattle.motions.specs.Parts.{end, movedLength, standing, stops}
-use Rattle.motions.specs.Reads.{markEnd, nothingEnd, onRecord, readEnd, readMotion, readOne, readOneUnder, readThenSpace, readThenSpaceUnder, reread, rereadUnder, spaceBack, spaceBackUnder, spaceThenRead, spaceThenReadUnder, stageBy, stageOf, stageOfUnder, stopMotion}
-use Rattle.motions.specs.Spaces.{positioned, positionedUnder, residualOf, spaceEnd, spaceMotion, spaceMotionBy, startSpan}
+use Rattle.moves.proofs.Bounds.{bound_below, stays}
+use Rattle.moves.proofs.Counts.{spaced_between, spaced_sound, spaced_why}
+use Rattle.motions.specs.Parts.{end, moved_length, standing, stops}
+use Rattle.motions.specs.Reads.{mark_end, nothing_end, on_record, read_end, read_motion, read_one, read_one_under, read_then_space, read_then_space_under, reread, reread_under, space_back, space_back_under, space_then_read, space_then_read_under, stage_by, stage_of, stage_of_under, stop_motion}
+use Rattle.motions.specs.Spaces.{positioned, positioned_under, residual_of, space_end, space_motion, space_motion_by, start_span}
 use Rattle.motions.specs.declared.parts.Motion.{Motion}
 use Rattle.motions.specs.declared.parts.Motion.TheVariants as motion
 use Rattle.motions.specs.declared.parts.Ending.{Ending}
 use Rattle.motions.specs.declared.reads.Buffer.{Buffer}
 use Rattle.motions.specs.declared.reads.Stage.{Stage}
 use Rattle.motions.proofs.Ends.{Has}
-use Rattle.motions.proofs.Onward.{StageHas, on-record}
+use Rattle.motions.proofs.Onward.{StageHas, on_record_lem}
 use Rattle.demands.specs.Spacing.{SpacedPast}
 
 -- the bytes that a Read moved and its residual
 module _ (r : Buffer) where
   abbrev Adds : Ending → Type 0
-  Adds x = movedLength x.moved + residualWord x.end.residual ≡ r.count.0
+  Adds x = moved_length x.moved + residual_word x.end.residual ≡ r.count.0
 
-  record-adds : (reverse : Bool) (n q : ℕ) (t : Tape) (rev : Bool) → Has Adds (readMotion r reverse n q t rev)
-  unfolding readMotion readEnd movedLength
-  record-adds reverse n q t rev = omega arith
+  record_adds : (reverse : Bool) (n q : ℕ) (t : Tape) (rev : Bool) → Has Adds (read_motion r reverse n q t rev)
+  unfolding read_motion read_end moved_length
+  record_adds reverse n q t rev = omega arith
 
-  mark-adds : (reverse : Bool) (q e : ℕ) → Has Adds (stopMotion (markEnd r.count reverse) q e)
-  unfolding stopMotion markEnd movedLength
-  mark-adds reverse q e = omega arith
+  mark_adds : (reverse : Bool) (q e : ℕ) → Has Adds (stop_motion (mark_end r.count reverse) q e)
+  unfolding stop_motion mark_end moved_length
+  mark_adds reverse q e = omega arith
 
-  nothing-adds : (reverse : Bool) (q e : ℕ) → Has Adds (stopMotion (nothingEnd r.count reverse) q e)
-  unfolding stopMotion nothingEnd movedLength
-  nothing-adds true q e = omega arith
-  nothing-adds false q e = omega arith
+  nothing_adds : (reverse : Bool) (q e : ℕ) → Has Adds (stop_motion (nothing_end r.count reverse) q e)
+  unfolding stop_motion nothing_end moved_length
+  nothing_adds true q e = omega arith
+  nothing_adds false q e = omega arith
 
   -- a stage that is over
   abbrev StageAdds : Stage → Type 0
   StageAdds = StageHas (Has Adds) (λ n q. Always)
 
-  stage-by : (t : Tape) (reverse : Bool) (f : Sought) → StageAdds (stageBy t r.count reverse f)
-  unfolding stageBy stopMotion
-  stage-by t reverse (sought-as.Record n q) = tt
-  stage-by t reverse (sought-as.Mark q) = mark-adds reverse q t.end
-  stage-by t reverse (sought-as.Nothing q) = nothing-adds reverse q t.end
-  stage-by t reverse (sought-as.Bad why k) = tt
+  stage_by_lem : (t : Tape) (reverse : Bool) (f : Sought) → StageAdds (stage_by t r.count reverse f)
+  unfolding stage_by stop_motion
+  stage_by_lem t reverse (sought-as.Record n q) = tt
+  stage_by_lem t reverse (sought-as.Mark q) = mark_adds reverse q t.end
+  stage_by_lem t reverse (sought-as.Nothing q) = nothing_adds reverse q t.end
+  stage_by_lem t reverse (sought-as.Bad why k) = tt
 
   module _ (s : List ℕ) where
-    stage-adds : (t : Tape) (reverse : Bool) → StageAdds (stageOf s t r.count reverse)
-    unfolding stageOfUnder
-    stage-adds t reverse = stage-by t reverse _
+    stage_adds : (t : Tape) (reverse : Bool) → StageAdds (stage_of s t r.count reverse)
+    unfolding stage_of_under
+    stage_adds t reverse = stage_by_lem t reverse _
 
     -- what goes on from a stage
-    goes_on : (t : Tape) (reverse : Bool) (f : ℕ → ℕ → Motion) → ((n q : ℕ) → Has Adds (f n q)) → Has Adds (onRecord (stageOf s t r.count reverse) f)
-    goes_on t reverse f h = on-record (Has Adds) (λ n q. Always) _ f (stage-adds t reverse) (λ n q i. h n q)
+    goes_on : (t : Tape) (reverse : Bool) (f : ℕ → ℕ → Motion) → ((n q : ℕ) → Has Adds (f n q)) → Has Adds (on_record (stage_of s t r.count reverse) f)
+    goes_on t reverse f h = on_record_lem (Has Adds) (λ n q. Always) _ f (stage_adds t reverse) (λ n q i. h n q)
 
-    one-adds : (t : Tape) (reverse : Bool) → Has Adds (readOne s t r reverse)
-    unfolding readOneUnder
-    one-adds t reverse = goes_on t reverse _ (λ n q. record-adds reverse n q _ reverse)
+    one_adds : (t : Tape) (reverse : Bool) → Has Adds (read_one s t r reverse)
+    unfolding read_one_under
+    one_adds t reverse = goes_on t reverse _ (λ n q. record_adds reverse n q _ reverse)
 
-    then-read-adds : (t : Tape) (reverse : Bool) → Has Adds (spaceThenRead s t r reverse)
-    unfolding spaceThenReadUnder
-    then-read-adds t reverse = goes_on t reverse _ (λ n q. one-adds _ (not reverse))
+    then_read_adds : (t : Tape) (reverse : Bool) → Has Adds (space_then_read s t r reverse)
+    unfolding space_then_read_under
+    then_read_adds t reverse = goes_on t reverse _ (λ n q. one_adds _ (not reverse))
 
-    back-adds : (e : ℕ) (reverse : Bool) (n q : ℕ) → Has Adds (spaceBack s e r reverse n q)
-    unfolding spaceBackUnder
-    back-adds e reverse n q = goes_on _ (not reverse) _ (λ n' b. record-adds reverse n q _ (not reverse))
+    back_adds : (e : ℕ) (reverse : Bool) (n q : ℕ) → Has Adds (space_back s e r reverse n q)
+    unfolding space_back_under
+    back_adds e reverse n q = goes_on _ (not reverse) _ (λ n' b. record_adds reverse n q _ (not reverse))
 
-    then-space-adds : (t : Tape) (reverse : Bool) → Has Adds (readThenSpace s t r reverse)
-    unfolding readThenSpaceUnder
-    then-space-adds t reverse = goes_on t reverse _ (λ n q. back-adds t.end reverse n q)
+    then_space_adds : (t : Tape) (reverse : Bool) → Has Adds (read_then_space s t r reverse)
+    unfolding read_then_space_under
+    then_space_adds t reverse = goes_on t reverse _ (λ n q. back_adds t.end reverse n q)
 
-    reread-adds : (t : Tape) (reverse opp : Bool) → Has Adds (reread s t r reverse opp)
-    unfolding rereadUnder
-    reread-adds t reverse opp = either (Has Adds) opp _ _ (then-space-adds t reverse) (then-read-adds t reverse)
+    reread_adds : (t : Tape) (reverse opp : Bool) → Has Adds (reread s t r reverse opp)
+    unfolding reread_under
+    reread_adds t reverse opp = either (Has Adds) opp _ _ (then_space_adds t reverse) (then_read_adds t reverse)
 
 module _ (s : List ℕ) (t : Tape) (r : Buffer) (reverse : Bool) {x : Ending} where
   -- "The residual counts bytes for Read"
-  pub read-residual : readOne s t r reverse ≡ motion.Ended x → movedLength x.moved + residualWord x.end.residual ≡ r.count.0
-  read-residual y = rw y at (one-adds r s t reverse)
+  pub read_residual : read_one s t r reverse ≡ motion.Ended x → moved_length x.moved + residual_word x.end.residual ≡ r.count.0
+  read_residual y = rw y at (one_adds r s t reverse)
 
   -- "A mark, BOT or end in the first stage ends it, residual as if nothing moved."
-  pub reread-residual : (opp : Bool) → reread s t r reverse opp ≡ motion.Ended x → movedLength x.moved + residualWord x.end.residual ≡ r.count.0
-  reread-residual opp y = rw y at (reread-adds r s t reverse opp)
+  pub reread_residual : (opp : Bool) → reread s t r reverse opp ≡ motion.Ended x → moved_length x.moved + residual_word x.end.residual ≡ r.count.0
+  reread_residual opp y = rw y at (reread_adds r s t reverse opp)
 
 -- the number in a Position's residual
-pub residual-word : (c : Count) → residualWord (residualOf c) ≡ howMany c
-unfolding residualOf
-residual-word (count-as.Records n) = refl
-residual-word (count-as.Marks n) = refl
+pub residual_word_lem : (c : Count) → residual_word (residual_of c) ≡ how_many c
+unfolding residual_of
+residual_word_lem (count-as.Records n) = refl
+residual_word_lem (count-as.Marks n) = refl
 
 -- every end of a space tells what is left, and class 0 only where the count is exhausted
 module _ (r : Rule) (x : Span) where
-  pub left-told : (stop : Stop) → residualWord (spaceEnd r x stop).residual ≡ howMany x.left
-  unfolding spaceEnd
-  left-told stop-as.Count = residual-word x.left
-  left-told stop-as.Mark = residual-word x.left
-  left-told stop-as.LogicalEnd = residual-word x.left
-  left-told stop-as.Nothing =
-      either (λ (y : End). residualWord y.residual ≡ howMany x.left) r.reverse _ _ (residual-word x.left) (residual-word x.left)
-  left-told (stop-as.Bad why k) = residual-word x.left
+  pub left_told : (stop : Stop) → residual_word (space_end r x stop).residual ≡ how_many x.left
+  unfolding space_end
+  left_told stop-as.Count = residual_word_lem x.left
+  left_told stop-as.Mark = residual_word_lem x.left
+  left_told stop-as.LogicalEnd = residual_word_lem x.left
+  left_told stop-as.Nothing =
+      either (λ (y : End). residual_word y.residual ≡ how_many x.left) r.reverse _ _ (residual_word_lem x.left) (residual_word_lem x.left)
+  left_told (stop-as.Bad why k) = residual_word_lem x.left
 
-  class-told : (stop : Stop) → ((why : BlockFault) (k : ℕ) → stop ≡ stop-as.Bad why k → ⊥) → (spaceEnd r x stop).class ≡ 0 → stop ≡ stop-as.Count
-  unfolding spaceEnd
-  class-told stop-as.Count n c = refl
-  class-told stop-as.Mark n c = absurd (omega arith)
-  class-told stop-as.LogicalEnd n c = absurd (omega arith)
-  class-told stop-as.Nothing n c = absurd (either (λ (y : End). y.class ≡ 0 → ⊥) r.reverse _ _ (λ z. omega arith) (λ z. omega arith) c)
-  class-told (stop-as.Bad why k) n c = absurd (n why k refl)
+  class_told : (stop : Stop) → ((why : BlockFault) (k : ℕ) → stop ≡ stop-as.Bad why k → ⊥) → (space_end r x stop).class ≡ 0 → stop ≡ stop-as.Count
+  unfolding space_end
+  class_told stop-as.Count n c = refl
+  class_told stop-as.Mark n c = absurd (omega arith)
+  class_told stop-as.LogicalEnd n c = absurd (omega arith)
+  class_told stop-as.Nothing n c = absurd (either (λ (y : End). y.class ≡ 0 → ⊥) r.reverse _ _ (λ z. omega arith) (λ z. omega arith) c)
+  class_told (stop-as.Bad why k) n c = absurd (n why k refl)
 
 module _ {s : List ℕ} {os : List Object} (t : Tape) (h : Holds s t.end os) (b : Bound os t.position) (r : Rule) (count : Count) where
   -- "A Position count of 0 moves nothing, class 0"
-  none-asked : eqb (howMany count) 0 ≡ true → Has (SpacedPast os r t.position count) (stops (end 0 0 0 (residualOf count)) t)
-  unfolding countIn
-  none-asked e =
+  none_asked : eqb (how_many count) 0 ≡ true → Has (SpacedPast os r t.position count) (stops (end 0 0 0 (residual_of count)) t)
+  unfolding count_in
+  none_asked e =
       record {
         mid = [];
         between = stays r.reverse b;
-        counted = omega (arith, residual-word count);
-        whole = λ c. residual-word count ∙ eqb-true (howMany count) 0 e;
+        counted = omega (arith, residual_word_lem count);
+        whole = λ c. residual_word_lem count ∙ eqb-true (how_many count) 0 e;
       }
 
   module _ (enb : Bool) where
     abbrev from : Span
-    from = startSpan t count enb
+    from = start_span t count enb
 
     abbrev spaces : Spaced
     spaces = spaced s r t.end from
 
-    stopped-as : (stop : Stop) → spaces.stop ≡ stop → Has (SpacedPast os r t.position count) (stops (spaceEnd r spaces.span stop) (standing spaces.span.position t.end))
-    stopped-as stop e =
-        let done = spaced-between h r from b in
+    stopped_as : (stop : Stop) → spaces.stop ≡ stop → Has (SpacedPast os r t.position count) (stops (space_end r spaces.span stop) (standing spaces.span.position t.end))
+    stopped_as stop e =
+        let done = spaced_between h r from b in
         record {
           mid = done.0;
           between = done.1;
-          counted = rw (left-told r spaces.span stop) done.2;
+          counted = rw (left_told r spaces.span stop) done.2;
           whole =
-              λ c. left-told r spaces.span stop
-              ∙ spaced-why s r t.end from (bound-below h b) (e ∙ class-told r spaces.span stop (λ why k z. spaced-sound h r from b why k (e ∙ z)) c);
+              λ c. left_told r spaces.span stop
+              ∙ spaced_why s r t.end from (bound_below h b) (e ∙ class_told r spaces.span stop (λ why k z. spaced_sound h r from b why k (e ∙ z)) c);
         }
 
-    motion-by : (stop : Stop) → spaces.stop ≡ stop → Has (SpacedPast os r t.position count) (spaceMotionBy r spaces.span t.end stop)
-    unfolding spaceMotionBy
-    motion-by stop-as.Count e = stopped-as stop-as.Count e
-    motion-by stop-as.Mark e = stopped-as stop-as.Mark e
-    motion-by stop-as.LogicalEnd e = stopped-as stop-as.LogicalEnd e
-    motion-by stop-as.Nothing e = stopped-as stop-as.Nothing e
-    motion-by (stop-as.Bad why k) e = tt
+    motion_by : (stop : Stop) → spaces.stop ≡ stop → Has (SpacedPast os r t.position count) (space_motion_by r spaces.span t.end stop)
+    unfolding space_motion_by
+    motion_by stop-as.Count e = stopped_as stop-as.Count e
+    motion_by stop-as.Mark e = stopped_as stop-as.Mark e
+    motion_by stop-as.LogicalEnd e = stopped_as stop-as.LogicalEnd e
+    motion_by stop-as.Nothing e = stopped_as stop-as.Nothing e
+    motion_by (stop-as.Bad why k) e = tt
 
     passes : Has (SpacedPast os r t.position count) (positioned s t r count enb)
-    unfolding positionedUnder spaceMotion
-    passes = pick-told (Has (SpacedPast os r t.position count)) (eqb (howMany count) 0) _ _ none-asked (λ e. motion-by spaces.stop refl)
+    unfolding positioned_under space_motion
+    passes = pick_told (Has (SpacedPast os r t.position count)) (eqb (how_many count) 0) _ _ none_asked (λ e. motion_by spaces.stop refl)
 
     module _ {x : Ending} (y : positioned s t r count enb ≡ motion.Ended x) where
-      passed-as : SpacedPast os r t.position count x
-      passed-as = rw y at passes
+      passed_as : SpacedPast os r t.position count x
+      passed_as = rw y at passes
 
       -- "records or marks for Position modes 0 to 3": those between the two positions and the residual make up the count asked
-      pub space-residual : (mid : List Object) × Between os r.reverse t.position x.tape.position mid × (countIn (ofMarks count) mid + residualWord x.end.residual ≡ howMany count)
-      space-residual = (passed-as.mid, passed-as.between, passed-as.counted)
+      pub space_residual : (mid : List Object) × Between os r.reverse t.position x.tape.position mid × (count_in (of_marks count) mid + residual_word x.end.residual ≡ how_many count)
+      space_residual = (passed_as.mid, passed_as.between, passed_as.counted)
 
       -- a space that ends with class 0 passed all that was asked
-      pub space-whole : x.end.class ≡ 0 → (mid : List Object) × Between os r.reverse t.position x.tape.position mid × (countIn (ofMarks count) mid ≡ howMany count)
-      space-whole c = (passed-as.mid, passed-as.between, omega (arith, passed-as.counted, passed-as.whole c))
+      pub space_whole : x.end.class ≡ 0 → (mid : List Object) × Between os r.reverse t.position x.tape.position mid × (count_in (of_marks count) mid ≡ how_many count)
+      space_whole c = (passed_as.mid, passed_as.between, omega (arith, passed_as.counted, passed_as.whole c))

@@ -5,43 +5,43 @@ use Rattle.std.specs.Prelude.{Bool, true, false, ◌&&◌, not, List, [], ◌≡
 use Rattle.lists.specs.Pick.{pick}
 use Rattle.lists.specs.Places.{placed}
 use Rattle.lists.specs.Words.{word_at}
-use Rattle.tape.specs.Bytes.{movedBytes, moved_to, recordBytes}
+use Rattle.tape.specs.Bytes.{moved_bytes, moved_to, record_bytes}
 use Rattle.tape.specs.Numbers.{pieces_of}
 use Rattle.tape.specs.Pass.{ahead, lowest, passed}
 use Rattle.tape.specs.declared.Met.TheVariants as met
 use Rattle.signals.specs.Bits.{OPI, REV, RIB, RLL, RLS, TMK}
-use Rattle.signals.specs.Message.{flagOf, messageBytes, messaged}
+use Rattle.signals.specs.Message.{flag_of, message_bytes, messaged}
 use Rattle.state.specs.declared.Unit.{Unit}
-use Rattle.advance.specs.Rules.{hasExtent, reverseFirst}
+use Rattle.advance.specs.Rules.{has_extent, reverse_first}
 use Rattle.advance.specs.Steps.{advanced}
-use Rattle.demands.specs.Faults.{ReadOver, nothing_yet, then-gap, then-mark, then-record}
+use Rattle.demands.specs.Faults.{ReadOver, nothing_yet, then_gap, then_mark, then_record}
 use Rattle.demands.specs.Ways.{Runs, header, packet}
 
 -- how many records, or how many marks, were read over
-unfoldable pub passedIn : {s : List ℕ} {e : ℕ} {reverse : Bool} {p q : ℕ} → Bool → ReadOver s e reverse p q → ℕ
-passedIn marks nothing_yet = 0
-passedIn marks (then-record r x) = passedIn marks r + pick marks 0 1
-passedIn marks (then-mark r x) = passedIn marks r + pick marks 1 0
-passedIn marks (then-gap r x) = passedIn marks r
+unfoldable pub passed_in : {s : List ℕ} {e : ℕ} {reverse : Bool} {p q : ℕ} → Bool → ReadOver s e reverse p q → ℕ
+passed_in marks nothing_yet = 0
+passed_in marks (then_record r x) = passed_in marks r + pick marks 0 1
+passed_in marks (then_mark r x) = passed_in marks r + pick marks 1 0
+passed_in marks (then_gap r x) = passed_in marks r
 
 -- word k of the message that stands in memory m, in the message buffer of the state u
-abbrev pub sentWord : Unit → List ℕ → ℕ → ℕ
-sentWord u m k = word_at m (u.characteristics.address + 2 * k)
+abbrev pub sent_word : Unit → List ℕ → ℕ → ℕ
+sent_word u m k = word_at m (u.characteristics.address + 2 * k)
 
 -- an advance of the state u over memory m and reel s
 module _ (u : Unit) (m s : List ℕ) where
   -- its message goes out, into a buffer inside memory
   pub record Sent : Type 0 where
     pub sends : (advanced u m s).sends ≡ true
-    pub inside : (advanced u m s).unit.characteristics.address + messageBytes ≤ length m
+    pub inside : (advanced u m s).unit.characteristics.address + message_bytes ≤ length m
 
   -- the way of the first stage, and what lies ahead of the tape this way: nothing but gaps between its position and q
   abbrev pub way : Bool
-  way = reverseFirst (header u m s)
+  way = reverse_first (header u m s)
 
   pub data Gapped : ℕ → Type 0 where
     at_once : Gapped u.tape.position
-    behind-gap : {q q' : ℕ} → Gapped q → passed s way q u.tape.end ≡ met.Gap q' → Gapped q'
+    after_gap : {q q' : ℕ} → Gapped q → passed s way q u.tape.end ≡ met.Gap q' → Gapped q'
 
   -- a reread's read goes the other way unless OPP puts it first, and leaves the tape at the edge of the record that is met first
   abbrev pub again : Bool
@@ -52,21 +52,21 @@ module _ (u : Unit) (m s : List ℕ) where
 
   -- steps 8 to 10 let the command pass
   abbrev pub RunsOn : Type 0
-  RunsOn = Runs u m s × ((hasExtent (header u m s) && ltb (length m) ((packet u m s).pointer + (packet u m s).count)) ≡ false)
+  RunsOn = Runs u m s × ((has_extent (header u m s) && ltb (length m) ((packet u m s).pointer + (packet u m s).count)) ≡ false)
 
   -- how a Read whose packet was fetched ends: the bytes that it stores, its class, what XST0 shows above its low byte, XST3, the position after it
   pub data ReadStops : List ℕ → ℕ → ℕ → ℕ → ℕ → Type 0 where
     -- ended at steps 8 to 10
-    not-run : {class found : ℕ} → (RunsOn → ⊥) → ReadStops [] class found 0 u.tape.position
+    not_run : {class found : ℕ} → (RunsOn → ⊥) → ReadStops [] class found 0 u.tape.position
     -- "A mark: TMK, RLS, class 2, position past it, nothing moved."
-    at_mark : {q q' : ℕ} → RunsOn → Gapped q → passed s way q u.tape.end ≡ met.Mark q' → ReadStops [] 2 (TMK + RLS) (flagOf way REV) q'
+    at_mark : {q q' : ℕ} → RunsOn → Gapped q → passed s way q u.tape.end ≡ met.Mark q' → ReadStops [] 2 (TMK + RLS) (flag_of way REV) q'
     -- "Forward at the recorded end: OPI, class 6. Reverse to block 0 with no further record or mark: RIB, class 2, position 0."
-    at-end : {q : ℕ} → RunsOn → Gapped q → ahead way q u.tape.end ≡ 0 → ReadStops [] (pick way 2 6) 0 (pick way (REV + RIB) OPI) q
+    at_end : {q : ℕ} → RunsOn → Gapped q → ahead way q u.tape.end ≡ 0 → ReadStops [] (pick way 2 6) 0 (pick way (REV + RIB) OPI) q
     -- "Record longer than the count: RLL; shorter: RLS; class 2": the first record that lies ahead
-    at-record : {q q' n : ℕ} → RunsOn → Gapped q → passed s way q u.tape.end ≡ met.Record n q'
-        → ReadStops (movedBytes reads (packet u m s).count (recordBytes s (lowest way q (pieces_of n)) n)) (pick (eqb n (packet u m s).count) 0 2)
-        (flagOf (ltb n (packet u m s).count) RLS + flagOf (ltb (packet u m s).count n) RLL)
-        (flagOf (pick again (not way) way) REV)
+    at_record : {q q' n : ℕ} → RunsOn → Gapped q → passed s way q u.tape.end ≡ met.Record n q'
+        → ReadStops (moved_bytes reads (packet u m s).count (record_bytes s (lowest way q (pieces_of n)) n)) (pick (eqb n (packet u m s).count) 0 2)
+        (flag_of (ltb n (packet u m s).count) RLS + flag_of (ltb (packet u m s).count n) RLL)
+        (flag_of (pick again (not way) way) REV)
         (pick again q q')
 
   -- the advance left the state u' and the memory m'
@@ -76,17 +76,17 @@ module _ (u : Unit) (m s : List ℕ) where
     pub record ReadDone : Type 0 where
       pub stored : List ℕ
       pub found : ℕ
-      pub ends : ReadStops stored u'.registers.class found (sentWord u' m' 6) u'.tape.position
-      pub shown : sentWord u' m' 3 / 256 * 256 ≡ found
+      pub ends : ReadStops stored u'.registers.class found (sent_word u' m' 6) u'.tape.position
+      pub shown : sent_word u' m' 3 / 256 * 256 ≡ found
       pub place : ℕ
       pub filled : place ≡ moved_to reads (packet u m s).pointer (packet u m s).count (length stored)
       pub within : (i : ℕ) → i < length stored → ((packet u m s).pointer ≤ place + i) × (place + i < (packet u m s).pointer + (packet u m s).count) × (place + i < length m)
       pub message : List ℕ
       pub seven : length message ≡ 7
       pub memory : m' ≡ messaged (placed (header u m s).swb m place stored) u'.characteristics.address message
-      pub counted : length stored + sentWord u' m' 2 ≡ (packet u m s).count
+      pub counted : length stored + sent_word u' m' 2 ≡ (packet u m s).count
 
     -- of a Position mode 0 to 3: the objects read over, from the position before to the one after; those that count and the residual that is sent
     pub record SpaceDone : Type 0 where
-      pub over : ReadOver s u.tape.end (reverseFirst (header u m s)) u.tape.position u'.tape.position
-      pub counted : passedIn (leb 2 (header u m s).mode) over + sentWord u' m' 2 ≡ (packet u m s).count
+      pub over : ReadOver s u.tape.end (reverse_first (header u m s)) u.tape.position u'.tape.position
+      pub counted : passed_in (leb 2 (header u m s).mode) over + sent_word u' m' 2 ≡ (packet u m s).count

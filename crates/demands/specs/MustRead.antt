@@ -6,7 +6,7 @@ use Rattle.tape.specs.declared.BlockFault.{BlockFault}
 use Rattle.state.specs.declared.Unit.{Unit}
 use Rattle.advance.specs.Rules.{writes}
 use Rattle.demands.specs.Done.{Gapped, RunsOn, way}
-use Rattle.demands.specs.Saying.{countAsked, markAtStart, ruleAsked}
+use Rattle.demands.specs.Saying.{count_asked, mark_at_start, rule_asked}
 use Rattle.demands.specs.Stops.{SpaceRefused}
 use Rattle.demands.specs.Ways.{header}
 
@@ -17,4 +17,4 @@ module _ (u : Unit) (m s : List ℕ) where
     of_one : {q : ℕ} → RunsOn u m s → (eqb (header u m s).code 1 || (writes (header u m s) && eqb (header u m s).mode 2)) ≡ true
         → Gapped u m s q → passed s (way u m s) q u.tape.end ≡ met.Bad why k → MustRead why k
     -- a Position reads on while some of its count is left and nothing it passed has stopped it
-    of-many : RunsOn u m s → (header u m s).code ≡ 8 → (header u m s).mode < 4 → SpaceRefused s u.tape (ruleAsked u m s) (countAsked u m s) (markAtStart u m s) why k → MustRead why k
+    of_many : RunsOn u m s → (header u m s).code ≡ 8 → (header u m s).mode < 4 → SpaceRefused s u.tape (rule_asked u m s) (count_asked u m s) (mark_at_start u m s) why k → MustRead why k

@@ -2,35 +2,35 @@
 use Rattle.std.specs.Prelude.{◌≡◌, List, ℕ, ◌+◌}
 use Rattle.lists.specs.Pick.{pick}
 use Rattle.lists.specs.Places.{gathered, placed}
-use Rattle.signals.specs.Residuals.{residualWord}
-use Rattle.motions.specs.Parts.{laidBlocks}
+use Rattle.signals.specs.Residuals.{residual_word}
+use Rattle.motions.specs.Parts.{laid_blocks}
 use Rattle.motions.specs.declared.parts.Ending.{Ending}
 use Rattle.motions.specs.declared.parts.Laid.{Laid}
 use Rattle.motions.specs.declared.parts.Motion.{Motion}
 use Rattle.motions.specs.declared.parts.Motion.TheVariants as motion
 use Rattle.motions.specs.declared.reads.Buffer.{Buffer}
-use Rattle.storing.specs.Stored.{movedOn}
+use Rattle.storing.specs.Stored.{moved_on}
 
 -- the bytes that a Write lays: "Data byte i lies at address pointer + i; with SWB at that address with its lowest bit flipped."
 abbrev pub written : List ℕ → Laid → List ℕ
 written m l = gathered l.swb m l.pointer l.length
 
 -- the first block of its record: "Retry: .. then a one-block gap, then the new object."
-abbrev pub writtenAtBlock : Laid → ℕ
-writtenAtBlock l = pick l.gap_first (l.at + 1) l.at
+abbrev pub written_at_block : Laid → ℕ
+written_at_block l = pick l.gap_first (l.at + 1) l.at
 
 -- "Writing stores only the new object's blocks and moves the end to just after them."
-abbrev pub writtenEnd : Laid → ℕ
-writtenEnd l = l.at + laidBlocks l
+abbrev pub written_end : Laid → ℕ
+written_end l = l.at + laid_blocks l
 
 -- a Read as asked by r that gave all of the bytes d and left the tape at q. The count is the record's length, so none of this is told:
 -- "Record longer than the count: RLL; shorter: RLS; class 2."
 pub record GaveAll (s : List ℕ) (r : Buffer) (d : List ℕ) (q : ℕ) (x : Ending) : Type 0 where
   pub class : x.end.class ≡ 0
   pub found : x.end.found ≡ 0
-  pub residual : residualWord x.end.residual ≡ 0
+  pub residual : residual_word x.end.residual ≡ 0
   pub place : x.tape.position ≡ q
-  pub bytes : (m : List ℕ) → movedOn s x.moved m ≡ placed r.swb m r.pointer d
+  pub bytes : (m : List ℕ) → moved_on s x.moved m ≡ placed r.swb m r.pointer d
 
 abbrev pub GivesAll : List ℕ → Buffer → List ℕ → ℕ → Motion → Type 0
 GivesAll s r d q a = (x : Ending) × (a ≡ motion.Ended x) × GaveAll s r d q x

@@ -1,25 +1,25 @@
 -- How a Read can end on a well formed reel: it met a record, or a mark, or nothing more, with nothing but gaps before. (01, Commands)
 use Rattle.std.specs.Prelude.{Bool, not, List, ◌≡◌, ℕ, length}
 use Rattle.lists.specs.Pick.{pick}
-use Rattle.tape.specs.Bytes.{readInto}
+use Rattle.tape.specs.Bytes.{read_into}
 use Rattle.tape.specs.Numbers.{pieces_of}
-use Rattle.tape.specs.Objects.{Object, blocksOf, mark, record_of}
+use Rattle.tape.specs.Objects.{Object, blocks_of, mark, record_of}
 use Rattle.tape.specs.Pass.{beyond}
-use Rattle.moves.specs.Between.{Between, Gaps, withGaps}
+use Rattle.moves.specs.Between.{Between, Gaps, with_gaps}
 use Rattle.motions.specs.Parts.{standing}
-use Rattle.motions.specs.Reads.{markEnd, nothingEnd, readEnd, stopMotion}
+use Rattle.motions.specs.Reads.{mark_end, nothing_end, read_end, stop_motion}
 use Rattle.motions.specs.declared.parts.Ending.{Ending}
 use Rattle.motions.specs.declared.parts.Motion.{Motion}
 use Rattle.motions.specs.declared.parts.Motion.TheVariants as motion
 use Rattle.motions.specs.declared.reads.Buffer.{Buffer}
-use Rattle.storing.specs.Stored.{movedOn}
+use Rattle.storing.specs.Stored.{moved_on}
 
 -- the record d was moved, read in direction `way`: "Read reverse fills from the last buffer place down: a short record lies at the high
 -- end, a long one gives its last bytes." The last stage ran `last` ("REV 5 (last stage ran reverse ..)") and left the tape at `place`
 pub record MovedRecord (s : List ℕ) (e : ℕ) (r : Buffer) (d : List ℕ) (way last : Bool) (place : ℕ) (x : Ending) : Type 0 where
   pub tape : x.tape ≡ standing place e
-  pub told : x.end ≡ readEnd (length d) r.count last
-  pub bytes : (m : List ℕ) → movedOn s x.moved m ≡ readInto way r.swb m r.pointer r.count.0 d
+  pub told : x.end ≡ read_end (length d) r.count last
+  pub bytes : (m : List ℕ) → moved_on s x.moved m ≡ read_into way r.swb m r.pointer r.count.0 d
 
 abbrev pub Moves : List ℕ → ℕ → Buffer → List ℕ → Bool → Bool → ℕ → Motion → Type 0
 Moves s e r d way last place a = (x : Ending) × (a ≡ motion.Ended x) × MovedRecord s e r d way last place x
@@ -27,11 +27,11 @@ Moves s e r d way last place a = (x : Ending) × (a ≡ motion.Ended x) × Moved
 -- from position p in direction `reverse`; `Done d q` says what is done with a record d beyond which the first stage stopped at q
 pub data ReadEnds (os : List Object) (p e : ℕ) (r : Buffer) (reverse : Bool) (Done : List ℕ → ℕ → Motion → Type 0) : Motion → Type 0 where
   -- "Gaps are passed over."
-  met-record : (d : List ℕ) {gaps : List Object} {q : ℕ} {a : Motion} → Gaps gaps → Between os reverse p q (withGaps reverse gaps (record_of d)) → Done d q a → ReadEnds os p e r reverse Done a
+  met_record : (d : List ℕ) {gaps : List Object} {q : ℕ} {a : Motion} → Gaps gaps → Between os reverse p q (with_gaps reverse gaps (record_of d)) → Done d q a → ReadEnds os p e r reverse Done a
   -- "A mark: TMK, RLS, class 2, position past it, nothing moved."
-  met-mark : {gaps : List Object} {q : ℕ} → Gaps gaps → Between os reverse p q (withGaps reverse gaps mark) → ReadEnds os p e r reverse Done (stopMotion (markEnd r.count reverse) q e)
+  met_mark : {gaps : List Object} {q : ℕ} → Gaps gaps → Between os reverse p q (with_gaps reverse gaps mark) → ReadEnds os p e r reverse Done (stop_motion (mark_end r.count reverse) q e)
   -- "Forward at the recorded end: OPI, class 6. Reverse to block 0 with no further record or mark: RIB, class 2, position 0."
-  met-nothing : {gaps : List Object} {q : ℕ} → Gaps gaps → Between os reverse p q gaps → q ≡ pick reverse 0 (blocksOf os) → ReadEnds os p e r reverse Done (stopMotion (nothingEnd r.count reverse) q e)
+  met_nothing : {gaps : List Object} {q : ℕ} → Gaps gaps → Between os reverse p q gaps → q ≡ pick reverse 0 (blocks_of os) → ReadEnds os p e r reverse Done (stop_motion (nothing_end r.count reverse) q e)
 
 -- "Mode 2 reread: space reverse, read forward. Mode 3: space forward, read reverse. OPP puts the read first, same direction as the space
 -- had, then the space back." A reread that met the record d, beyond which its first stage stopped at q: it moved the record by the read's

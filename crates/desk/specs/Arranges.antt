@@ -4,43 +4,43 @@ use Rattle.lists.specs.Pick.{pick}
 use Rattle.lines.specs.declared.Sizes.{Sizes}
 use Rattle.lines.specs.declared.Arrange.{Arrange}
 use Rattle.lines.specs.declared.Arrange.TheVariants as arrange
-use Rattle.results.specs.Fields.{fields_of, sessionWith}
-use Rattle.worlds.specs.Rows.{noTransport}
+use Rattle.results.specs.Fields.{fields_of, session_with}
+use Rattle.worlds.specs.Rows.{no_transport}
 use Rattle.desk.specs.declared.arranges.Span.{Span}
 use Rattle.desk.specs.declared.bench.Bench.{Bench}
 use Rattle.desk.specs.declared.bench.Station.{Station}
 use Rattle.desk.specs.declared.Round.{Round}
 use Rattle.desk.specs.declared.Said.TheVariants as said
-use Rattle.desk.specs.Desks.{noSizes, sizesBeyond}
-use Rattle.desk.specs.Benches.{benchWith, beyondBuffers, freshAt, reelRoom, round, sessionAt, stationAt, stationCount, still, tableRoom, withSession}
+use Rattle.desk.specs.Desks.{no_sizes, sizes_beyond}
+use Rattle.desk.specs.Benches.{bench_with, beyond_buffers, fresh_at, reel_room, round, session_at, station_at, station_count, still, table_room, with_session}
 
 -- the room that a unit has in buffers of these lengths: memory and journal, and its part of the reels and of the tables
-abbrev pub unitRoom : Sizes → Sizes
-unitRoom room = record { memory = room.memory; reel = reelRoom; table = tableRoom; journal = room.journal }
+abbrev pub unit_room : Sizes → Sizes
+unit_room room = record { memory = room.memory; reel = reel_room; table = table_room; journal = room.journal }
 
 -- a case starts, and its line is printed
-abbrev pub startedCase : Bench → Round
-startedCase b = round (freshAt b.line) said.Itself
+abbrev pub started_case : Bench → Round
+started_case b = round (fresh_at b.line) said.Itself
 
 -- a station with a reel and a table of other sizes; one with no record
-abbrev pub stationSized : Station → ℕ → ℕ → Station
-stationSized s reel table = record { transport = s.transport; reel = reel; table = table; cursor = s.cursor }
+abbrev pub station_sized : Station → ℕ → ℕ → Station
+station_sized s reel table = record { transport = s.transport; reel = reel; table = table; cursor = s.cursor }
 
 abbrev pub emptied : Station → Station
-emptied s = stationSized s 0 0
+emptied s = station_sized s 0 0
 
 abbrev pub unmounted : Station → Station
-unmounted s = record { transport = noTransport; reel = s.reel; table = s.table; cursor = s.cursor }
+unmounted s = record { transport = no_transport; reel = s.reel; table = s.table; cursor = s.cursor }
 
 -- "`sizes` gives memory, journal and unit 0's reel": the others have none
-abbrev pub sizedStations : Bench → Sizes → List Station
-sizedStations b s = stationSized (stationAt b 0) s.reel s.table ∷ emptied (stationAt b 1) ∷ emptied (stationAt b 2) ∷ emptied (stationAt b 3) ∷ emptied (stationAt b 4) ∷ []
+abbrev pub sized_stations : Bench → Sizes → List Station
+sized_stations b s = station_sized (station_at b 0) s.reel s.table ∷ emptied (station_at b 1) ∷ emptied (station_at b 2) ∷ emptied (station_at b 3) ∷ emptied (station_at b 4) ∷ []
 
 unfoldable pub resized : Bench → Sizes → Sizes → Round
 resized b s room =
-    pick (sizesBeyond s (unitRoom room)) (beyondBuffers b)
+    pick (sizes_beyond s (unit_room room)) (beyond_buffers b)
     (still (record {
-      stations = sizedStations b s;
+      stations = sized_stations b s;
       units = b.units;
       coupler = b.coupler;
       memory = s.memory;
@@ -54,14 +54,14 @@ resized b s room =
     }))
 
 -- "the row has N records .., all zero"
-abbrev pub unmountedStations : Bench → List Station
-unmountedStations b = unmounted (stationAt b 0) ∷ unmounted (stationAt b 1) ∷ unmounted (stationAt b 2) ∷ unmounted (stationAt b 3) ∷ unmounted (stationAt b 4) ∷ []
+abbrev pub unmounted_stations : Bench → List Station
+unmounted_stations b = unmounted (station_at b 0) ∷ unmounted (station_at b 1) ∷ unmounted (station_at b 2) ∷ unmounted (station_at b 3) ∷ unmounted (station_at b 4) ∷ []
 
-abbrev pub withUnits : Bench → ℕ → Round
-withUnits b n =
+abbrev pub with_units : Bench → ℕ → Round
+with_units b n =
     still
     (record {
-      stations = unmountedStations b;
+      stations = unmounted_stations b;
       units = n;
       coupler = b.coupler;
       memory = b.memory;
@@ -75,8 +75,8 @@ withUnits b n =
     })
 
 -- the lengths that calls are handed from now on, reel and table those of unit u, the table's with them or not
-abbrev pub benchCut : Bench → Sizes → Bool → Bool → ℕ → Bench
-benchCut b s cut table u =
+abbrev pub bench_cut : Bench → Sizes → Bool → Bool → ℕ → Bench
+bench_cut b s cut table u =
     record {
       stations = b.stations;
       units = b.units;
@@ -92,58 +92,58 @@ benchCut b s cut table u =
     }
 
 unfoldable pub cut_to : Bench → ℕ → Sizes → Bool → Sizes → Round
-cut_to b u s table room = pick (sizesBeyond s (unitRoom room)) (beyondBuffers b) (still (benchCut b s true table u))
+cut_to b u s table room = pick (sizes_beyond s (unit_room room)) (beyond_buffers b) (still (bench_cut b s true table u))
 
-abbrev pub uncutOf : Bench → Round
-uncutOf b = still (benchCut b b.cuts false b.table_cut b.cut_unit)
+abbrev pub uncut_of : Bench → Round
+uncut_of b = still (bench_cut b b.cuts false b.table_cut b.cut_unit)
 
 -- field k of unit u's session made up; it has 24
 unfoldable pub set_to : Bench → ℕ → ℕ → ℕ → Round
-set_to b u k v = pick (ltb 23 k) (beyondBuffers b) (still (withSession b u (sessionWith (set (fields_of (sessionAt b u)) k v))))
+set_to b u k v = pick (ltb 23 k) (beyond_buffers b) (still (with_session b u (session_with (set (fields_of (session_at b u)) k v))))
 
 -- a reel of n bytes for unit u, and eight bytes of table for each of its blocks
 unfoldable pub reeled : Bench → ℕ → ℕ → Round
-reeled b u n = pick (ltb reelRoom n) (beyondBuffers b) (still (benchWith b (set b.stations u (stationSized (stationAt b u) n (n / 64))) b.coupler))
+reeled b u n = pick (ltb reel_room n) (beyond_buffers b) (still (bench_with b (set b.stations u (station_sized (station_at b u) n (n / 64))) b.coupler))
 
 -- for a unit that there are buffers for
-unfoldable pub arrangedFor : Bench → ℕ → Arrange → Sizes → Round
-arrangedFor b u arrange.Case room = startedCase b
-arrangedFor b u (arrange.Sizes s) room = resized b s room
-arrangedFor b u (arrange.Cut s table) room = cut_to b u s table room
-arrangedFor b u arrange.Uncut room = uncutOf b
-arrangedFor b u (arrange.Set k v) room = set_to b u k v
-arrangedFor b u (arrange.Units n) room = withUnits b n
-arrangedFor b u (arrange.Reel n) room = reeled b u n
+unfoldable pub arranged_for : Bench → ℕ → Arrange → Sizes → Round
+arranged_for b u arrange.Case room = started_case b
+arranged_for b u (arrange.Sizes s) room = resized b s room
+arranged_for b u (arrange.Cut s table) room = cut_to b u s table room
+arranged_for b u arrange.Uncut room = uncut_of b
+arranged_for b u (arrange.Set k v) room = set_to b u k v
+arranged_for b u (arrange.Units n) room = with_units b n
+arranged_for b u (arrange.Reel n) room = reeled b u n
 
 unfoldable pub arranged : Bench → ℕ → Arrange → Sizes → Round
-arranged b u a room = pick (leb stationCount u) (beyondBuffers b) (arrangedFor b u a room)
+arranged b u a room = pick (leb station_count u) (beyond_buffers b) (arranged_for b u a room)
 
 -- what goes back to zero: of all buffers nothing, or everything
-abbrev pub noSpan : Span
-noSpan = record { from = noSizes; to = noSizes }
+abbrev pub no_span : Span
+no_span = record { from = no_sizes; to = no_sizes }
 
-abbrev pub wholeSpan : Sizes → Span
-wholeSpan room = record { from = noSizes; to = room }
+abbrev pub whole_span : Sizes → Span
+whole_span room = record { from = no_sizes; to = room }
 
-unfoldable pub resizedSpan : Sizes → Sizes → Span
-resizedSpan s room = pick (sizesBeyond s (unitRoom room)) noSpan (wholeSpan room)
+unfoldable pub resized_span : Sizes → Sizes → Span
+resized_span s room = pick (sizes_beyond s (unit_room room)) no_span (whole_span room)
 
 -- or unit u's old reel and table
-unfoldable pub reelSpan : Bench → ℕ → ℕ → Span
-reelSpan b u n =
-    pick (leb stationCount u) noSpan
-    (pick (ltb reelRoom n) noSpan
+unfoldable pub reel_span : Bench → ℕ → ℕ → Span
+reel_span b u n =
+    pick (leb station_count u) no_span
+    (pick (ltb reel_room n) no_span
     (record {
-      from = record { memory = 0; reel = reelRoom * u; table = tableRoom * u; journal = 0 };
-      to = record { memory = 0; reel = reelRoom * u + min (stationAt b u).reel reelRoom; table = tableRoom * u + min (stationAt b u).table tableRoom; journal = 0 };
+      from = record { memory = 0; reel = reel_room * u; table = table_room * u; journal = 0 };
+      to = record { memory = 0; reel = reel_room * u + min (station_at b u).reel reel_room; table = table_room * u + min (station_at b u).table table_room; journal = 0 };
     }))
 
 -- a case, and new sizes that there is room for, clear all buffers, and a new reel the unit's old one; any other line clears nothing
-unfoldable pub clearedBy : Bench → ℕ → Arrange → Sizes → Span
-clearedBy b u arrange.Case room = wholeSpan room
-clearedBy b u (arrange.Sizes s) room = resizedSpan s room
-clearedBy b u (arrange.Cut s table) room = noSpan
-clearedBy b u arrange.Uncut room = noSpan
-clearedBy b u (arrange.Set k v) room = noSpan
-clearedBy b u (arrange.Units n) room = noSpan
-clearedBy b u (arrange.Reel n) room = reelSpan b u n
+unfoldable pub cleared_by : Bench → ℕ → Arrange → Sizes → Span
+cleared_by b u arrange.Case room = whole_span room
+cleared_by b u (arrange.Sizes s) room = resized_span s room
+cleared_by b u (arrange.Cut s table) room = no_span
+cleared_by b u arrange.Uncut room = no_span
+cleared_by b u (arrange.Set k v) room = no_span
+cleared_by b u (arrange.Units n) room = no_span
+cleared_by b u (arrange.Reel n) room = reel_span b u n

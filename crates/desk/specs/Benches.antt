@@ -7,11 +7,11 @@ use Rattle.script.specs.declared.Fault.TheVariants as fault
 use Rattle.lines.specs.declared.Sizes.{Sizes}
 use Rattle.results.specs.declared.Also.{Also}
 use Rattle.results.specs.declared.Told.{Told}
-use Rattle.worlds.specs.Rows.{absentIn, couplerOf, noTransport, sessionOver, transportOf}
+use Rattle.worlds.specs.Rows.{absent_in, coupler_of, no_transport, session_over, transport_of}
 use Rattle.worlds.specs.declared.Coupler.{Coupler}
 use Rattle.worlds.specs.declared.Session.{Session}
 use Rattle.worlds.specs.declared.Transport.{Transport}
-use Rattle.desk.specs.Desks.{deskWith, noSizes}
+use Rattle.desk.specs.Desks.{desk_with, no_sizes}
 use Rattle.desk.specs.declared.desk.Desk.{Desk}
 use Rattle.desk.specs.declared.bench.Bench.{Bench}
 use Rattle.desk.specs.declared.bench.Station.{Station}
@@ -21,38 +21,38 @@ use Rattle.desk.specs.declared.Said.TheVariants as said
 use Rattle.desk.specs.declared.Turn.{Turn}
 
 -- "each reel 131,072, each table 4,096, at most 5 units": so many bytes of the buffers are each unit's
-abbrev pub reelRoom : ℕ
-reelRoom = 131072
+abbrev pub reel_room : ℕ
+reel_room = 131072
 
-abbrev pub tableRoom : ℕ
-tableRoom = 4096
+abbrev pub table_room : ℕ
+table_room = 4096
 
-abbrev pub stationCount : ℕ
-stationCount = 5
+abbrev pub station_count : ℕ
+station_count = 5
 
 -- the part of a buffer that is unit u's, where each has so many bytes; and the buffer with another part in its place
 abbrev pub part_of : ℕ → ℕ → List ℕ → List ℕ
 part_of room u l = take room (drop (room * u) l)
 
-abbrev pub withPart : ℕ → ℕ → List ℕ → List ℕ → List ℕ
-withPart room u l g = sets l (room * u) g
+abbrev pub with_part : ℕ → ℕ → List ℕ → List ℕ → List ℕ
+with_part room u l g = sets l (room * u) g
 
-abbrev pub noStation : Station
-noStation = record { transport = noTransport; reel = 0; table = 0; cursor = 0 }
+abbrev pub no_station : Station
+no_station = record { transport = no_transport; reel = 0; table = 0; cursor = 0 }
 
-abbrev pub noCoupler : Coupler
-noCoupler = record { used = 0; memory = 0; journal = 0 }
+abbrev pub no_coupler : Coupler
+no_coupler = record { used = 0; memory = 0; journal = 0 }
 
 -- nothing mounted, a row of one, no buffers, every cursor at block 0, before line n
-abbrev pub freshAt : ℕ → Bench
-freshAt n =
+abbrev pub fresh_at : ℕ → Bench
+fresh_at n =
     record {
-      stations = noStation ∷ noStation ∷ noStation ∷ noStation ∷ noStation ∷ [];
+      stations = no_station ∷ no_station ∷ no_station ∷ no_station ∷ no_station ∷ [];
       units = 1;
-      coupler = noCoupler;
+      coupler = no_coupler;
       memory = 0;
       journal = 0;
-      cuts = noSizes;
+      cuts = no_sizes;
       cut = false;
       table_cut = false;
       cut_unit = 0;
@@ -61,8 +61,8 @@ freshAt n =
     }
 
 -- lines are counted up to a number that no script reaches
-abbrev pub nextLine : Bench → Bench
-nextLine b =
+abbrev pub next_line : Bench → Bench
+next_line b =
     record {
       stations = b.stations;
       units = b.units;
@@ -77,12 +77,12 @@ nextLine b =
       stopped = b.stopped;
     }
 
-abbrev pub stationAt : Bench → ℕ → Station
-stationAt b u = get_or b.stations u noStation
+abbrev pub station_at : Bench → ℕ → Station
+station_at b u = get_or b.stations u no_station
 
 -- a bench with these stations and this coupler
-abbrev pub benchWith : Bench → List Station → Coupler → Bench
-benchWith b l c =
+abbrev pub bench_with : Bench → List Station → Coupler → Bench
+bench_with b l c =
     record {
       stations = l;
       units = b.units;
@@ -98,68 +98,68 @@ benchWith b l c =
     }
 
 -- the sizes of unit u's buffers
-abbrev pub sizesAt : Bench → ℕ → Sizes
-sizesAt b u = record { memory = b.memory; reel = (stationAt b u).reel; table = (stationAt b u).table; journal = b.journal }
+abbrev pub sizes_at : Bench → ℕ → Sizes
+sizes_at b u = record { memory = b.memory; reel = (station_at b u).reel; table = (station_at b u).table; journal = b.journal }
 
 -- "Under `uN lens M R J T` every call gets memory M and journal J, unit N its reel and table cut to R and T, other units theirs whole"; the table is cut only where
 -- the line says a length for it
-abbrev pub ownCut : Bench → ℕ → Bool
-ownCut b u = b.cut && eqb u b.cut_unit
+abbrev pub own_cut : Bench → ℕ → Bool
+own_cut b u = b.cut && eqb u b.cut_unit
 
-unfoldable pub handedAt : Bench → ℕ → Sizes
-handedAt b u =
+unfoldable pub handed_at : Bench → ℕ → Sizes
+handed_at b u =
     record {
       memory = pick b.cut b.cuts.memory b.memory;
-      reel = pick (ownCut b u) b.cuts.reel (stationAt b u).reel;
-      table = pick (ownCut b u && b.table_cut) b.cuts.table (stationAt b u).table;
+      reel = pick (own_cut b u) b.cuts.reel (station_at b u).reel;
+      table = pick (own_cut b u && b.table_cut) b.cuts.table (station_at b u).table;
       journal = pick b.cut b.cuts.journal b.journal;
     }
 
 -- unit u's record, with what it shares
-abbrev pub sessionAt : Bench → ℕ → Session
-sessionAt b u = sessionOver b.coupler (stationAt b u).transport
+abbrev pub session_at : Bench → ℕ → Session
+session_at b u = session_over b.coupler (station_at b u).transport
 
 -- unit u taken out
 abbrev pub view_of : Bench → ℕ → Desk
-view_of b u = record { session = sessionAt b u; sizes = sizesAt b u; handed = handedAt b u; cursor = (stationAt b u).cursor }
+view_of b u = record { session = session_at b u; sizes = sizes_at b u; handed = handed_at b u; cursor = (station_at b u).cursor }
 
 -- and put back
-abbrev pub stationOf : Desk → Station
-stationOf d = record { transport = transportOf d.session; reel = d.sizes.reel; table = d.sizes.table; cursor = d.cursor }
+abbrev pub station_of : Desk → Station
+station_of d = record { transport = transport_of d.session; reel = d.sizes.reel; table = d.sizes.table; cursor = d.cursor }
 
 abbrev pub put_back : Bench → ℕ → Desk → Bench
-put_back b u d = benchWith b (set b.stations u (stationOf d)) (couplerOf d.session)
+put_back b u d = bench_with b (set b.stations u (station_of d)) (coupler_of d.session)
 
 -- the bench with this session of unit u, and with this coupler
-abbrev pub withSession : Bench → ℕ → Session → Bench
-withSession b u s = put_back b u (deskWith (view_of b u) s)
+abbrev pub with_session : Bench → ℕ → Session → Bench
+with_session b u s = put_back b u (desk_with (view_of b u) s)
 
-abbrev pub withCoupler : Bench → Coupler → Bench
-withCoupler b c = benchWith b b.stations c
+abbrev pub with_coupler : Bench → Coupler → Bench
+with_coupler b c = bench_with b b.stations c
 
 -- a unit with no station has no objects laid
-unfoldable pub cursorAt : Bench → ℕ → ℕ
-cursorAt b u = pick (leb stationCount u) 0 (stationAt b u).cursor
+unfoldable pub cursor_at : Bench → ℕ → ℕ
+cursor_at b u = pick (leb station_count u) 0 (station_at b u).cursor
 
 -- what a line came to that prints so much
 abbrev pub round : Bench → Said → Round
 round b x = record { bench = b; said = x }
 
-abbrev pub putTurn : Bench → ℕ → Turn → Round
-putTurn b u t = round (put_back b u t.desk) t.said
+abbrev pub put_turn : Bench → ℕ → Turn → Round
+put_turn b u t = round (put_back b u t.desk) t.said
 
 abbrev pub still : Bench → Round
 still b = round b said.Nothing
 
-abbrev pub beyondBuffers : Bench → Round
-beyondBuffers b = round b (said.Wrong fault.BeyondBuffers)
+abbrev pub beyond_buffers : Bench → Round
+beyond_buffers b = round b (said.Wrong fault.BeyondBuffers)
 
 -- "the fields .. are those of the line's unit. A unit not present: `ANS [extra] | - | memcrc`"
-abbrev pub tellingOf : Answer → Also → Session → Told
-tellingOf a x s = record { answer = a; also = x; session = s }
+abbrev pub telling_of : Answer → Also → Session → Told
+telling_of a x s = record { answer = a; also = x; session = s }
 
-unfoldable pub toldAt : Bench → ℕ → Answer → Also → Round
-toldAt b u a x =
-    pick (absentIn b.units u)
-    (round b (said.Absent (tellingOf a x (sessionOver b.coupler noTransport))))
-    (round b (said.Result (tellingOf a x (sessionAt b u))))
+unfoldable pub told_at : Bench → ℕ → Answer → Also → Round
+told_at b u a x =
+    pick (absent_in b.units u)
+    (round b (said.Absent (telling_of a x (session_over b.coupler no_transport))))
+    (round b (said.Result (telling_of a x (session_at b u))))

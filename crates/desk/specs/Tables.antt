@@ -9,31 +9,31 @@ use Rattle.lines.specs.declared.Table.{Table}
 use Rattle.lines.specs.declared.Table.TheVariants as table
 use Rattle.desk.specs.declared.desk.Desk.{Desk}
 use Rattle.desk.specs.declared.Turn.{Turn}
-use Rattle.desk.specs.Builds.{ifTaken, pokeAnswer}
-use Rattle.desk.specs.Desks.{front, withSizes, withTable}
-use Rattle.desk.specs.Turns.{noRoom, settled, still}
+use Rattle.desk.specs.Builds.{if_taken, poke_answer}
+use Rattle.desk.specs.Desks.{front, with_sizes, with_table}
+use Rattle.desk.specs.Turns.{no_room, settled, still}
 
 -- a table of n bytes, all zero, if there is room for it
-unfoldable pub givenTurn : Desk → ℕ → List ℕ → Turn
-givenTurn d n tb = pick (ltb (length tb) n) (noRoom d) (still (withSizes d (withTable d.sizes n)))
+unfoldable pub given_turn : Desk → ℕ → List ℕ → Turn
+given_turn d n tb = pick (ltb (length tb) n) (no_room d) (still (with_sizes d (with_table d.sizes n)))
 
-unfoldable pub givenBytes : Desk → ℕ → List ℕ → List ℕ
-givenBytes d n tb = pick (ltb (length tb) n) tb (wiped tb 0 d.sizes.table)
+unfoldable pub given_bytes : Desk → ℕ → List ℕ → List ℕ
+given_bytes d n tb = pick (ltb (length tb) n) tb (wiped tb 0 d.sizes.table)
 
 -- bytes at a place of the table, within its size
-abbrev pub tableAnswer : Desk → ℕ → List ℕ → List ℕ → Value
-tableAnswer d at b tb = pokeAnswer (length (front d.sizes.table tb)) at (length b) d.cursor fault.OutsideTable
+abbrev pub table_answer : Desk → ℕ → List ℕ → List ℕ → Value
+table_answer d at b tb = poke_answer (length (front d.sizes.table tb)) at (length b) d.cursor fault.OutsideTable
 
-unfoldable pub pokedTurn : Desk → ℕ → List ℕ → List ℕ → Turn
-pokedTurn d at b tb = settled d (tableAnswer d at b tb)
+unfoldable pub poked_turn : Desk → ℕ → List ℕ → List ℕ → Turn
+poked_turn d at b tb = settled d (table_answer d at b tb)
 
-unfoldable pub pokedBytes : Desk → ℕ → List ℕ → List ℕ → List ℕ
-pokedBytes d at b tb = sets tb 0 (ifTaken (tableAnswer d at b tb) (sets (front d.sizes.table tb) at b) (front d.sizes.table tb))
+unfoldable pub poked_bytes : Desk → ℕ → List ℕ → List ℕ → List ℕ
+poked_bytes d at b tb = sets tb 0 (if_taken (table_answer d at b tb) (sets (front d.sizes.table tb) at b) (front d.sizes.table tb))
 
-unfoldable pub tabledTurn : Desk → Table → List ℕ → List ℕ → Turn
-tabledTurn d (table.Index n) b tb = givenTurn d n tb
-tabledTurn d (table.Poke at) b tb = pokedTurn d at b tb
+unfoldable pub tabled_turn : Desk → Table → List ℕ → List ℕ → Turn
+tabled_turn d (table.Index n) b tb = given_turn d n tb
+tabled_turn d (table.Poke at) b tb = poked_turn d at b tb
 
-unfoldable pub tabledBytes : Desk → Table → List ℕ → List ℕ → List ℕ
-tabledBytes d (table.Index n) b tb = givenBytes d n tb
-tabledBytes d (table.Poke at) b tb = pokedBytes d at b tb
+unfoldable pub tabled_bytes : Desk → Table → List ℕ → List ℕ → List ℕ
+tabled_bytes d (table.Index n) b tb = given_bytes d n tb
+tabled_bytes d (table.Poke at) b tb = poked_bytes d at b tb

@@ -4,7 +4,7 @@ use Rattle.script.specs.declared.Fault.{Fault}
 use Rattle.script.specs.declared.Fault.TheVariants as fault
 use Rattle.script.specs.declared.Value.{Value}
 use Rattle.script.specs.declared.Value.TheVariants as value
-use Rattle.desk.specs.Desks.{withCursor}
+use Rattle.desk.specs.Desks.{with_cursor}
 use Rattle.desk.specs.declared.desk.Desk.{Desk}
 use Rattle.desk.specs.declared.Said.TheVariants as said
 use Rattle.desk.specs.declared.Turn.{Turn}
@@ -17,10 +17,10 @@ abbrev pub wrong : Desk → Fault → Turn
 wrong d f = record { desk = d; said = said.Wrong f }
 
 -- more than the program has room for
-abbrev pub noRoom : Desk → Turn
-noRoom d = wrong d fault.BeyondBuffers
+abbrev pub no_room : Desk → Turn
+no_room d = wrong d fault.BeyondBuffers
 
 -- a line that answers a cursor, or a fault
 unfoldable pub settled : Desk → Value → Turn
-settled d (value.Is p) = still (withCursor d p)
+settled d (value.Is p) = still (with_cursor d p)
 settled d (value.Wrong f) = wrong d f

@@ -1,9 +1,9 @@
 // Lines that set the bench up.
 ghost use Rattle.std.specs.Prelude.{◌≡◌, ◌<◌};
 ghost use Rattle.script.specs.Fills.{wiped};
-ghost use Rattle.desk.specs.Desks.{roomOf};
+ghost use Rattle.desk.specs.Desks.{room_of};
 ghost use Rattle.desk.specs.Benches.{still};
-ghost use Rattle.desk.specs.Arranges.{arranged, arrangedFor, clearedBy, cut_to, noSpan, reelSpan, reeled, resized, resizedSpan, set_to, startedCase, stationSized, uncutOf, unitRoom, unmounted, wholeSpan, withUnits};
+ghost use Rattle.desk.specs.Arranges.{arranged, arranged_for, cleared_by, cut_to, no_span, reel_span, reeled, resized, resized_span, set_to, started_case, station_sized, uncut_of, unit_room, unmounted, whole_span, with_units};
 
 use crate::bench::{REEL_ROOM, STATIONS, TABLE_ROOM, fresh_at, refused, view, with_session};
 use crate::desk::{beyond, no_sizes, trim};
@@ -29,7 +29,7 @@ fn unsaid(bench: Bench) -> Round
 
 // The room that a unit has: memory and journal, and its part of the reels and of the tables.
 fn unit_room(room: Sizes) -> Sizes
-    ensures { result ≡ unitRoom room }
+    ensures { result ≡ unit_room room }
 {
     let mut s = room;
     s.reel = REEL_ROOM;
@@ -38,7 +38,7 @@ fn unit_room(room: Sizes) -> Sizes
 }
 
 fn start_case(b: Bench) -> Round
-    ensures { result ≡ startedCase b }
+    ensures { result ≡ started_case b }
 {
     let bench = fresh_at(b.line);
     let said = Said::Itself;
@@ -47,7 +47,7 @@ fn start_case(b: Bench) -> Round
 
 // A station with its record, a reel and a table of other sizes.
 fn resized_station(s: Station, reel: usize, table: usize) -> Station
-    ensures { result ≡ stationSized s reel table }
+    ensures { result ≡ station_sized s reel table }
 {
     let mut e = s;
     e.reel = reel;
@@ -86,7 +86,7 @@ fn unmounted_station(s: Station) -> Station
 
 // A row of n records, all zero.
 fn row_of(b: Bench, n: usize) -> Round
-    ensures { result ≡ withUnits b n }
+    ensures { result ≡ with_units b n }
 {
     let mut e = b;
     e.stations = [
@@ -115,7 +115,7 @@ fn cut_to(b: Bench, u: usize, s: Sizes, table: bool, room: Sizes) -> Round
 }
 
 fn uncut(b: Bench) -> Round
-    ensures { result ≡ uncutOf b }
+    ensures { result ≡ uncut_of b }
 {
     let mut e = b;
     e.cut = false;
@@ -151,7 +151,7 @@ fn give_reel(b: Bench, u: usize, n: usize) -> Round
 
 fn arrange_for(b: Bench, u: usize, a: Arrange, room: Sizes) -> Round
     requires { u < 5 }
-    ensures { result ≡ arrangedFor b u a room }
+    ensures { result ≡ arranged_for b u a room }
 {
     match a {
         Arrange::Case => start_case(b),
@@ -174,21 +174,21 @@ fn arrange_bench(b: Bench, u: usize, a: Arrange, room: Sizes) -> Round
 }
 
 fn no_span() -> Span
-    ensures { result ≡ noSpan }
+    ensures { result ≡ no_span }
 {
     let from = no_sizes();
     Span { from, to: from }
 }
 
 fn whole_span(room: Sizes) -> Span
-    ensures { result ≡ wholeSpan room }
+    ensures { result ≡ whole_span room }
 {
     let from = no_sizes();
     Span { from, to: room }
 }
 
 fn resized_span(s: Sizes, room: Sizes) -> Span
-    ensures { result ≡ resizedSpan s room }
+    ensures { result ≡ resized_span s room }
 {
     if beyond(s, unit_room(room)) {
         return no_span();
@@ -198,7 +198,7 @@ fn resized_span(s: Sizes, room: Sizes) -> Span
 
 // The old reel and table of unit u.
 fn reel_span(b: Bench, u: usize, n: usize) -> Span
-    ensures { result ≡ reelSpan b u n }
+    ensures { result ≡ reel_span b u n }
 {
     if STATIONS <= u {
         return no_span();
@@ -226,7 +226,7 @@ fn reel_span(b: Bench, u: usize, n: usize) -> Span
 
 // What goes back to zero: the bytes beyond the sizes are zero between calls.
 fn cleared_by(b: Bench, u: usize, a: Arrange, room: Sizes) -> Span
-    ensures { result ≡ clearedBy b u a room }
+    ensures { result ≡ cleared_by b u a room }
 {
     match a {
         Arrange::Case => whole_span(room),
@@ -248,11 +248,11 @@ pub fn arrange(
     tables: &mut [u8],
     jrnl: &mut [u8],
 ) -> Round
-    ensures round { result ≡ arranged b u a (roomOf mem.old reels.old tables.old jrnl.old) }
-    ensures memory { mem.new ≡ wiped mem.old (clearedBy b u a (roomOf mem.old reels.old tables.old jrnl.old)).from.memory (clearedBy b u a (roomOf mem.old reels.old tables.old jrnl.old)).to.memory }
-    ensures reels { reels.new ≡ wiped reels.old (clearedBy b u a (roomOf mem.old reels.old tables.old jrnl.old)).from.reel (clearedBy b u a (roomOf mem.old reels.old tables.old jrnl.old)).to.reel }
-    ensures tables { tables.new ≡ wiped tables.old (clearedBy b u a (roomOf mem.old reels.old tables.old jrnl.old)).from.table (clearedBy b u a (roomOf mem.old reels.old tables.old jrnl.old)).to.table }
-    ensures journal { jrnl.new ≡ wiped jrnl.old (clearedBy b u a (roomOf mem.old reels.old tables.old jrnl.old)).from.journal (clearedBy b u a (roomOf mem.old reels.old tables.old jrnl.old)).to.journal }
+    ensures round { result ≡ arranged b u a (room_of mem.old reels.old tables.old jrnl.old) }
+    ensures memory { mem.new ≡ wiped mem.old (cleared_by b u a (room_of mem.old reels.old tables.old jrnl.old)).from.memory (cleared_by b u a (room_of mem.old reels.old tables.old jrnl.old)).to.memory }
+    ensures reels { reels.new ≡ wiped reels.old (cleared_by b u a (room_of mem.old reels.old tables.old jrnl.old)).from.reel (cleared_by b u a (room_of mem.old reels.old tables.old jrnl.old)).to.reel }
+    ensures tables { tables.new ≡ wiped tables.old (cleared_by b u a (room_of mem.old reels.old tables.old jrnl.old)).from.table (cleared_by b u a (room_of mem.old reels.old tables.old jrnl.old)).to.table }
+    ensures journal { jrnl.new ≡ wiped jrnl.old (cleared_by b u a (room_of mem.old reels.old tables.old jrnl.old)).from.journal (cleared_by b u a (room_of mem.old reels.old tables.old jrnl.old)).to.journal }
 {
     let room = Sizes {
         memory: mem.len(),

@@ -1,7 +1,7 @@
 // All that the lines of a script change, besides the bytes of the buffers: five stations with a unit each, and what the units share.
 ghost use Rattle.std.specs.Prelude.{◌≡◌, ◌<◌};
 ghost use Rattle.lists.specs.Pick.{pick};
-ghost use Rattle.desk.specs.Benches.{beyondBuffers, cursorAt, freshAt, handedAt, nextLine, noCoupler, noStation, put_back, putTurn, sizesAt, stationOf, toldAt, view_of, withCoupler, withSession};
+ghost use Rattle.desk.specs.Benches.{beyond_buffers, cursor_at, fresh_at, handed_at, next_line, no_coupler, no_station, put_back, put_turn, sizes_at, station_of, told_at, view_of, with_coupler, with_session};
 
 use crate::desk::no_sizes;
 use crate::{Desk, Round, Said, Turn};
@@ -49,7 +49,7 @@ pub struct Bench {
 }
 
 fn no_station() -> Station
-    ensures { result ≡ noStation }
+    ensures { result ≡ no_station }
 {
     let transport = no_transport();
     Station {
@@ -61,7 +61,7 @@ fn no_station() -> Station
 }
 
 fn no_coupler() -> Coupler
-    ensures { result ≡ noCoupler }
+    ensures { result ≡ no_coupler }
 {
     Coupler {
         used: 0,
@@ -72,7 +72,7 @@ fn no_coupler() -> Coupler
 
 // As a run starts, and at line n a case: a row of one.
 pub fn fresh_at(n: usize) -> Bench
-    ensures { result ≡ freshAt n }
+    ensures { result ≡ fresh_at n }
 {
     let s = no_station();
     let coupler = no_coupler();
@@ -94,7 +94,7 @@ pub fn fresh_at(n: usize) -> Bench
 
 // The next line starts.
 pub fn next_line(b: Bench) -> Bench
-    ensures { result ≡ nextLine b }
+    ensures { result ≡ next_line b }
 {
     let mut e = b;
     if e.line < 1000000000000 {
@@ -105,7 +105,7 @@ pub fn next_line(b: Bench) -> Bench
 
 fn sizes_at(b: Bench, u: usize) -> Sizes
     requires { u < 5 }
-    ensures { result ≡ sizesAt b u }
+    ensures { result ≡ sizes_at b u }
 {
     let s = b.stations[u];
     Sizes {
@@ -125,7 +125,7 @@ fn either(c: bool, m: usize, n: usize) -> usize
 // The lengths that calls of unit u are handed: memory and journal are cut for every unit.
 pub fn handed_at(b: Bench, u: usize) -> Sizes
     requires { u < 5 }
-    ensures { result ≡ handedAt b u }
+    ensures { result ≡ handed_at b u }
 {
     let s = sizes_at(b, u);
     let cuts = b.cuts;
@@ -158,7 +158,7 @@ pub fn view(b: Bench, u: usize) -> Desk
 }
 
 fn station_of(d: Desk) -> Station
-    ensures { result ≡ stationOf d }
+    ensures { result ≡ station_of d }
 {
     let s = d.session;
     let transport = transport_of(s);
@@ -188,7 +188,7 @@ pub fn put_back(b: Bench, u: usize, d: Desk) -> Bench
 // The session that unit u's call left is kept.
 pub fn with_session(b: Bench, u: usize, s: Session) -> Bench
     requires { u < 5 }
-    ensures { result ≡ withSession b u s }
+    ensures { result ≡ with_session b u s }
 {
     let mut d = view(b, u);
     d.session = s;
@@ -197,7 +197,7 @@ pub fn with_session(b: Bench, u: usize, s: Session) -> Bench
 
 // The block that unit u's next object is laid at.
 pub fn cursor_at(b: Bench, u: usize) -> usize
-    ensures { result ≡ cursorAt b u }
+    ensures { result ≡ cursor_at b u }
 {
     if STATIONS <= u {
         return 0;
@@ -209,7 +209,7 @@ pub fn cursor_at(b: Bench, u: usize) -> usize
 // What a line of unit u came to, for all.
 pub fn put_turn(b: Bench, u: usize, t: Turn) -> Round
     requires { u < 5 }
-    ensures { result ≡ putTurn b u t }
+    ensures { result ≡ put_turn b u t }
 {
     let d = t.desk;
     let said = t.said;
@@ -218,7 +218,7 @@ pub fn put_turn(b: Bench, u: usize, t: Turn) -> Round
 }
 
 pub fn with_coupler(b: Bench, coupler: Coupler) -> Bench
-    ensures { result ≡ withCoupler b coupler }
+    ensures { result ≡ with_coupler b coupler }
 {
     let mut e = b;
     e.coupler = coupler;
@@ -227,7 +227,7 @@ pub fn with_coupler(b: Bench, coupler: Coupler) -> Bench
 
 // What a call's line prints for unit u, after this answer: its fields, if it is present.
 pub fn told_at(b: Bench, u: usize, answer: Answer, also: Also) -> Round
-    ensures { result ≡ toldAt b u answer also }
+    ensures { result ≡ told_at b u answer also }
 {
     let c = b.coupler;
     if absent(b.units, u) {
@@ -253,7 +253,7 @@ pub fn told_at(b: Bench, u: usize, answer: Answer, also: Also) -> Round
 
 // More than the program has room for.
 pub fn refused(bench: Bench) -> Round
-    ensures { result ≡ beyondBuffers bench }
+    ensures { result ≡ beyond_buffers bench }
 {
     let said = Said::Wrong(Fault::BeyondBuffers);
     Round { bench, said }

@@ -6,7 +6,7 @@ ghost use Rattle.lists.specs.Words.{word_bytes};
 ghost use Rattle.tape.specs.Objects.{Object};
 ghost use Rattle.desk.specs.Turns as turns;
 ghost use Rattle.desk.specs.Turns.{settled, still};
-ghost use Rattle.desk.specs.Builds.{blockAnswer, builtAnswer, builtMemory, builtReel, checkBytes, checkPlace, ifTaken, laidAt, pokeAnswer, recordAnswer, wordAnswer};
+ghost use Rattle.desk.specs.Builds.{block_answer, built_answer, built_memory, built_reel, check_bytes, check_place, if_taken, laid_at, poke_answer, record_answer, word_answer};
 
 use crate::{Desk, Said, Turn};
 use lines::Build;
@@ -16,8 +16,8 @@ use tape::Geometry;
 
 // The bytes d at a place of memory or reel.
 pub fn poke(b: &mut [u8], at: usize, d: &[u8], p: usize, outside: Fault) -> Value
-    ensures answer { result ≡ pokeAnswer (length b.old) at (length d.now) p outside }
-    ensures stored { b.new ≡ ifTaken (pokeAnswer (length b.old) at (length d.now) p outside) (sets b.old at d.now) b.old }
+    ensures answer { result ≡ poke_answer (length b.old) at (length d.now) p outside }
+    ensures stored { b.new ≡ if_taken (poke_answer (length b.old) at (length d.now) p outside) (sets b.old at d.now) b.old }
 {
     if b.len() < d.len() {
         return Value::Wrong(outside);
@@ -30,8 +30,8 @@ pub fn poke(b: &mut [u8], at: usize, d: &[u8], p: usize, outside: Fault) -> Valu
 }
 
 pub fn poke_word(mem: &mut [u8], at: usize, w: usize, p: usize) -> Value
-    ensures answer { result ≡ wordAnswer (length mem.old) at w p }
-    ensures stored { mem.new ≡ ifTaken (wordAnswer (length mem.old) at w p) (sets mem.old at (word_bytes w)) mem.old }
+    ensures answer { result ≡ word_answer (length mem.old) at w p }
+    ensures stored { mem.new ≡ if_taken (word_answer (length mem.old) at w p) (sets mem.old at (word_bytes w)) mem.old }
 {
     if 65535 < w {
         return Value::Wrong(Fault::NumberTooLarge);
@@ -48,8 +48,8 @@ pub fn poke_word(mem: &mut [u8], at: usize, w: usize, p: usize) -> Value
 
 // Block k gets the check word that its bytes ask.
 pub fn fix_sum(reel: &mut [u8], k: usize, p: usize) -> Value
-    ensures answer { result ≡ blockAnswer (length reel.old) k p }
-    ensures stored { reel.new ≡ ifTaken (blockAnswer (length reel.old) k p) (sets reel.old (checkPlace k) (checkBytes reel.old k)) reel.old }
+    ensures answer { result ≡ block_answer (length reel.old) k p }
+    ensures stored { reel.new ≡ if_taken (block_answer (length reel.old) k p) (sets reel.old (check_place k) (check_bytes reel.old k)) reel.old }
 {
     if reel.len() / Geometry::BLOCK <= k {
         return Value::Wrong(Fault::OutsideReel);
@@ -67,8 +67,8 @@ pub fn fix_sum(reel: &mut [u8], k: usize, p: usize) -> Value
 
 // The record of data's first n bytes at block p.
 pub fn lay_bytes(reel: &mut [u8], p: usize, data: &[u8], n: usize) -> Value
-    ensures answer { result ≡ recordAnswer (length reel.old) p (length «data».now) n }
-    ensures stored { reel.new ≡ ifTaken (recordAnswer (length reel.old) p (length «data».now) n) (laidAt reel.old p (Object.record_of (take n «data».now))) reel.old }
+    ensures answer { result ≡ record_answer (length reel.old) p (length «data».now) n }
+    ensures stored { reel.new ≡ if_taken (record_answer (length reel.old) p (length «data».now) n) (laid_at reel.old p (Object.record_of (take n «data».now))) reel.old }
 {
     // What a block's length word can say, whatever a unit's limit: a script may lay a record that no unit takes.
     if 65535 < n {
@@ -94,8 +94,8 @@ pub fn lay_bytes(reel: &mut [u8], p: usize, data: &[u8], n: usize) -> Value
 
 // A mark or a gap at block p.
 pub fn lay_single(reel: &mut [u8], p: usize, gap: bool) -> Value
-    ensures answer { result ≡ blockAnswer (length reel.old) p (p + 1) }
-    ensures stored { reel.new ≡ ifTaken (blockAnswer (length reel.old) p (p + 1)) (laidAt reel.old p (pick gap Object.gap Object.mark)) reel.old }
+    ensures answer { result ≡ block_answer (length reel.old) p (p + 1) }
+    ensures stored { reel.new ≡ if_taken (block_answer (length reel.old) p (p + 1)) (laid_at reel.old p (pick gap Object.gap Object.mark)) reel.old }
 {
     if reel.len() / Geometry::BLOCK <= p {
         return Value::Wrong(Fault::OutsideReel);
@@ -111,9 +111,9 @@ pub fn lay_single(reel: &mut [u8], p: usize, gap: bool) -> Value
 // What the line does while the cursor is at p, with data's first n bytes.
 fn build_at(b: Build, p: usize, data: &[u8], n: usize, mem: &mut [u8], reel: &mut [u8]) -> Value
     requires { n ≤ length «data».now }
-    ensures answer { result ≡ builtAnswer b p (take n «data».now) (length «data».now) n (length mem.old) (length reel.old) }
-    ensures memory { mem.new ≡ builtMemory b p (take n «data».now) mem.old }
-    ensures reel { reel.new ≡ builtReel b p (take n «data».now) (length «data».now) n reel.old }
+    ensures answer { result ≡ built_answer b p (take n «data».now) (length «data».now) n (length mem.old) (length reel.old) }
+    ensures memory { mem.new ≡ built_memory b p (take n «data».now) mem.old }
+    ensures reel { reel.new ≡ built_reel b p (take n «data».now) (length «data».now) n reel.old }
 {
     match b {
         Build::Poke(at) => poke(mem, at, &data[0..n], p, Fault::OutsideMemory),
@@ -156,9 +156,9 @@ pub fn settle(d: Desk, v: Value) -> Turn
 // The line changes only what is within the sizes.
 pub fn build(d: Desk, b: Build, data: &[u8], n: usize, mem: &mut [u8], reel: &mut [u8]) -> Turn
     requires { n ≤ length «data».now }
-    ensures turn { result ≡ settled d (builtAnswer b d.cursor (take n «data».now) (length «data».now) n (length (take (min d.sizes.memory (length mem.old)) mem.old)) (length (take (min d.sizes.reel (length reel.old)) reel.old))) }
-    ensures memory { mem.new ≡ sets mem.old 0 (builtMemory b d.cursor (take n «data».now) (take (min d.sizes.memory (length mem.old)) mem.old)) }
-    ensures reel { reel.new ≡ sets reel.old 0 (builtReel b d.cursor (take n «data».now) (length «data».now) n (take (min d.sizes.reel (length reel.old)) reel.old)) }
+    ensures turn { result ≡ settled d (built_answer b d.cursor (take n «data».now) (length «data».now) n (length (take (min d.sizes.memory (length mem.old)) mem.old)) (length (take (min d.sizes.reel (length reel.old)) reel.old))) }
+    ensures memory { mem.new ≡ sets mem.old 0 (built_memory b d.cursor (take n «data».now) (take (min d.sizes.memory (length mem.old)) mem.old)) }
+    ensures reel { reel.new ≡ sets reel.old 0 (built_reel b d.cursor (take n «data».now) (length «data».now) n (take (min d.sizes.reel (length reel.old)) reel.old)) }
 {
     let m = least(d.sizes.memory, mem.len());
     let r = least(d.sizes.reel, reel.len());

@@ -1,7 +1,7 @@
 // One unit as the lines of a script see it, besides the bytes of its buffers.
 ghost use Rattle.std.specs.Prelude.{◌≡◌};
 ghost use Rattle.script.specs.Fills.{wiped};
-ghost use Rattle.desk.specs.Desks.{noSizes, sizesBeyond};
+ghost use Rattle.desk.specs.Desks.{no_sizes, sizes_beyond};
 
 use lines::Sizes;
 use script::wipe;
@@ -18,7 +18,7 @@ pub struct Desk {
 }
 
 pub fn no_sizes() -> Sizes
-    ensures { result ≡ noSizes }
+    ensures { result ≡ no_sizes }
 {
     Sizes {
         memory: 0,
@@ -30,7 +30,7 @@ pub fn no_sizes() -> Sizes
 
 // Whether sizes are more than there is room for.
 pub fn beyond(s: Sizes, room: Sizes) -> bool
-    ensures { result ≡ sizesBeyond s room }
+    ensures { result ≡ sizes_beyond s room }
 {
     (room.memory < s.memory)
         | (room.reel < s.reel)

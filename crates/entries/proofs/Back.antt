@@ -6,18 +6,18 @@ use Prim.Native.Nat.{ℕ, ◌%◌, ◌<◌}
 use native.Mathlib.Omega.{arith}
 use lib.Dec.{eqb}
 use lib.ListN.{length}
-use Rattle.lists.specs.Fours.{numberLimit}
-use Rattle.touched.specs.Touches.{placeBelow}
+use Rattle.lists.specs.Fours.{number_limit}
+use Rattle.touched.specs.Touches.{place_below}
 use Rattle.entries.specs.declared.Entry.{Entry}
-use Rattle.entries.specs.Bytes.{headCount}
-use Rattle.entries.specs.Numbers.{Small, bit_of, entry_of, numbersOf, touchedOf, unit_of}
+use Rattle.entries.specs.Bytes.{head_count}
+use Rattle.entries.specs.Numbers.{Small, bit_of, entry_of, numbers_of, touched_of, unit_of}
 
-pub length-numbers : (e : Entry) → length (numbersOf e) ≡ headCount
-unfolding numbersOf
-length-numbers e = refl
+pub length_numbers : (e : Entry) → length (numbers_of e) ≡ head_count
+unfolding numbers_of
+length_numbers e = refl
 
 -- a number of four bytes, and a bit
-low : (x : ℕ) → x < numberLimit → x % numberLimit ≡ x
+low : (x : ℕ) → x < number_limit → x % number_limit ≡ x
 low x h = omega arith
 
 told : (b : Bool) → not (eqb (bit_of b) 0) ≡ b
@@ -25,9 +25,9 @@ told true = refl
 told false = refl
 
 -- the places filled are not among the numbers: they end at the table's used part after the step, which is `top`
-pub entry-back : (e : Entry) (top : ℕ) → Small e → e.touched.place_at ≡ placeBelow top e.touched.places → entry_of (numbersOf e) top ≡ e
-unfolding numbersOf entry_of unit_of touchedOf
-entry-back e top h at =
+pub entry_back : (e : Entry) (top : ℕ) → Small e → e.touched.place_at ≡ place_below top e.touched.places → entry_of (numbers_of e) top ≡ e
+unfolding numbers_of entry_of unit_of touched_of
+entry_back e top h at =
     let r = e.unit.registers in
     let p = e.unit.panel in
     let a = e.unit.attention in
@@ -53,17 +53,17 @@ entry-back e top h at =
       told k.enb,
       low _ h.memory,
       low _ h.blocks,
-      low _ h.data-at,
-      low _ h.data-length,
+      low _ h.data_at_fits,
+      low _ h.data_length_fits,
       told e.touched.swb,
-      low _ h.message-at,
-      low _ h.message-length,
-      low _ h.reel-at,
-      low _ h.reel-blocks,
+      low _ h.message_at_fits,
+      low _ h.message_length_fits,
+      low _ h.reel_at_fits,
+      low _ h.reel_blocks_fits,
       low _ h.objects,
       low _ h.transport,
     )
 
-pub entry-places : (n : List ℕ) (top : ℕ) → (entry_of n top).touched.place_at ≡ placeBelow top (entry_of n top).touched.places
-unfolding entry_of touchedOf
-entry-places n top = refl
+pub entry_places : (n : List ℕ) (top : ℕ) → (entry_of n top).touched.place_at ≡ place_below top (entry_of n top).touched.places
+unfolding entry_of touched_of
+entry_places n top = refl

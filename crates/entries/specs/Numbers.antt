@@ -1,20 +1,20 @@
 -- The head of an entry is 31 numbers; every field of the state has its place. (01: "Undoing registers but not VCK, owners or pending
--- attention" is what this must rule out: see the law `entry-back`.) The last is the transport's: "The entry names its unit within the 128 bytes" (02, [9]).
+-- attention" is what this must rule out: see the law `entry_back`.) The last is the transport's: "The entry names its unit within the 128 bytes" (02, [9]).
 use Rattle.std.specs.Prelude.{Bool, not, List, [], ◌∷◌, ℕ, ◌%◌, ◌<◌, eqb, get_or}
-use Rattle.lists.specs.Fours.{numberLimit}
+use Rattle.lists.specs.Fours.{number_limit}
 use Rattle.lists.specs.Pick.{pick}
 use Rattle.state.specs.declared.Unit.{Unit}
-use Rattle.touched.specs.Touches.{placeBelow}
+use Rattle.touched.specs.Touches.{place_below}
 use Rattle.touched.specs.declared.Touched.{Touched}
 use Rattle.entries.specs.declared.Entry.{Entry}
 
 abbrev pub bit_of : Bool → ℕ
 bit_of b = pick b 1 0
 
-unfoldable pub numbersOf : Entry → List ℕ
-numbersOf e =
-    e.unit.tape.position % numberLimit ∷ e.unit.tape.end % numberLimit ∷ e.unit.registers.pointer % numberLimit
-    ∷ e.unit.registers.class % numberLimit
+unfoldable pub numbers_of : Entry → List ℕ
+numbers_of e =
+    e.unit.tape.position % number_limit ∷ e.unit.tape.end % number_limit ∷ e.unit.registers.pointer % number_limit
+    ∷ e.unit.registers.class % number_limit
     ∷ bit_of e.unit.registers.rmr
     ∷ bit_of e.unit.registers.nxm
     ∷ bit_of e.unit.registers.nba
@@ -30,18 +30,18 @@ numbersOf e =
     ∷ bit_of e.unit.characteristics.eai
     ∷ bit_of e.unit.characteristics.ess
     ∷ bit_of e.unit.characteristics.enb
-    ∷ e.unit.lengths.memory % numberLimit
-    ∷ e.unit.lengths.blocks % numberLimit
-    ∷ e.touched.data_at % numberLimit
-    ∷ e.touched.data_length % numberLimit
+    ∷ e.unit.lengths.memory % number_limit
+    ∷ e.unit.lengths.blocks % number_limit
+    ∷ e.touched.data_at % number_limit
+    ∷ e.touched.data_length % number_limit
     ∷ bit_of e.touched.swb
-    ∷ e.touched.message_at % numberLimit
-    ∷ e.touched.message_length % numberLimit
-    ∷ e.touched.reel_at % numberLimit
-    ∷ e.touched.reel_blocks % numberLimit
-    ∷ e.objects % numberLimit
+    ∷ e.touched.message_at % number_limit
+    ∷ e.touched.message_length % number_limit
+    ∷ e.touched.reel_at % number_limit
+    ∷ e.touched.reel_blocks % number_limit
+    ∷ e.objects % number_limit
     ∷ e.touched.places
-    ∷ e.transport % numberLimit
+    ∷ e.transport % number_limit
     ∷ []
 
 -- number i, and whether it is not 0
@@ -72,8 +72,8 @@ unit_of n =
     }
 
 -- the places filled end where the used part of the table does after the step: at `top`
-unfoldable pub touchedOf : List ℕ → ℕ → Touched
-touchedOf n top =
+unfoldable pub touched_of : List ℕ → ℕ → Touched
+touched_of n top =
     record {
       data_at = nth n 21;
       data_length = nth n 22;
@@ -82,26 +82,26 @@ touchedOf n top =
       message_length = nth n 25;
       reel_at = nth n 26;
       reel_blocks = nth n 27;
-      place_at = placeBelow top (nth n 29);
+      place_at = place_below top (nth n 29);
       places = nth n 29;
     }
 
 unfoldable pub entry_of : List ℕ → ℕ → Entry
-entry_of n top = record { unit = unit_of n; objects = nth n 28; touched = touchedOf n top; transport = nth n 30 }
+entry_of n top = record { unit = unit_of n; objects = nth n 28; touched = touched_of n top; transport = nth n 30 }
 
 -- every number of the entry that its type lets be larger has at most four bytes; so has each that the journal writes
 pub record Small (e : Entry) : Type 0 where
-  pub transport : e.transport < numberLimit
-  pub position : e.unit.tape.position < numberLimit
-  pub end : e.unit.tape.end < numberLimit
-  pub pointer : e.unit.registers.pointer < numberLimit
-  pub class : e.unit.registers.class < numberLimit
-  pub memory : e.unit.lengths.memory < numberLimit
-  pub blocks : e.unit.lengths.blocks < numberLimit
-  pub data-at : e.touched.data_at < numberLimit
-  pub data-length : e.touched.data_length < numberLimit
-  pub message-at : e.touched.message_at < numberLimit
-  pub message-length : e.touched.message_length < numberLimit
-  pub reel-at : e.touched.reel_at < numberLimit
-  pub reel-blocks : e.touched.reel_blocks < numberLimit
-  pub objects : e.objects < numberLimit
+  pub transport : e.transport < number_limit
+  pub position : e.unit.tape.position < number_limit
+  pub end : e.unit.tape.end < number_limit
+  pub pointer : e.unit.registers.pointer < number_limit
+  pub class : e.unit.registers.class < number_limit
+  pub memory : e.unit.lengths.memory < number_limit
+  pub blocks : e.unit.lengths.blocks < number_limit
+  pub data_at_fits : e.touched.data_at < number_limit
+  pub data_length_fits : e.touched.data_length < number_limit
+  pub message_at_fits : e.touched.message_at < number_limit
+  pub message_length_fits : e.touched.message_length < number_limit
+  pub reel_at_fits : e.touched.reel_at < number_limit
+  pub reel_blocks_fits : e.touched.reel_blocks < number_limit
+  pub objects : e.objects < number_limit

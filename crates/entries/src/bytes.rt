@@ -1,13 +1,13 @@
 // Numbers of four bytes, low byte first; the head is 31 of them.
 ghost use Rattle.std.specs.Prelude.{◌≡◌, ◌+◌, ◌≤◌, length, drop};
 ghost use Rattle.std.proofs.lemmas.List.Edits.{sets};
-ghost use Rattle.entries.specs.Bytes.{numbersBytes, headCount, headLength, headNumbers};
+ghost use Rattle.entries.specs.Bytes.{numbers_bytes, head_count, head_length, head_numbers};
 
 use lists::{number_at, put_number};
 
 pub fn put_head(b: &mut [u8], at: usize, n: [u32; 31])
-    requires { at + headLength ≤ length b.old }
-    ensures { b.new ≡ sets b.old at (numbersBytes n) }
+    requires { at + head_length ≤ length b.old }
+    ensures { b.new ≡ sets b.old at (numbers_bytes n) }
 {
     let mut i: usize = 0;
     while i < 31 {
@@ -17,14 +17,14 @@ pub fn put_head(b: &mut [u8], at: usize, n: [u32; 31])
 }
 
 fn blank() -> [u32; 31]
-    ensures { length result ≡ headCount }
+    ensures { length result ≡ head_count }
 {
     [0u32; 31]
 }
 
 pub fn head_at(b: &[u8], at: usize) -> [u32; 31]
-    requires { at + headLength ≤ length b.now }
-    ensures { result ≡ headNumbers headCount (drop at b.now) }
+    requires { at + head_length ≤ length b.now }
+    ensures { result ≡ head_numbers head_count (drop at b.now) }
 {
     let mut n = blank();
     let mut i: usize = 0;

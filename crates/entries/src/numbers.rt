@@ -1,7 +1,7 @@
 // The one encoding of an entry's head: 31 numbers, and back.
 ghost use Rattle.std.specs.Prelude.{◌≡◌, ◌%◌};
-ghost use Rattle.touched.specs.Touches.{placeBelow};
-ghost use Rattle.entries.specs.Numbers.{bit_of, entry_of, numbersOf, touchedOf, unit_of};
+ghost use Rattle.touched.specs.Touches.{place_below};
+ghost use Rattle.entries.specs.Numbers.{bit_of, entry_of, numbers_of, touched_of, unit_of};
 
 use crate::Entry;
 use state::{Attention, Characteristics, Lengths, Panel, Registers, Tape, Unit};
@@ -20,7 +20,7 @@ fn bit_of(b: bool) -> u32
 }
 
 pub fn numbers_of(e: Entry) -> [u32; 31]
-    ensures { result ≡ numbersOf e }
+    ensures { result ≡ numbers_of e }
 {
     let u = e.unit;
     let t = e.touched;
@@ -107,7 +107,7 @@ fn unit_of(n: [u32; 31]) -> Unit
 
 // The first of f places that end below the place `top`; with more than that, place 0.
 fn place_below(top: usize, f: u32) -> usize
-    ensures { result ≡ placeBelow top f }
+    ensures { result ≡ place_below top f }
 {
     let k = f as usize;
     if (k == 0) | (top < k) {
@@ -117,7 +117,7 @@ fn place_below(top: usize, f: u32) -> usize
 }
 
 fn touched_of(n: [u32; 31], top: usize) -> Touched
-    ensures { result ≡ touchedOf n top }
+    ensures { result ≡ touched_of n top }
 {
     Touched {
         data_at: n[21] as usize,

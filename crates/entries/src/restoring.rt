@@ -1,8 +1,8 @@
 // Reading the newest entry, whatever bytes stand there, and bringing its old bytes back.
 ghost use Rattle.std.specs.Prelude.{◌≡◌, ◌+◌, ◌≤◌, length};
-ghost use Rattle.touched.specs.Touches.{PlacesIn, Restored, Sizes, TouchedIn, savedLength};
-ghost use Rattle.entries.specs.Bytes.{headLength};
-ghost use Rattle.entries.specs.Entries.{entryBare, entryFits, newestEntry, savedFor, usedIn};
+ghost use Rattle.touched.specs.Touches.{PlacesIn, Restored, Sizes, TouchedIn, saved_length};
+ghost use Rattle.entries.specs.Bytes.{head_length};
+ghost use Rattle.entries.specs.Entries.{entry_bare, entry_fits, newest_entry, saved_for, used_in};
 
 use crate::bytes::head_at;
 use crate::numbers::entry_of;
@@ -12,8 +12,8 @@ use touched::{Touched, bring_back, saved_length, touched_fits};
 
 // The entry whose head ends at `used`, where `top` places of the table are used.
 pub fn newest_entry(jrnl: &[u8], used: usize, top: usize) -> Entry
-    requires { (headLength ≤ used) × (used ≤ length jrnl.now) }
-    ensures { result ≡ newestEntry top (usedIn used jrnl.now) }
+    requires { (head_length ≤ used) × (used ≤ length jrnl.now) }
+    ensures { result ≡ newest_entry top (used_in used jrnl.now) }
 {
     entry_of(head_at(jrnl, used - HEAD), top)
 }
@@ -28,7 +28,7 @@ pub fn entry_fits(
     top: usize,
 ) -> bool
     requires { Sizes memory reel }
-    ensures { result ≡ entryFits e used mounted memory reel top }
+    ensures { result ≡ entry_fits e used mounted memory reel top }
 {
     let t = e.touched;
     let same = (e.unit.lengths.memory == mounted.memory)
@@ -48,8 +48,8 @@ pub fn bring_entry_back(
     reel: &mut [u8],
     table: &mut [u8],
 )
-    requires { (used ≤ length jrnl.now) × (entryBare + savedLength t ≤ used) × TouchedIn t (length mem.old) (length reel.old) × PlacesIn t (length table.old) }
-    ensures { Restored t (savedFor t (usedIn used jrnl.now)) mem.old reel.old table.old mem.new reel.new table.new }
+    requires { (used ≤ length jrnl.now) × (entry_bare + saved_length t ≤ used) × TouchedIn t (length mem.old) (length reel.old) × PlacesIn t (length table.old) }
+    ensures { Restored t (saved_for t (used_in used jrnl.now)) mem.old reel.old table.old mem.new reel.new table.new }
 {
     let head = used - HEAD;
     let from = head - saved_length(t, mem.len(), reel.len());

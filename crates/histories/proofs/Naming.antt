@@ -5,35 +5,35 @@ use Prim.Native.Nat.{ℕ, ◌+◌, ◌-◌, ◌%◌, ◌<◌}
 use native.Mathlib.Omega.{arith}
 use lib.ListN.{length, length-append}
 use lib.Seq.{drop_at}
-use Rattle.lists.specs.Fours.{numberBytes, numberLimit}
-use Rattle.touched.specs.Touches.{savedBytes}
-use Rattle.entries.specs.Bytes.{headCount, headLength, headNumbers, numbersBytes}
-use Rattle.entries.specs.Entries.{entryBytes, entryLength, newestEntry}
-use Rattle.entries.specs.Numbers.{entry_of, numbersOf}
+use Rattle.lists.specs.Fours.{number_bytes, number_limit}
+use Rattle.touched.specs.Touches.{saved_bytes}
+use Rattle.entries.specs.Bytes.{head_count, head_length, head_numbers, numbers_bytes}
+use Rattle.entries.specs.Entries.{entry_bytes, entry_length, newest_entry}
+use Rattle.entries.specs.Numbers.{entry_of, numbers_of}
 use Rattle.entries.specs.declared.Entry.{Entry}
-use Rattle.entries.proofs.Back.{length-numbers}
-use Rattle.entries.proofs.HeadBytes.{head-back}
-use Rattle.entries.proofs.Joined.{head-long}
+use Rattle.entries.proofs.Back.{length_numbers}
+use Rattle.entries.proofs.HeadBytes.{head_back}
+use Rattle.entries.proofs.Joined.{head_long}
 
 module _ (e : Entry) (top : ℕ) where
-  last-number : e.transport < numberLimit → (entry_of (numbersOf e) top).transport ≡ e.transport
-  unfolding numbersOf entry_of
-  last-number h = let low : e.transport % numberLimit ≡ e.transport = omega arith in low
+  last_number : e.transport < number_limit → (entry_of (numbers_of e) top).transport ≡ e.transport
+  unfolding numbers_of entry_of
+  last_number h = let low : e.transport % number_limit ≡ e.transport = omega arith in low
 
-  head-names : e.transport < numberLimit → (entry_of (headNumbers headCount (numbersBytes (numbersOf e))) top).transport ≡ e.transport
-  head-names h = rw (← length-numbers e, ← append-nil (numbersBytes (numbersOf e)), head-back (numbersOf e) []) (last-number h)
+  head_names : e.transport < number_limit → (entry_of (head_numbers head_count (numbers_bytes (numbers_of e))) top).transport ≡ e.transport
+  head_names h = rw (← length_numbers e, ← append-nil (numbers_bytes (numbers_of e)), head_back (numbers_of e) []) (last_number h)
 
   module _ (m r tb j : List ℕ) where
     abbrev front : List ℕ
-    front = j ++ (numberBytes (entryLength e) ++ savedBytes e.touched m r tb)
+    front = j ++ (number_bytes (entry_length e) ++ saved_bytes e.touched m r tb)
 
-    head-last : j ++ entryBytes e m r tb ≡ front ++ numbersBytes (numbersOf e)
-    unfolding entryBytes
-    head-last = simp append_assoc
+    head_last : j ++ entry_bytes e m r tb ≡ front ++ numbers_bytes (numbers_of e)
+    unfolding entry_bytes
+    head_last = simp append_assoc
 
-    pub newest-names : e.transport < numberLimit → (newestEntry top (j ++ entryBytes e m r tb)).transport ≡ e.transport
-    unfolding newestEntry
-    newest-names h =
-        let whole : length (front ++ numbersBytes (numbersOf e)) ≡ length front + headLength = length-append front (numbersBytes (numbersOf e)) ∙ ap (λ (k : ℕ). length front + k) (head-long e) in
-        let at : length front ≡ length (front ++ numbersBytes (numbersOf e)) - headLength = omega (arith, whole) in
-        rw (head-last, drop_at front (numbersBytes (numbersOf e)) (length (front ++ numbersBytes (numbersOf e)) - headLength) at) (head-names h)
+    pub newest_names : e.transport < number_limit → (newest_entry top (j ++ entry_bytes e m r tb)).transport ≡ e.transport
+    unfolding newest_entry
+    newest_names h =
+        let whole : length (front ++ numbers_bytes (numbers_of e)) ≡ length front + head_length = length-append front (numbers_bytes (numbers_of e)) ∙ ap (λ (k : ℕ). length front + k) (head_long e) in
+        let at : length front ≡ length (front ++ numbers_bytes (numbers_of e)) - head_length = omega (arith, whole) in
+        rw (head_last, drop_at front (numbers_bytes (numbers_of e)) (length (front ++ numbers_bytes (numbers_of e)) - head_length) at) (head_names h)

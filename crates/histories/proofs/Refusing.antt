@@ -8,63 +8,63 @@ use lib.ListN.{length}
 use Rattle.state.proofs.Tests.{either}
 use Rattle.commands.specs.declared.plans.Answer.{Answer}
 use Rattle.commands.specs.declared.plans.Answer.TheVariants as answer
-use Rattle.entries.specs.Entries.{entryFits, newestEntry, transports}
+use Rattle.entries.specs.Entries.{entry_fits, newest_entry, transports}
 use Rattle.entries.specs.declared.Entry.{Entry}
-use Rattle.worlds.specs.Calls.{entryWrong, noPlaceBack, refusedAs, undoBy, undoOn}
+use Rattle.worlds.specs.Calls.{entry_wrong, no_place_back, refused_as, undo_by, undo_on}
 use Rattle.worlds.specs.Worlds.{Answered, World}
 use Rattle.worlds.specs.declared.Outcome.{Outcome}
-use Rattle.worlds.specs.Coupled.{Coupled, CoupledAnswer, Rig, backChecked, backOver, coreOfNone, isAbsent, lifted, liftedNone, mountAt, mountedAt, named_in, refusedWith, told, undoNamed, undoNone, undoNoneBy, view_of, viewOfNone, withCore, withMemory}
-use Rattle.worlds.proofs.Coupling.{put-core}
-use Rattle.sessions.specs.Calling.{Left, stepKind}
+use Rattle.worlds.specs.Coupled.{Coupled, CoupledAnswer, Rig, back_checked, back_over, core_of_none, is_absent, lifted, lifted_none, mount_at, mounted_at, named_in, refused_with, told, undo_named, undo_none, undo_none_by, view_of, view_of_none, with_core, with_memory}
+use Rattle.worlds.proofs.Coupling.{put_core}
+use Rattle.sessions.specs.Calling.{Left, step_kind}
 use Rattle.sessions.specs.Session.{stepped}
 
 -- a call that took no step left the coupled world as it was
 abbrev pub LeftOver : Coupled → CoupledAnswer → Type 0
-LeftOver w x = (stepKind x.answer ≡ stepped → ⊥) → x.coupled ≡ w
+LeftOver w x = (step_kind x.answer ≡ stepped → ⊥) → x.coupled ≡ w
 
 -- the newest entry brought back, or refused with 8 or 11
-undo-left : (w : World) → Left w (undoOn w)
-unfolding undoOn undoBy stepKind
-undo-left w =
-    let e : Entry = newestEntry w.core.objects w.ledger.bytes in
-    either (Left w) (entryWrong w e) (refusedAs 8 w) _ (λ g. refl)
-    (either (Left w) (noPlaceBack w.core e) (refusedAs 11 w) _ (λ g. refl) (λ g. absurd (g refl)))
+undo_left : (w : World) → Left w (undo_on w)
+unfolding undo_on undo_by step_kind
+undo_left w =
+    let e : Entry = newest_entry w.core.objects w.ledger.bytes in
+    either (Left w) (entry_wrong w e) (refused_as 8 w) _ (λ g. refl)
+    (either (Left w) (no_place_back w.core e) (refused_as 11 w) _ (λ g. refl) (λ g. absurd (g refl)))
 
-undo-none-left : (w : World) → Left w (undoNone w)
-unfolding undoNone undoNoneBy stepKind
-undo-none-left w =
-    let e : Entry = newestEntry 0 w.ledger.bytes in
-    either (Left w) (not (entryFits e w.ledger.used w.core.unit.lengths (length w.core.memory) 0 0)) (refusedAs 8 w) _ (λ g. refl) (λ g. absurd (g refl))
+undo_none_left : (w : World) → Left w (undo_none w)
+unfolding undo_none undo_none_by step_kind
+undo_none_left w =
+    let e : Entry = newest_entry 0 w.ledger.bytes in
+    either (Left w) (not (entry_fits e w.ledger.used w.core.unit.lengths (length w.core.memory) 0 0)) (refused_as 8 w) _ (λ g. refl) (λ g. absurd (g refl))
 
 module _ (w : Coupled) where
-  lifted-left : (k : ℕ) (x : Answered) → Left (view_of k w) x → LeftOver w (lifted k w x)
+  lifted_left : (k : ℕ) (x : Answered) → Left (view_of k w) x → LeftOver w (lifted k w x)
   unfolding lifted
-  lifted-left k x f g =
-      ap (λ (v : World). record { rig = withCore k v.core w.rig; ledger = v.ledger }) (f g)
-      ∙ ap (λ (r : Rig). record { rig = r; ledger = w.ledger }) (put-core k w.rig)
+  lifted_left k x f g =
+      ap (λ (v : World). record { rig = with_core k v.core w.rig; ledger = v.ledger }) (f g)
+      ∙ ap (λ (r : Rig). record { rig = r; ledger = w.ledger }) (put_core k w.rig)
 
-  lifted-none-left : (x : Answered) → Left (viewOfNone w) x → LeftOver w (liftedNone w x)
-  unfolding liftedNone coreOfNone
-  lifted-none-left x f g = ap (λ (v : World). record { rig = withMemory v.core.memory w.rig; ledger = v.ledger }) (f g)
+  lifted_none_left : (x : Answered) → Left (view_of_none w) x → LeftOver w (lifted_none w x)
+  unfolding lifted_none core_of_none
+  lifted_none_left x f g = ap (λ (v : World). record { rig = with_memory v.core.memory w.rig; ledger = v.ledger }) (f g)
 
-  pub back-stays : (n : ℕ) → LeftOver w (backOver w n)
-  unfolding backOver undoNamed
-  back-stays n =
+  pub back_stays : (n : ℕ) → LeftOver w (back_over w n)
+  unfolding back_over undo_named
+  back_stays n =
       let k : ℕ = named_in w.ledger.bytes in
-      either (LeftOver w) (eqb (backChecked w n) 0) (undoNamed w k) (refusedWith (backChecked w n) w)
-      (either (LeftOver w) (eqb k transports) (liftedNone w (undoNone (viewOfNone w))) (lifted k w (undoOn (view_of k w)))
-      (lifted-none-left (undoNone (viewOfNone w)) (undo-none-left (viewOfNone w)))
-      (lifted-left k (undoOn (view_of k w)) (undo-left (view_of k w))))
+      either (LeftOver w) (eqb (back_checked w n) 0) (undo_named w k) (refused_with (back_checked w n) w)
+      (either (LeftOver w) (eqb k transports) (lifted_none w (undo_none (view_of_none w))) (lifted k w (undo_on (view_of k w)))
+      (lifted_none_left (undo_none (view_of_none w)) (undo_none_left (view_of_none w)))
+      (lifted_left k (undo_on (view_of k w)) (undo_left (view_of k w))))
       (λ g. refl)
 
   -- a mount by its answer
-  mounted-left : (k : ℕ) (o : Outcome) (tb : List ℕ) (a : Answer) → LeftOver w (told a (mountedAt w k o tb a))
-  unfolding mountedAt stepKind
-  mounted-left k o tb (answer.Done i) g = absurd (g refl)
-  mounted-left k o tb answer.Idle g = refl
-  mounted-left k o tb (answer.Refused j) g = refl
-  mounted-left k o tb (answer.BadBlock why j) g = refl
+  mounted_left : (k : ℕ) (o : Outcome) (tb : List ℕ) (a : Answer) → LeftOver w (told a (mounted_at w k o tb a))
+  unfolding mounted_at step_kind
+  mounted_left k o tb (answer.Done i) g = absurd (g refl)
+  mounted_left k o tb answer.Idle g = refl
+  mounted_left k o tb (answer.Refused j) g = refl
+  mounted_left k o tb (answer.BadBlock why j) g = refl
 
-  pub mount-stays : (n k e : ℕ) (online locked : Bool) → LeftOver w (mountAt w n k e online locked)
-  unfolding mountAt
-  mount-stays n k e online locked = either (LeftOver w) (isAbsent w k) (refusedWith 12 w) _ (λ g. refl) (mounted-left k _ _ _)
+  pub mount_stays : (n k e : ℕ) (online locked : Bool) → LeftOver w (mount_at w n k e online locked)
+  unfolding mount_at
+  mount_stays n k e online locked = either (LeftOver w) (is_absent w k) (refused_with 12 w) _ (λ g. refl) (mounted_left k _ _ _)

@@ -1,36 +1,36 @@
 -- Demand 3 of a session over the row, whole: what holds at its end s, where the transports ks have been mounted and the log l led from the last mount's moment s₀ to s.
 use Rattle.std.specs.Prelude.{true, false, List, [], ◌∷◌, map, ◌≡◌, ℕ, ◌≤◌, length}
 use Rattle.commands.specs.declared.plans.Answer.TheVariants as answer
-use Rattle.worlds.specs.Coupled.{Coupled, CoupledAnswer, backOver, deckAt, isAbsent, lifted, refusedWith, seatOf, told, view_of}
-use Rattle.worlds.specs.Rows.{reelSeatWrong, stateSeatWrong}
+use Rattle.worlds.specs.Coupled.{Coupled, CoupledAnswer, back_over, deck_at, is_absent, lifted, refused_with, seat_of, told, view_of}
+use Rattle.worlds.specs.Rows.{reel_seat_wrong, state_seat_wrong}
 use Rattle.worlds.specs.Worlds.{Answered}
 use Rattle.sessions.specs.Advancing.{Comes}
 use Rattle.sessions.specs.Good.{Each}
 use Rattle.sessions.specs.Session.{Done, Ran, back, before, entry_of, stood, strike}
-use Rattle.histories.specs.Calling.{Call, Here, Noted, backCalls, calls, coupledFrom, onCall}
+use Rattle.histories.specs.Calling.{Call, Here, Noted, back_calls, calls, coupled_from, on_call}
 use Rattle.histories.specs.Good.{EntryLong, Good}
 use Rattle.histories.specs.Room.{Exactly, Steppable}
 
 -- what a call of advance of transport k comes to: 12 where it is absent; else what its own world comes to, under the conditions of document 01 (`Comes`), in its place
 pub data AdvanceComes (n : ℕ) (w : Coupled) (k : ℕ) (x : CoupledAnswer) : Type 0 where
-  absent : isAbsent w k ≡ true → x ≡ refusedWith 12 w → AdvanceComes n w k x
-  present : {y : Answered} → isAbsent w k ≡ false → Comes n (view_of k w) y → x ≡ lifted k w y → AdvanceComes n w k x
+  absent : is_absent w k ≡ true → x ≡ refused_with 12 w → AdvanceComes n w k x
+  present : {y : Answered} → is_absent w k ≡ false → Comes n (view_of k w) y → x ≡ lifted k w y → AdvanceComes n w k x
 
 -- what a call of step back comes to at a moment s, whatever else stands in the row: it is refused and leaves everything, or it brings the newest entry back
 pub data BackComes (n : ℕ) (s : Here) (x : CoupledAnswer) : Type 0 where
-  stayed : {k : ℕ} → x ≡ refusedWith k (coupledFrom n s) → BackComes n s x
-  went_back : {e : Noted} {es : List Noted} → s.entries ≡ e ∷ es → x ≡ told (answer.Done false) (coupledFrom n (back (calls n) s)) → BackComes n s x
+  stayed : {k : ℕ} → x ≡ refused_with k (coupled_from n s) → BackComes n s x
+  went_back : {e : Noted} {es : List Noted} → s.entries ≡ e ∷ es → x ≡ told (answer.Done false) (coupled_from n (back (calls n) s)) → BackComes n s x
 
 -- what a step back comes to right behind a step of transport k, or of none, that led from the coupled world w to w': all is as before the step; or another transport that
 -- is mounted has a state that 1 refuses, or a reel not of its mount's length, and then all stays
 pub data UndoComes (w : Coupled) (k : ℕ) (w' : Coupled) (x : CoupledAnswer) : Type 0 where
   as_before : x ≡ told (answer.Done false) w → UndoComes w k w' x
-  other-state : (i : ℕ) → isAbsent w i ≡ false → (i ≡ k → ⊥) → stateSeatWrong w.rig.mounted (seatOf (deckAt w.rig i)) ≡ true → x ≡ refusedWith 1 w' → UndoComes w k w' x
-  other-reel : (i : ℕ) → isAbsent w i ≡ false → (i ≡ k → ⊥) → reelSeatWrong (seatOf (deckAt w.rig i)) ≡ true → x ≡ refusedWith 3 w' → UndoComes w k w' x
+  other_state : (i : ℕ) → is_absent w i ≡ false → (i ≡ k → ⊥) → state_seat_wrong w.rig.mounted (seat_of (deck_at w.rig i)) ≡ true → x ≡ refused_with 1 w' → UndoComes w k w' x
+  other_reel : (i : ℕ) → is_absent w i ≡ false → (i ≡ k → ⊥) → reel_seat_wrong (seat_of (deck_at w.rig i)) ≡ true → x ≡ refused_with 3 w' → UndoComes w k w' x
 
 -- no transport of w but k that is mounted has such a state or reel
 abbrev pub OthersRight : Coupled → ℕ → Type 0
-OthersRight w k = (i : ℕ) → isAbsent w i ≡ false → (i ≡ k → ⊥) → (stateSeatWrong w.rig.mounted (seatOf (deckAt w.rig i)) ≡ false) × (reelSeatWrong (seatOf (deckAt w.rig i)) ≡ false)
+OthersRight w k = (i : ℕ) → is_absent w i ≡ false → (i ≡ k → ⊥) → (state_seat_wrong w.rig.mounted (seat_of (deck_at w.rig i)) ≡ false) × (reel_seat_wrong (seat_of (deck_at w.rig i)) ≡ false)
 
 pub record History (n : ℕ) (ks : List ℕ) {s₀ s : Here} {l : List (Done (calls n))} (r : Ran (calls n) s₀ l s) : Type 0 where
   -- of each of ks "the reel is well formed, the position is 0 or just after an object", the table is worked out afresh from the reel, and no check refuses
@@ -39,10 +39,10 @@ pub record History (n : ℕ) (ks : List ℕ) {s₀ s : Here} {l : List (Done (ca
   pub entries : s.entries ≡ map (entry_of (calls n)) (stood (calls n) r)
   pub long : Each (EntryLong n) (stood (calls n) r)
   -- "Step back undoes the newest step of any unit"; with none it is refused with 6; and k of them give what stood before the earliest of those k
-  pub newest : {e : Noted} {es : List Noted} → s.entries ≡ e ∷ es → backOver (coupledFrom n s) n ≡ told (answer.Done false) (coupledFrom n (back (calls n) s))
-  pub no-entry : s.entries ≡ [] → backOver (coupledFrom n s) n ≡ refusedWith 6 (coupledFrom n s)
-  pub going-back : (k : ℕ) → k ≤ length (stood (calls n) r) → backCalls n k (coupledFrom n s) ≡ coupledFrom n (before (calls n) r k)
+  pub newest : {e : Noted} {es : List Noted} → s.entries ≡ e ∷ es → back_over (coupled_from n s) n ≡ told (answer.Done false) (coupled_from n (back (calls n) s))
+  pub no_entry : s.entries ≡ [] → back_over (coupled_from n s) n ≡ refused_with 6 (coupled_from n s)
+  pub going_back : (k : ℕ) → k ≤ length (stood (calls n) r) → back_calls n k (coupled_from n s) ≡ coupled_from n (before (calls n) r k)
   -- "a step is refused for room exactly when its entry doesn't fit"
-  pub room : (c : Call) → Steppable c s.core → Exactly (coupledFrom n s) c (onCall n c (coupledFrom n s))
+  pub room : (c : Call) → Steppable c s.core → Exactly (coupled_from n s) c (on_call n c (coupled_from n s))
   -- what was undone never was
-  pub never-was : Ran (calls n) s₀ (strike (calls n) l) s
+  pub never_was : Ran (calls n) s₀ (strike (calls n) l) s

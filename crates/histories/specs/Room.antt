@@ -1,19 +1,19 @@
 -- When a step over the row is refused for places or for room. (01, the table of refusals; 02, [8] and [9])
 use Rattle.std.specs.Prelude.{Bool, false, List, ◌≡◌, ℕ, length}
 use Rattle.commands.specs.declared.plans.Answer.TheVariants as answer
-use Rattle.unit.specs.Asks.{host-store}
+use Rattle.unit.specs.Asks.{host_store}
 use Rattle.unit.specs.Steps.{step_of}
-use Rattle.worlds.specs.Coupled.{Coupled, CoupledAnswer, Rig, core_of, coreOfNone, refusedWith}
-use Rattle.worlds.specs.Rows.{absentIn}
+use Rattle.worlds.specs.Coupled.{Coupled, CoupledAnswer, Rig, core_of, core_of_none, refused_with}
+use Rattle.worlds.specs.Rows.{absent_in}
 use Rattle.sessions.specs.Good.{NoPlace, NoRoom}
-use Rattle.histories.specs.Calling.{Call, Numbered, coreFor, doing, entry_at, read-register, step, store}
+use Rattle.histories.specs.Calling.{Call, Numbered, core_for, doing, entry_at, read_register, step, store}
 use Rattle.histories.specs.Good.{Among}
 
 -- a call of a transport that is present and whose step 7 doesn't refuse and is no idle advance; or a host store that 5 doesn't refuse
 abbrev pub Steppable : Call → Rig → Type 0
-Steppable (step k a h) g = (absentIn (length g.decks) k ≡ false) × ((i : Bool) × ((step_of a (core_of k g)).answer ≡ answer.Done i))
-Steppable (store place bytes) g = (i : Bool) × ((step_of (host-store place bytes) (coreOfNone g)).answer ≡ answer.Done i)
-Steppable (read-register k r) g = ⊥
+Steppable (step k a h) g = (absent_in (length g.decks) k ≡ false) × ((i : Bool) × ((step_of a (core_of k g)).answer ≡ answer.Done i))
+Steppable (store place bytes) g = (i : Bool) × ((step_of (host_store place bytes) (core_of_none g)).answer ≡ answer.Done i)
+Steppable (read_register k r) g = ⊥
 
 -- the transport that is called is one of ks; a host store calls none
 abbrev pub CalledAmong : List ℕ → Call → Type 0
@@ -22,6 +22,6 @@ CalledAmong ks c = (k : ℕ) → Numbered c k → Among k ks
 -- "a step is refused for room exactly when its entry doesn't fit", and then all is as it was; 11 comes before 9, and is given exactly when the transport's table is too small
 pub record Exactly (w : Coupled) (c : Call) (x : CoupledAnswer) : Type 0 where
   pub nine : x.answer ≡ answer.Refused 9 → NoRoom w.ledger (entry_at c w.rig)
-  pub no_room : (NoPlace (coreFor c w.rig) (doing c w.rig) → ⊥) → NoRoom w.ledger (entry_at c w.rig) → x ≡ refusedWith 9 w
-  pub eleven : x.answer ≡ answer.Refused 11 → NoPlace (coreFor c w.rig) (doing c w.rig)
-  pub no_place : NoPlace (coreFor c w.rig) (doing c w.rig) → x ≡ refusedWith 11 w
+  pub no_room : (NoPlace (core_for c w.rig) (doing c w.rig) → ⊥) → NoRoom w.ledger (entry_at c w.rig) → x ≡ refused_with 9 w
+  pub eleven : x.answer ≡ answer.Refused 11 → NoPlace (core_for c w.rig) (doing c w.rig)
+  pub no_place : NoPlace (core_for c w.rig) (doing c w.rig) → x ≡ refused_with 11 w

@@ -1,28 +1,28 @@
 -- What is found in a table of n places, of whatever bytes. A table too small for its count has no answer.
 use Rattle.std.specs.Prelude.{List, [], ◌∷◌, ◌++◌, ◌≡◌, ℕ, ◌+◌, ◌-◌, ◌≤◌, ◌<◌, eqb, leb, ltb, length}
 use Rattle.lists.specs.Pick.{pick}
-use Rattle.tape.specs.Objects.{Object, blocksIn, blocksOf, mark}
-use Rattle.index.specs.Halving.{halved, ofBlocks, ofMarks}
-use Rattle.index.specs.Table.{marksOf, placesIn}
+use Rattle.tape.specs.Objects.{Object, blocks_in, blocks_of, mark}
+use Rattle.index.specs.Halving.{halved, of_blocks, of_marks}
+use Rattle.index.specs.Table.{marks_of, places_in}
 use Rattle.index.specs.declared.Found.{Found}
 use Rattle.index.specs.declared.Found.TheVariants as found
 
 -- where file f begins: the first place with f marks before it
-unfoldable pub fileFound : List ℕ → ℕ → ℕ → Found
-fileFound tb n f =
-    pick (ltb (placesIn (length tb)) n) found.Nowhere
-    (pick (ltb (halved tb ofMarks f n) n) (found.At (halved tb ofMarks f n)) found.Nowhere)
+unfoldable pub file_found : List ℕ → ℕ → ℕ → Found
+file_found tb n f =
+    pick (ltb (places_in (length tb)) n) found.Nowhere
+    (pick (ltb (halved tb of_marks f n) n) (found.At (halved tb of_marks f n)) found.Nowhere)
 
 -- the object that holds block b of a reel recorded up to e: the last place whose first block is no more than b
-unfoldable pub blockFound : List ℕ → ℕ → ℕ → ℕ → Found
-blockFound tb n e b =
-    pick (ltb (placesIn (length tb)) n) found.Nowhere
+unfoldable pub block_found : List ℕ → ℕ → ℕ → ℕ → Found
+block_found tb n e b =
+    pick (ltb (places_in (length tb)) n) found.Nowhere
     (pick (leb e b) found.Nowhere
-    (pick (eqb (halved tb ofBlocks (b + 1) n) 0) found.Nowhere (found.At (halved tb ofBlocks (b + 1) n - 1))))
+    (pick (eqb (halved tb of_blocks (b + 1) n) 0) found.Nowhere (found.At (halved tb of_blocks (b + 1) n - 1))))
 
 -- these objects are whole files: there are none, or the last is a mark
 pub data Filed : List Object → Type 0 where
-  no-file : Filed []
+  no_file : Filed []
   files : (os : List Object) → Filed (os ++ mark ∷ [])
 
 -- file f of the objects os begins with the one of number i: file 0 with the first, another with the one after mark f
@@ -33,7 +33,7 @@ pub record FileBegins (os : List Object) (f i : ℕ) : Type 0 where
   pub whole : os ≡ before ++ object ∷ after
   pub place : i ≡ length before
   pub filed : Filed before
-  pub marks : marksOf before ≡ f
+  pub marks : marks_of before ≡ f
 
 -- the object of number i holds block b
 pub record HoldsBlock (os : List Object) (b i : ℕ) : Type 0 where
@@ -42,5 +42,5 @@ pub record HoldsBlock (os : List Object) (b i : ℕ) : Type 0 where
   pub after : List Object
   pub whole : os ≡ before ++ object ∷ after
   pub place : i ≡ length before
-  pub from : blocksOf before ≤ b
-  pub below : b < blocksOf before + blocksIn object
+  pub from : blocks_of before ≤ b
+  pub below : b < blocks_of before + blocks_in object

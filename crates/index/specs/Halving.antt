@@ -3,17 +3,17 @@
 use Rattle.std.specs.Prelude.{List, ℕ, zero, suc, ◌+◌, ◌-◌, ◌*◌, ◌/◌, eqb, ltb}
 use Rattle.lists.specs.Fours.{number_at}
 use Rattle.lists.specs.Pick.{pick}
-use Rattle.index.specs.Table.{placeLength}
+use Rattle.index.specs.Table.{place_length}
 
 -- which of a place's two numbers is asked, by where it stands in the place: its first block's, or the marks before it
-abbrev pub ofBlocks : ℕ
-ofBlocks = 0
+abbrev pub of_blocks : ℕ
+of_blocks = 0
 
-abbrev pub ofMarks : ℕ
-ofMarks = 4
+abbrev pub of_marks : ℕ
+of_marks = 4
 
 abbrev pub number_in : List ℕ → ℕ → ℕ → ℕ
-number_in tb field i = number_at tb (placeLength * i + field)
+number_in tb field i = number_at tb (place_length * i + field)
 
 -- among the n places from `lo` on, in at most `turns` halvings
 unfoldable pub searched : ℕ → List ℕ → ℕ → ℕ → ℕ → ℕ → ℕ

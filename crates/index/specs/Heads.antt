@@ -2,13 +2,13 @@
 use Rattle.std.specs.Prelude.{List, ℕ, ◌+◌, ◌*◌, eqb}
 use Rattle.lists.specs.Pick.{pick}
 use Rattle.lists.specs.Words.{word_at}
-use Rattle.tape.specs.Layout.{markKind, pieceKind}
-use Rattle.tape.specs.Numbers.{blockBytes, pieces_of}
+use Rattle.tape.specs.Layout.{mark_kind, piece_kind}
+use Rattle.tape.specs.Numbers.{block_bytes, pieces_of}
 
 -- how many blocks it has: a record's by its length, else one
-unfoldable pub blocksAt : List ℕ → ℕ → ℕ
-blocksAt s p = pick (eqb (word_at s (blockBytes * p)) pieceKind) (pieces_of (word_at s (blockBytes * p + 2))) 1
+unfoldable pub blocks_at : List ℕ → ℕ → ℕ
+blocks_at s p = pick (eqb (word_at s (block_bytes * p)) piece_kind) (pieces_of (word_at s (block_bytes * p + 2))) 1
 
 -- 1 if it is a mark
-unfoldable pub marksOn : List ℕ → ℕ → ℕ
-marksOn s p = pick (eqb (word_at s (blockBytes * p)) markKind) 1 0
+unfoldable pub marks_on : List ℕ → ℕ → ℕ
+marks_on s p = pick (eqb (word_at s (block_bytes * p)) mark_kind) 1 0

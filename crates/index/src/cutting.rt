@@ -1,8 +1,8 @@
 // Where a write cuts the table, and the places of the objects that it lays.
 ghost use Rattle.std.specs.Prelude.{◌≡◌, ◌+◌, ◌*◌, ◌≤◌, length};
 ghost use Rattle.std.proofs.lemmas.List.Edits.{sets};
-ghost use Rattle.index.specs.Cutting.{cut_at, kind_at, marksAt};
-ghost use Rattle.index.specs.Table.{placeBytes, placeLength, placesRow};
+ghost use Rattle.index.specs.Cutting.{cut_at, kind_at, marks_at};
+ghost use Rattle.index.specs.Table.{place_bytes, place_length, places_row};
 
 use crate::halving::halve;
 use crate::{Cut, PLACE};
@@ -21,8 +21,8 @@ fn kind_at(reel: &[u8], k: usize) -> usize
 
 // The marks before the object that place m is for.
 fn marks_at(table: &[u8], reel: &[u8], m: usize) -> u32
-    requires { placeLength * m ≤ length table.now }
-    ensures { result ≡ marksAt table.now reel.now m }
+    requires { place_length * m ≤ length table.now }
+    ensures { result ≡ marks_at table.now reel.now m }
 {
     if m == 0 {
         return 0;
@@ -38,7 +38,7 @@ fn marks_at(table: &[u8], reel: &[u8], m: usize) -> u32
 
 // A write at block b, over a table of n places.
 pub fn cut_at(table: &[u8], n: usize, reel: &[u8], b: usize) -> Cut
-    requires { placeLength * n ≤ length table.now }
+    requires { place_length * n ≤ length table.now }
     ensures { result ≡ cut_at table.now n reel.now b }
 {
     let place = halve(table, 0, b, n);
@@ -48,8 +48,8 @@ pub fn cut_at(table: &[u8], n: usize, reel: &[u8], b: usize) -> Cut
 
 // Place m is for the object whose first block is b, with k marks before it.
 pub fn put_place(table: &mut [u8], m: usize, b: u32, k: u32)
-    requires { placeLength * (m + 1) ≤ length table.old }
-    ensures { table.new ≡ sets table.old (placeLength * m) (placeBytes b k) }
+    requires { place_length * (m + 1) ≤ length table.old }
+    ensures { table.new ≡ sets table.old (place_length * m) (place_bytes b k) }
 {
     let at = PLACE * m;
     put_number(table, at, b);
@@ -58,8 +58,8 @@ pub fn put_place(table: &mut [u8], m: usize, b: u32, k: u32)
 
 // The places of n objects in a row that a write lays from block b on, a block apart: one, or a gap's and the object's behind it.
 pub fn put_places(table: &mut [u8], c: Cut, b: usize, n: usize)
-    requires { (placeLength * (c.place + n) ≤ length table.old) × (b + n ≤ 4294967295) }
-    ensures { table.new ≡ sets table.old (placeLength * c.place) (placesRow b c.marks n) }
+    requires { (place_length * (c.place + n) ≤ length table.old) × (b + n ≤ 4294967295) }
+    ensures { table.new ≡ sets table.old (place_length * c.place) (places_row b c.marks n) }
 {
     let mut i: usize = 0;
     while i < n {

@@ -1,11 +1,11 @@
 // A mount's table: the reel is whole, so the first block of each object says how many blocks it has.
 ghost use Rattle.std.specs.Prelude.{◌≡◌, ◌+◌, ◌*◌, ◌≤◌, length};
 ghost use Rattle.std.proofs.lemmas.List.Edits.{sets};
-ghost use Rattle.tape.specs.Afresh.{objectsIn};
-ghost use Rattle.tape.specs.Numbers.{blockBytes, capacityLimit};
+ghost use Rattle.tape.specs.Afresh.{objects_in};
+ghost use Rattle.tape.specs.Numbers.{block_bytes, capacity_limit};
 ghost use Rattle.tape.specs.Objects.{Holds};
-ghost use Rattle.index.specs.Table.{placeLength, table_of};
-ghost use Rattle.index.specs.Heads.{blocksAt, marksOn};
+ghost use Rattle.index.specs.Table.{place_length, table_of};
+ghost use Rattle.index.specs.Heads.{blocks_at, marks_on};
 
 use crate::cutting::put_place;
 use lists::word;
@@ -13,8 +13,8 @@ use tape::{Geometry, MARK_KIND, PIECE_KIND};
 
 // The blocks of the object whose first block is p.
 fn blocks_at(reel: &[u8], p: usize) -> usize
-    requires { blockBytes * (p + 1) ≤ length reel.now }
-    ensures { result ≡ blocksAt reel.now p }
+    requires { block_bytes * (p + 1) ≤ length reel.now }
+    ensures { result ≡ blocks_at reel.now p }
 {
     let at = Geometry::BLOCK * p;
     if word(reel, at) == PIECE_KIND {
@@ -25,8 +25,8 @@ fn blocks_at(reel: &[u8], p: usize) -> usize
 
 // 1 if it is a mark.
 fn marks_on(reel: &[u8], p: usize) -> u32
-    requires { blockBytes * (p + 1) ≤ length reel.now }
-    ensures { result ≡ marksOn reel.now p }
+    requires { block_bytes * (p + 1) ≤ length reel.now }
+    ensures { result ≡ marks_on reel.now p }
 {
     if word(reel, Geometry::BLOCK * p) == MARK_KIND {
         1
@@ -37,8 +37,8 @@ fn marks_on(reel: &[u8], p: usize) -> u32
 
 // How many objects a whole reel has below e.
 pub fn count_objects(reel: &[u8], e: usize) -> usize
-    requires { Holds reel.now e (objectsIn reel.now e) × (e ≤ capacityLimit) }
-    ensures { result ≡ length (objectsIn reel.now e) }
+    requires { Holds reel.now e (objects_in reel.now e) × (e ≤ capacity_limit) }
+    ensures { result ≡ length (objects_in reel.now e) }
 {
     let mut p: usize = 0;
     let mut n: usize = 0;
@@ -51,8 +51,8 @@ pub fn count_objects(reel: &[u8], e: usize) -> usize
 
 // The table of a whole reel's objects below e.
 pub fn fill_table(table: &mut [u8], reel: &[u8], e: usize)
-    requires { Holds reel.now e (objectsIn reel.now e) × (e ≤ capacityLimit) × (placeLength * length (objectsIn reel.now e) ≤ length table.old) }
-    ensures { table.new ≡ sets table.old 0 (table_of (objectsIn reel.now e)) }
+    requires { Holds reel.now e (objects_in reel.now e) × (e ≤ capacity_limit) × (place_length * length (objects_in reel.now e) ≤ length table.old) }
+    ensures { table.new ≡ sets table.old 0 (table_of (objects_in reel.now e)) }
 {
     let mut p: usize = 0;
     let mut n: usize = 0;

@@ -1,21 +1,21 @@
 // The first place whose number is no less than another, found by a look at the last one and then by halving.
 ghost use Rattle.std.specs.Prelude.{◌≡◌, ◌+◌, ◌*◌, ◌≤◌, length};
 ghost use Rattle.index.specs.Halving.{halved};
-ghost use Rattle.index.specs.Table.{placeLength, placesIn};
+ghost use Rattle.index.specs.Table.{place_length, places_in};
 
 use crate::{PLACE, PLACES_LIMIT};
 use lists::{least, number_at};
 
 // How many places a slice of n bytes has.
 pub fn places(n: usize) -> usize
-    ensures { result ≡ placesIn n }
+    ensures { result ≡ places_in n }
 {
     least(n / PLACE, PLACES_LIMIT)
 }
 
 // Of the first n places, by the number that stands at `field` in each.
 pub fn halve(table: &[u8], field: usize, v: usize, n: usize) -> usize
-    requires { (placeLength * n ≤ length table.now) × (field ≤ 4) }
+    requires { (place_length * n ≤ length table.now) × (field ≤ 4) }
     ensures is { result ≡ halved table.now field v n }
     ensures low { result ≤ n }
 {

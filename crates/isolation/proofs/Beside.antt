@@ -10,35 +10,35 @@ use borrow.Author.Tests.{eqb-true, eqb-false}
 use lib.Dec.{eqb}
 use lib.ListN.{length}
 use Rattle.lists.specs.Pick.{pick}
-use Rattle.lists.proofs.Cases.{by-test, past}
+use Rattle.lists.proofs.Cases.{by_test, past}
 use Rattle.commands.specs.declared.plans.Answer.{Answer}
 use Rattle.commands.specs.declared.plans.Answer.TheVariants as answer
-use Rattle.unit.specs.Asks.{Ask, advance, host-store}
+use Rattle.unit.specs.Asks.{Ask, advance, host_store}
 use Rattle.unit.specs.Cores.{Admitted, Core}
 use Rattle.unit.specs.Steps.{Step, step_of}
-use Rattle.unit.specs.Registers.{registerWord}
+use Rattle.unit.specs.Registers.{register_word}
 use Rattle.unit.specs.declared.registers.Register.{Register}
-use Rattle.entries.specs.Entries.{entryLength}
-use Rattle.worlds.specs.Calls.{registerOn, stepOn, takenBy}
-use Rattle.worlds.specs.Coupled.{Coupled, Deck, Rig, core_of, coreOfNone, couplerIn, deckAt, hostAt, hostOn, isAbsent, lifted, liftedNone, registerAt, stepAt, view_of, viewOfNone, withCore, withMemory}
-use Rattle.worlds.specs.Refusals.{checked, sessionWrong}
-use Rattle.worlds.specs.Rows.{absentIn, couplerChecked, unitOver}
-use Rattle.worlds.specs.Worlds.{World, sessionOf}
-use Rattle.worlds.proofs.Passing.{core-accepted, passed}
+use Rattle.entries.specs.Entries.{entry_length}
+use Rattle.worlds.specs.Calls.{register_on, step_on, taken_by}
+use Rattle.worlds.specs.Coupled.{Coupled, Deck, Rig, core_of, core_of_none, coupler_in, deck_at, host_at, host_on, is_absent, lifted, lifted_none, register_at, step_at, view_of, view_of_none, with_core, with_memory}
+use Rattle.worlds.specs.Refusals.{checked, session_wrong}
+use Rattle.worlds.specs.Rows.{absent_in, coupler_checked, unit_over}
+use Rattle.worlds.specs.Worlds.{World, session_of}
+use Rattle.worlds.proofs.Passing.{core_accepted, passed}
 use Rattle.sessions.specs.Session.{Kind, does, looked, refused, stepped}
 use Rattle.sessions.proofs.Taken.{let_through}
-use Rattle.histories.specs.Calling.{Call, Here, Noted, OfUnit, callKind, calls, coupledFrom, entry_at, kindNow, length_of, notedAt, onCall, read-register, step, stepTo, store}
+use Rattle.histories.specs.Calling.{Call, Here, Noted, OfUnit, call_kind, calls, coupled_from, entry_at, kind_now, length_of, noted_at, on_call, read_register, step, step_to, store}
 use Rattle.histories.specs.Good.{Among, Good, GoodDeck}
 use Rattle.histories.proofs.Taking.{passing}
 use Rattle.isolation.specs.Alike.{SameButMemory, StepsAlike}
 use Rattle.isolation.specs.Reads.{SameRead}
 use Rattle.isolation.specs.Runs.{Refusal}
-use Rattle.isolation.proofs.Asking.{asks-alike, steps_alike}
-use Rattle.isolation.proofs.Running.{places-alike, taken-alike}
+use Rattle.isolation.proofs.Asking.{asks_alike, steps_alike}
+use Rattle.isolation.proofs.Running.{places_alike, taken_alike}
 
 -- the rigs: unit u's deck, the row's length, and memory's lengths
 pub record BesideRig (u : ℕ) (g g' : Rig) : Type 0 where
-  pub deck : deckAt g u ≡ deckAt g' u
+  pub deck : deck_at g u ≡ deck_at g' u
   pub rows : length g.decks ≡ length g'.decks
   pub mounted : g.mounted ≡ g'.mounted
   pub long : length g.memory ≡ length g'.memory
@@ -50,9 +50,9 @@ pub record Beside (n u : ℕ) (ks : List ℕ) (s t : Here) : Type 0 where
   pub good' : Good n ks t
 
 -- unit u's cores, and those of none, differ in memory alone
-pub cores-alike : (u : ℕ) (g g' : Rig) → BesideRig u g g' → SameButMemory (core_of u g) (core_of u g')
+pub cores_alike : (u : ℕ) (g g' : Rig) → BesideRig u g g' → SameButMemory (core_of u g) (core_of u g')
 unfolding core_of
-cores-alike u g g' b =
+cores_alike u g g' b =
     record {
       unit = rw (b.deck, b.mounted);
       objects = ap (λ (d : Deck). d.transport.objects) b.deck;
@@ -61,35 +61,35 @@ cores-alike u g g' b =
       long = b.long;
     }
 
-pub none_alike : (u : ℕ) (g g' : Rig) → BesideRig u g g' → SameButMemory (coreOfNone g) (coreOfNone g')
-unfolding coreOfNone
+pub none_alike : (u : ℕ) (g g' : Rig) → BesideRig u g g' → SameButMemory (core_of_none g) (core_of_none g')
+unfolding core_of_none
 none_alike u g g' b = record { unit = rw b.mounted; objects = refl; reel = refl; table = refl; long = b.long }
 
 module _ (n u : ℕ) (ks : List ℕ) (here : Among u ks) (s t : Here) (b : Beside n u ks s t) where
   abbrev w : Coupled
-  w = coupledFrom n s
+  w = coupled_from n s
 
   abbrev w' : Coupled
-  w' = coupledFrom n t
+  w' = coupled_from n t
 
-  same-absent : isAbsent w' u ≡ isAbsent w u
-  same-absent = ap (λ (k : ℕ). absentIn k u) (sym b.rig.rows)
+  same_absent : is_absent w' u ≡ is_absent w u
+  same_absent = ap (λ (k : ℕ). absent_in k u) (sym b.rig.rows)
 
   -- a good deck is let through
-  module _ (p : isAbsent w u ≡ false) where
-    deck-s : GoodDeck n w u
-    deck-s = b.good.decks u here p
+  module _ (p : is_absent w u ≡ false) where
+    deck_s : GoodDeck n w u
+    deck_s = b.good.decks u here p
 
-    deck-t : GoodDeck n w' u
-    deck-t = b.good'.decks u here (same-absent ∙ p)
+    deck_t : GoodDeck n w' u
+    deck_t = b.good'.decks u here (same_absent ∙ p)
 
     pub admitted : Admitted (core_of u s.core)
-    admitted = core-accepted (view_of u w) n (passed _ _ _ _ deck-s.fit.sound)
+    admitted = core_accepted (view_of u w) n (passed _ _ _ _ deck_s.fit.sound)
 
     module _ (a : Ask) (reads : a ≡ advance → SameRead (core_of u s.core).unit s.core.memory t.core.memory (core_of u s.core).reel) where
-      pub unit-alike : StepsAlike a (core_of u s.core) (core_of u t.core)
+      pub unit_alike : StepsAlike a (core_of u s.core) (core_of u t.core)
       unfolding core_of
-      unit-alike = steps_alike a (core_of u s.core) (core_of u t.core) admitted (cores-alike u s.core t.core b.rig) reads
+      unit_alike = steps_alike a (core_of u s.core) (core_of u t.core) admitted (cores_alike u s.core t.core b.rig) reads
 
       abbrev x : Step
       x = step_of a (core_of u s.core)
@@ -97,66 +97,66 @@ module _ (n u : ℕ) (ks : List ℕ) (here : Among u ks) (s t : Here) (b : Besid
       abbrev x' : Step
       x' = step_of a (core_of u t.core)
 
-      goes-s : (stepAt w n u a).answer ≡ (takenBy (view_of u w) x x.answer).answer
-      unfolding stepAt lifted stepOn
-      goes-s = rw p (ap (λ y. y.answer) (let_through n (view_of u w) deck-s.fit.sound (takenBy (view_of u w) x x.answer)))
+      goes_s : (step_at w n u a).answer ≡ (taken_by (view_of u w) x x.answer).answer
+      unfolding step_at lifted step_on
+      goes_s = rw p (ap (λ y. y.answer) (let_through n (view_of u w) deck_s.fit.sound (taken_by (view_of u w) x x.answer)))
 
-      goes-t : (stepAt w' n u a).answer ≡ (takenBy (view_of u w') x' x'.answer).answer
-      unfolding stepAt lifted stepOn
-      goes-t = rw (same-absent ∙ p) (ap (λ y. y.answer) (let_through n (view_of u w') deck-t.fit.sound (takenBy (view_of u w') x' x'.answer)))
+      goes_t : (step_at w' n u a).answer ≡ (taken_by (view_of u w') x' x'.answer).answer
+      unfolding step_at lifted step_on
+      goes_t = rw (same_absent ∙ p) (ap (λ y. y.answer) (let_through n (view_of u w') deck_t.fit.sound (taken_by (view_of u w') x' x'.answer)))
 
-      present-answer : (Refusal (stepAt w n u a).answer → ⊥) → (stepAt w' n u a).answer ≡ (stepAt w n u a).answer
-      present-answer f =
-          goes-t
-          ∙ taken-alike (view_of u w) (view_of u w') x x' (places-alike a (core_of u s.core) (core_of u t.core) (cores-alike u s.core t.core b.rig) unit-alike) unit-alike.touched refl b.fewer unit-alike.answer
-          (λ e. f (inl (goes-s ∙ e)))
-          (λ e. f (inr (goes-s ∙ e)))
-          ∙ sym goes-s
+      present_answer : (Refusal (step_at w n u a).answer → ⊥) → (step_at w' n u a).answer ≡ (step_at w n u a).answer
+      present_answer f =
+          goes_t
+          ∙ taken_alike (view_of u w) (view_of u w') x x' (places_alike a (core_of u s.core) (core_of u t.core) (cores_alike u s.core t.core b.rig) unit_alike) unit_alike.touched refl b.fewer unit_alike.answer
+          (λ e. f (inl (goes_s ∙ e)))
+          (λ e. f (inr (goes_s ∙ e)))
+          ∙ sym goes_s
 
-  both-absent : (a : Ask) → isAbsent w u ≡ true → (stepAt w' n u a).answer ≡ (stepAt w n u a).answer
-  unfolding stepAt
-  both-absent a p = rw (same-absent, p)
+  both_absent : (a : Ask) → is_absent w u ≡ true → (step_at w' n u a).answer ≡ (step_at w n u a).answer
+  unfolding step_at
+  both_absent a p = rw (same_absent, p)
 
   -- a step of unit u
-  pub step-answer : (a : Ask) → (a ≡ advance → SameRead (core_of u s.core).unit s.core.memory t.core.memory (core_of u s.core).reel) → (Refusal (stepAt w n u a).answer → ⊥) → (stepAt w' n u a).answer ≡ (stepAt w n u a).answer
-  step-answer a reads f = by-test (isAbsent w u) (λ p. both-absent a p) (λ p. present-answer p a reads f)
+  pub step_answer : (a : Ask) → (a ≡ advance → SameRead (core_of u s.core).unit s.core.memory t.core.memory (core_of u s.core).reel) → (Refusal (step_at w n u a).answer → ⊥) → (step_at w' n u a).answer ≡ (step_at w n u a).answer
+  step_answer a reads f = by_test (is_absent w u) (λ p. both_absent a p) (λ p. present_answer p a reads f)
 
   -- a register of unit u
-  right : (v : World) → checked (sessionOf v) (length v.core.memory) (length v.core.reel) n ≡ 0 → sessionWrong (sessionOf v) ≡ false
+  right : (v : World) → checked (session_of v) (length v.core.memory) (length v.core.reel) n ≡ 0 → session_wrong (session_of v) ≡ false
   unfolding checked
-  right v h = (past (sessionWrong (sessionOf v)) 1 _ 0 (λ e. omega arith) h).0
+  right v h = (past (session_wrong (session_of v)) 1 _ 0 (λ e. omega arith) h).0
 
-  pub read_answer : (r : Register) → (registerAt w' u r).answer ≡ (registerAt w u r).answer
-  unfolding registerAt registerOn
+  pub read_answer : (r : Register) → (register_at w' u r).answer ≡ (register_at w u r).answer
+  unfolding register_at register_on
   read_answer r =
-      by-test (isAbsent w u)
-      (λ p. rw (same-absent, p))
-      (λ p. rw (same-absent, p, right (view_of u w) (deck-s p).fit.sound, right (view_of u w') (deck-t p).fit.sound))
+      by_test (is_absent w u)
+      (λ p. rw (same_absent, p))
+      (λ p. rw (same_absent, p, right (view_of u w) (deck_s p).fit.sound, right (view_of u w') (deck_t p).fit.sound))
 
-  pub read_word : (r : Register) → (registerAt w' u r).word ≡ (registerAt w u r).word
-  unfolding registerAt registerOn
+  pub read_word : (r : Register) → (register_at w' u r).word ≡ (register_at w u r).word
+  unfolding register_at register_on
   read_word r =
-      by-test (isAbsent w u)
-      (λ p. rw (same-absent, p))
-      (λ p. rw (same-absent, p, right (view_of u w) (deck-s p).fit.sound, right (view_of u w') (deck-t p).fit.sound) (ap (λ v. registerWord v r) (sym (cores-alike u s.core t.core b.rig).unit)))
+      by_test (is_absent w u)
+      (λ p. rw (same_absent, p))
+      (λ p. rw (same_absent, p, right (view_of u w) (deck_s p).fit.sound, right (view_of u w') (deck_t p).fit.sound) (ap (λ v. register_word v r) (sym (cores_alike u s.core t.core b.rig).unit)))
 
   -- a host store
-  pub stores-alike : (place : ℕ) (bytes : List ℕ) → StepsAlike (host-store place bytes) (coreOfNone s.core) (coreOfNone t.core)
-  stores-alike place bytes = asks-alike (host-store place bytes) (λ z. absurd (let y : ◌≡◌ {A = ℕ} 0 1 = cc in omega arith)) (coreOfNone s.core) (coreOfNone t.core) (none_alike u s.core t.core b.rig)
+  pub stores_alike : (place : ℕ) (bytes : List ℕ) → StepsAlike (host_store place bytes) (core_of_none s.core) (core_of_none t.core)
+  stores_alike place bytes = asks_alike (host_store place bytes) (λ z. absurd (let y : ◌≡◌ {A = ℕ} 0 1 = cc in omega arith)) (core_of_none s.core) (core_of_none t.core) (none_alike u s.core t.core b.rig)
 
-  stored-s : (place : ℕ) (bytes : List ℕ) → (hostAt w n place bytes).answer ≡ (passing place bytes (viewOfNone w)).answer
-  unfolding hostAt liftedNone hostOn coreOfNone
-  stored-s place bytes = rw b.good.shared
+  stored_s : (place : ℕ) (bytes : List ℕ) → (host_at w n place bytes).answer ≡ (passing place bytes (view_of_none w)).answer
+  unfolding host_at lifted_none host_on core_of_none
+  stored_s place bytes = rw b.good.shared
 
-  stored-t : (place : ℕ) (bytes : List ℕ) → (hostAt w' n place bytes).answer ≡ (passing place bytes (viewOfNone w')).answer
-  unfolding hostAt liftedNone hostOn coreOfNone
-  stored-t place bytes = rw b.good'.shared
+  stored_t : (place : ℕ) (bytes : List ℕ) → (host_at w' n place bytes).answer ≡ (passing place bytes (view_of_none w')).answer
+  unfolding host_at lifted_none host_on core_of_none
+  stored_t place bytes = rw b.good'.shared
 
-  pub store-answer : (place : ℕ) (bytes : List ℕ) → (Refusal (hostAt w n place bytes).answer → ⊥) → (hostAt w' n place bytes).answer ≡ (hostAt w n place bytes).answer
-  store-answer place bytes f =
-      let l = stores-alike place bytes in
-      stored-t place bytes
-      ∙ taken-alike (viewOfNone w) (viewOfNone w') (step_of (host-store place bytes) (coreOfNone s.core)) (step_of (host-store place bytes) (coreOfNone t.core)) (places-alike (host-store place bytes) _ _ (none_alike u s.core t.core b.rig) l) l.touched refl b.fewer l.answer
-      (λ e. f (inl (stored-s place bytes ∙ e)))
-      (λ e. f (inr (stored-s place bytes ∙ e)))
-      ∙ sym (stored-s place bytes)
+  pub store_answer : (place : ℕ) (bytes : List ℕ) → (Refusal (host_at w n place bytes).answer → ⊥) → (host_at w' n place bytes).answer ≡ (host_at w n place bytes).answer
+  store_answer place bytes f =
+      let l = stores_alike place bytes in
+      stored_t place bytes
+      ∙ taken_alike (view_of_none w) (view_of_none w') (step_of (host_store place bytes) (core_of_none s.core)) (step_of (host_store place bytes) (core_of_none t.core)) (places_alike (host_store place bytes) _ _ (none_alike u s.core t.core b.rig) l) l.touched refl b.fewer l.answer
+      (λ e. f (inl (stored_s place bytes ∙ e)))
+      (λ e. f (inr (stored_s place bytes ∙ e)))
+      ∙ sym (stored_s place bytes)

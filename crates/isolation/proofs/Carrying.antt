@@ -4,14 +4,14 @@ use mathlib.Core.Path.{◌≡◌, refl, sym, subst, ◌∙◌}
 use Prim.Native.Nat.{ℕ}
 use lib.ListN.{get_or, length}
 use Rattle.commands.specs.declared.plans.Plan.{Plan}
-use Rattle.storing.specs.Stored.{laidObjects, laidOn, reelAfter}
-use Rattle.storing.proofs.Lengths.{length-memory}
+use Rattle.storing.specs.Stored.{laid_objects, laid_on, reel_after}
+use Rattle.storing.proofs.Lengths.{length_memory}
 use Rattle.unit.specs.Asks.{Ask}
 use Rattle.unit.specs.Cores.{Core}
-use Rattle.unit.specs.Steps.{Step, carried, step_of, tableAfter}
-use Rattle.unit.specs.Stores.{StepBytes, bytes_of, planBytes}
+use Rattle.unit.specs.Steps.{Step, carried, step_of, table_after}
+use Rattle.unit.specs.Stores.{StepBytes, bytes_of, plan_bytes}
 use Rattle.isolation.specs.Alike.{SameButMemory, StepsAlike}
-use Rattle.isolation.proofs.Storing.{memory-alike}
+use Rattle.isolation.proofs.Storing.{memory_alike}
 
 -- a core over another memory
 abbrev pub over : Core → List ℕ → Core
@@ -29,38 +29,38 @@ pub record Alike (c c' : Core) (x x' : Step) (b b' : StepBytes) : Type 0 where
   pub memory : (j : ℕ) → get_or c.memory j 0 ≡ get_or c'.memory j 0 → get_or x.after.memory j 0 ≡ get_or x'.after.memory j 0
 
 -- so it is enough to look at one core over two memories
-pub steps-over : (a : Ask) (c c' : Core) → SameButMemory c c' → Alike c (over c c'.memory) (step_of a c) (step_of a (over c c'.memory)) (bytes_of a c) (bytes_of a (over c c'.memory)) → StepsAlike a c c'
-steps-over a c c' e x =
+pub steps_over : (a : Ask) (c c' : Core) → SameButMemory c c' → Alike c (over c c'.memory) (step_of a c) (step_of a (over c c'.memory)) (bytes_of a c) (bytes_of a (over c c'.memory)) → StepsAlike a c c'
+steps_over a c c' e x =
     subst (StepsAlike a c) (core_is c c' e)
     (record { answer = x.answer; touched = x.touched; bytes = x.bytes; after = x.after; memory = x.memory })
 
-module _ (c : Core) (m' : List ℕ) (long : length c.memory ≡ length m') (q : Plan) (o : laidObjects c.memory q.laid ≡ laidObjects m' q.laid) where
-  reel-alike : reelAfter q c.memory c.reel ≡ reelAfter q m' c.reel
-  unfolding reelAfter laidOn
-  reel-alike = rw o
+module _ (c : Core) (m' : List ℕ) (long : length c.memory ≡ length m') (q : Plan) (o : laid_objects c.memory q.laid ≡ laid_objects m' q.laid) where
+  reel_alike : reel_after q c.memory c.reel ≡ reel_after q m' c.reel
+  unfolding reel_after laid_on
+  reel_alike = rw o
 
-  table-alike : tableAfter c q.laid ≡ tableAfter (over c m') q.laid
-  unfolding tableAfter
-  table-alike = rw o
+  table_alike : table_after c q.laid ≡ table_after (over c m') q.laid
+  unfolding table_after
+  table_alike = rw o
 
-  bytes-alike : planBytes c q ≡ planBytes (over c m') q
-  unfolding planBytes
-  bytes-alike = rw (o, reel-alike)
+  bytes_alike : plan_bytes c q ≡ plan_bytes (over c m') q
+  unfolding plan_bytes
+  bytes_alike = rw (o, reel_alike)
 
-  pub carried-alike : Alike c (over c m') (carried c q) (carried (over c m') q) (planBytes c q) (planBytes (over c m') q)
+  pub carried_alike : Alike c (over c m') (carried c q) (carried (over c m') q) (plan_bytes c q) (plan_bytes (over c m') q)
   unfolding carried
-  carried-alike =
+  carried_alike =
       record {
         answer = refl;
         touched = refl;
-        bytes = bytes-alike;
+        bytes = bytes_alike;
         after =
             record {
               unit = refl;
               objects = refl;
-              reel = reel-alike;
-              table = table-alike;
-              long = length-memory q c.memory c.reel ∙ long ∙ sym (length-memory q m' c.reel);
+              reel = reel_alike;
+              table = table_alike;
+              long = length_memory q c.memory c.reel ∙ long ∙ sym (length_memory q m' c.reel);
             };
-        memory = λ j h. memory-alike q c.memory m' c.reel long reel-alike j h;
+        memory = λ j h. memory_alike q c.memory m' c.reel long reel_alike j h;
       }

@@ -5,8 +5,8 @@ use Prim.Native.Nat.{ℕ}
 use borrow.Author.Tests.{eqb-true}
 use denote.Enum.Declared.{tag_of}
 use lib.Dec.{eqb}
-use Rattle.lists.proofs.Cases.{by-test}
-use Rattle.signals.specs.Codes.{commandOf, controlMode, formatMode, positionMode, readMode, singleMode, writeMode}
+use Rattle.lists.proofs.Cases.{by_test}
+use Rattle.signals.specs.Codes.{command_of, control_mode, format_mode, position_mode, read_mode, single_mode, write_mode}
 use Rattle.signals.specs.declared.codes.Command.{Command}
 use Rattle.signals.specs.declared.codes.Command.TheVariants as command
 use Rattle.signals.specs.contracts.codes.Command as variants
@@ -15,32 +15,32 @@ use Rattle.state.proofs.Tests.{either}
 abbrev Other : Command → Type 0
 Other c = eqb (tag_of variants.the_type c) 4 ≡ false
 
-reads : (mode : ℕ) → Other (readMode mode)
-unfolding readMode
+reads : (mode : ℕ) → Other (read_mode mode)
+unfolding read_mode
 reads mode = either Other (eqb mode 0) _ _ refl (either Other (eqb mode 1) _ _ refl (either Other (eqb mode 2) _ _ refl (either Other (eqb mode 3) _ _ refl refl)))
 
-writes : (mode : ℕ) → Other (writeMode mode)
-unfolding writeMode
+writes : (mode : ℕ) → Other (write_mode mode)
+unfolding write_mode
 writes mode = either Other (eqb mode 0) _ _ refl (either Other (eqb mode 2) _ _ refl refl)
 
-positions : (mode : ℕ) → Other (positionMode mode)
-unfolding positionMode
+positions : (mode : ℕ) → Other (position_mode mode)
+unfolding position_mode
 positions mode = either Other (eqb mode 0) _ _ refl (either Other (eqb mode 1) _ _ refl (either Other (eqb mode 2) _ _ refl (either Other (eqb mode 3) _ _ refl (either Other (eqb mode 4) _ _ refl refl))))
 
-formats : (mode : ℕ) → Other (formatMode mode)
-unfolding formatMode
+formats : (mode : ℕ) → Other (format_mode mode)
+unfolding format_mode
 formats mode = either Other (eqb mode 0) _ _ refl (either Other (eqb mode 1) _ _ refl (either Other (eqb mode 2) _ _ refl refl))
 
-controls : (mode : ℕ) → Other (controlMode mode)
-unfolding controlMode
+controls : (mode : ℕ) → Other (control_mode mode)
+unfolding control_mode
 controls mode = either Other (eqb mode 0) _ _ refl (either Other (eqb mode 1) _ _ refl (either Other (eqb mode 2) _ _ refl refl))
 
-singles : (c : Command) (mode : ℕ) → Other c → Other (singleMode c mode)
-unfolding singleMode
+singles : (c : Command) (mode : ℕ) → Other c → Other (single_mode c mode)
+unfolding single_mode
 singles c mode h = either Other (eqb mode 0) c command.Illegal h refl
 
-others : (code mode : ℕ) → eqb code 4 ≡ false → Other (commandOf code mode)
-unfolding commandOf
+others : (code mode : ℕ) → eqb code 4 ≡ false → Other (command_of code mode)
+unfolding command_of
 others code mode four =
     rw four
     (either Other (eqb code 1) _ _ (reads mode)
@@ -51,5 +51,5 @@ others code mode four =
     (either Other (eqb code 11) _ _ (singles command.Initialize mode refl)
     (either Other (eqb code 15) _ _ (singles command.GetStatus mode refl) refl)))))))
 
-pub code-four : (code mode : ℕ) → eqb (tag_of variants.the_type (commandOf code mode)) 4 ≡ true → code ≡ 4
-code-four code mode h = by-test (eqb code 4) (λ t. eqb-true code 4 t) (λ t. absurd (true≢false (sym h ∙ others code mode t)))
+pub code_four : (code mode : ℕ) → eqb (tag_of variants.the_type (command_of code mode)) 4 ≡ true → code ≡ 4
+code_four code mode h = by_test (eqb code 4) (λ t. eqb-true code 4 t) (λ t. absurd (true≢false (sym h ∙ others code mode t)))

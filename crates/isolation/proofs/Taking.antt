@@ -9,49 +9,49 @@ use lib.ListN.{get_or, length}
 use lib.Seq.{ext_get_or}
 use Rattle.lists.specs.Pick.{Always}
 use Rattle.lists.specs.Places.{gathered, place}
-use Rattle.lists.proofs.Placed.{gathered-byte, length-gathered}
+use Rattle.lists.proofs.Placed.{gathered_byte, length_gathered}
 use Rattle.state.specs.declared.Tape.{Tape}
 use Rattle.state.specs.declared.Unit.{Unit}
 use Rattle.state.proofs.Tests.{either}
 use Rattle.moves.specs.Seeking.{sought}
 use Rattle.moves.specs.declared.seeking.Sought.{Sought}
 use Rattle.moves.specs.declared.seeking.Sought.TheVariants as sought-as
-use Rattle.motions.specs.Parts.{laidBlocks, noLay}
-use Rattle.motions.specs.Writes.{behindGap, noRoom, retriedBy, retriedByUnder, retriedUnder, writtenAt, writtenAtUnder, writtenMotionUnder}
+use Rattle.motions.specs.Parts.{laid_blocks, no_lay}
+use Rattle.motions.specs.Writes.{behind_gap, no_room, retried_by, retried_by_under, retried_under, written_at, written_at_under, written_motion_under}
 use Rattle.motions.specs.declared.parts.Laid.{Laid}
 use Rattle.motions.specs.declared.parts.Motion.{Motion}
 use Rattle.motions.specs.declared.parts.Motion.TheVariants as motion
 use Rattle.motions.specs.declared.parts.ObjectKind.{ObjectKind}
 use Rattle.motions.specs.declared.parts.ObjectKind.TheVariants as kind
 use Rattle.commands.specs.Commands.{laying}
-use Rattle.commands.specs.Ends.{motionPlan, motionPlanUnder, still, toldUnder}
-use Rattle.storing.specs.Stored.{laidObject, laidObjects}
+use Rattle.commands.specs.Ends.{motion_plan, motion_plan_under, still, told_under}
+use Rattle.storing.specs.Stored.{laid_object, laid_objects}
 
 module _ (m m' : List ℕ) where
-  pub gathered-same : (w : Bool) (a n : ℕ) → ((i : ℕ) → i < n → get_or m (place w (a + i)) 0 ≡ get_or m' (place w (a + i)) 0) → gathered w m a n ≡ gathered w m' a n
-  gathered-same w a n f =
-      ext_get_or 0 (gathered w m a n) (gathered w m' a n) (length-gathered w m a n ∙ sym (length-gathered w m' a n))
-      (λ i h. let k : i < n = omega (arith, length-gathered w m a n) in gathered-byte w m a i n k ∙ f i k ∙ sym (gathered-byte w m' a i n k))
+  pub gathered_same : (w : Bool) (a n : ℕ) → ((i : ℕ) → i < n → get_or m (place w (a + i)) 0 ≡ get_or m' (place w (a + i)) 0) → gathered w m a n ≡ gathered w m' a n
+  gathered_same w a n f =
+      ext_get_or 0 (gathered w m a n) (gathered w m' a n) (length_gathered w m a n ∙ sym (length_gathered w m' a n))
+      (λ i h. let k : i < n = omega (arith, length_gathered w m a n) in gathered_byte w m a i n k ∙ f i k ∙ sym (gathered_byte w m' a i n k))
 
   -- the bytes that l takes are the same
   abbrev pub SameTaken : Laid → Type 0
   SameTaken l = gathered l.swb m l.pointer l.length ≡ gathered l.swb m' l.pointer l.length
 
-  pub none-same : SameTaken noLay
+  pub none_same : SameTaken no_lay
   unfolding gathered
-  none-same = refl
+  none_same = refl
 
   -- only a record has bytes
-  object-same : (l : Laid) (k : ObjectKind) → (k ≡ kind.Record → SameTaken l) → laidObject m l k ≡ laidObject m' l k
-  unfolding laidObject
-  object-same l kind.Nothing e = refl
-  object-same l kind.Mark e = refl
-  object-same l kind.Gap e = refl
-  object-same l kind.Record e = rw (e refl)
+  object_same : (l : Laid) (k : ObjectKind) → (k ≡ kind.Record → SameTaken l) → laid_object m l k ≡ laid_object m' l k
+  unfolding laid_object
+  object_same l kind.Nothing e = refl
+  object_same l kind.Mark e = refl
+  object_same l kind.Gap e = refl
+  object_same l kind.Record e = rw (e refl)
 
-  pub objects-same : (l : Laid) → (l.object ≡ kind.Record → SameTaken l) → laidObjects m l ≡ laidObjects m' l
-  unfolding laidObjects
-  objects-same l e = rw (object-same l l.object e)
+  pub objects_same : (l : Laid) → (l.object ≡ kind.Record → SameTaken l) → laid_objects m l ≡ laid_objects m' l
+  unfolding laid_objects
+  objects_same l e = rw (object_same l l.object e)
 
   -- and so where a motion lays l, or nothing
   abbrev Taken : Motion → Type 0
@@ -59,31 +59,31 @@ module _ (m m' : List ℕ) where
   Taken (motion.Fault why k) = Always
 
   module _ (t : Tape) (blocks : ℕ) (mark : Bool) where
-    written_same : (l : Laid) → SameTaken l → Taken (writtenAt t blocks l mark)
-    unfolding writtenAtUnder writtenMotionUnder noRoom
-    written_same l e = either Taken (ltb blocks (l.at + laidBlocks l)) _ _ none-same e
+    written_same : (l : Laid) → SameTaken l → Taken (written_at t blocks l mark)
+    unfolding written_at_under written_motion_under no_room
+    written_same l e = either Taken (ltb blocks (l.at + laid_blocks l)) _ _ none_same e
 
     -- a retry lays the same object, behind a gap
-    behind-same : (l : Laid) (q : ℕ) → SameTaken l → Taken (writtenAt t blocks (behindGap l q) mark)
-    unfolding behindGap
-    behind-same l q e = written_same (behindGap l q) e
+    behind_same : (l : Laid) (q : ℕ) → SameTaken l → Taken (written_at t blocks (behind_gap l q) mark)
+    unfolding behind_gap
+    behind_same l q e = written_same (behind_gap l q) e
 
-    retried-same : (l : Laid) (f : Sought) → SameTaken l → Taken (retriedBy t blocks l mark f)
-    unfolding retriedByUnder
-    retried-same l (sought-as.Record n q) e = behind-same l q e
-    retried-same l (sought-as.Mark q) e = behind-same l q e
-    retried-same l (sought-as.Nothing q) e = none-same
-    retried-same l (sought-as.Bad why k) e = tt
+    retried_same : (l : Laid) (f : Sought) → SameTaken l → Taken (retried_by t blocks l mark f)
+    unfolding retried_by_under
+    retried_same l (sought-as.Record n q) e = behind_same l q e
+    retried_same l (sought-as.Mark q) e = behind_same l q e
+    retried_same l (sought-as.Nothing q) e = none_same
+    retried_same l (sought-as.Bad why k) e = tt
 
-    laying-same : (s : List ℕ) (l : Laid) (again : Bool) → SameTaken l → Taken (laying s t blocks l mark again)
-    unfolding retriedUnder
-    laying-same s l again e = either Taken again _ _ (retried-same l (sought s true t.position t.end) e) (written_same l e)
+    laying_same : (s : List ℕ) (l : Laid) (again : Bool) → SameTaken l → Taken (laying s t blocks l mark again)
+    unfolding retried_under
+    laying_same s l again e = either Taken again _ _ (retried_same l (sought s true t.position t.end) e) (written_same l e)
 
-  motion-same : (v : Unit) (ie : Bool) (y : Motion) → Taken y → SameTaken (motionPlan v ie y).laid
-  unfolding motionPlanUnder toldUnder still
-  motion-same v ie (motion.Ended x) e = e
-  motion-same v ie (motion.Fault why k) e = none-same
+  motion_same : (v : Unit) (ie : Bool) (y : Motion) → Taken y → SameTaken (motion_plan v ie y).laid
+  unfolding motion_plan_under told_under still
+  motion_same v ie (motion.Ended x) e = e
+  motion_same v ie (motion.Fault why k) e = none_same
 
   -- the plan of a Write or Format
-  pub laid_same : (v : Unit) (ie : Bool) (s : List ℕ) (l : Laid) (mark again : Bool) → SameTaken l → SameTaken (motionPlan v ie (laying s v.tape v.lengths.blocks l mark again)).laid
-  laid_same v ie s l mark again e = motion-same v ie _ (laying-same v.tape v.lengths.blocks mark s l again e)
+  pub laid_same : (v : Unit) (ie : Bool) (s : List ℕ) (l : Laid) (mark again : Bool) → SameTaken l → SameTaken (motion_plan v ie (laying s v.tape v.lengths.blocks l mark again)).laid
+  laid_same v ie s l mark again e = motion_same v ie _ (laying_same v.tape v.lengths.blocks mark s l again e)

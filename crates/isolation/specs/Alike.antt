@@ -14,7 +14,7 @@ pub record SameButMemory (c c' : Core) : Type 0 where
   pub long : length c.memory ≡ length c'.memory
 
 -- the ask a comes to the same from c and from c': answer, places touched, the bytes stored there (message, data, blocks, places of the table), and the core after it but for
--- memory; and where the two memories were the same they are the same after it. (Where a byte is stored they are too: the law `stored-alike`.)
+-- memory; and where the two memories were the same they are the same after it. (Where a byte is stored they are too: the law `stored_alike`.)
 pub record StepsAlike (a : Ask) (c c' : Core) : Type 0 where
   pub answer : (step_of a c).answer ≡ (step_of a c').answer
   pub touched : (step_of a c).touched ≡ (step_of a c').touched

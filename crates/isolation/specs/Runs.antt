@@ -3,17 +3,17 @@
 use Rattle.std.specs.Prelude.{Bool, true, false, List, [], ◌∷◌, ◌⊎◌, ◌≡◌, ℕ, ◌+◌, ◌<◌, min, eqb}
 use Rattle.lists.specs.Pick.{pick}
 use Rattle.lists.specs.Places.{place}
-use Rattle.signals.specs.Numbers.{packetBytes}
+use Rattle.signals.specs.Numbers.{packet_bytes}
 use Rattle.state.specs.declared.Unit.{Unit}
-use Rattle.commands.specs.Answers.{isStep}
+use Rattle.commands.specs.Answers.{is_step}
 use Rattle.commands.specs.declared.plans.Answer.{Answer}
 use Rattle.commands.specs.declared.plans.Answer.TheVariants as answer
 use Rattle.demands.specs.Ways.{header, packet}
 use Rattle.unit.specs.Asks.{advance}
-use Rattle.unit.specs.Stores.{StepBytes, noBytes}
-use Rattle.worlds.specs.Coupled.{core_of, deckAt}
+use Rattle.unit.specs.Stores.{StepBytes, no_bytes}
+use Rattle.worlds.specs.Coupled.{core_of, deck_at}
 use Rattle.sessions.specs.Session.{does, stepped}
-use Rattle.histories.specs.Calling.{Call, Here, calls, coupledFrom, doing, kindNow, onCall, read-register, step, store, word_of}
+use Rattle.histories.specs.Calling.{Call, Here, calls, coupled_from, doing, kind_now, on_call, read_register, step, store, word_of}
 use Rattle.histories.specs.Good.{bytes_at}
 use Rattle.isolation.specs.Reads.{SameRead, TouchesAt}
 
@@ -21,12 +21,12 @@ use Rattle.isolation.specs.Reads.{SameRead, TouchesAt}
 unfoldable pub is_of : ℕ → Call → Bool
 is_of u (step k a h) = eqb k u
 is_of u (store place bytes) = false
-is_of u (read-register k r) = eqb k u
+is_of u (read_register k r) = eqb k u
 
 unfoldable pub remains : ℕ → Call → Bool
 remains u (step k a h) = eqb k u
 remains u (store place bytes) = true
-remains u (read-register k r) = eqb k u
+remains u (read_register k r) = eqb k u
 
 -- the moment after the calls, with a journal of n bytes
 unfoldable pub ran : ℕ → List Call → Here → Here
@@ -46,13 +46,13 @@ Refusal a = (a ≡ answer.Refused 9) ⊎ (a ≡ answer.Refused 11)
 pub data Unrefused (n u : ℕ) : List Call → Here → Type 0 where
   none : {s : Here} → Unrefused n u [] s
   one : {c : Call} {cs : List Call} {s : Here}
-      → (remains u c ≡ true → Refusal (onCall n c (coupledFrom n s)).answer → ⊥) → Unrefused n u cs (does (calls n) c s) → Unrefused n u (c ∷ cs) s
+      → (remains u c ≡ true → Refusal (on_call n c (coupled_from n s)).answer → ⊥) → Unrefused n u cs (does (calls n) c s) → Unrefused n u (c ∷ cs) s
 
 -- an advance of unit u
 abbrev pub IsAdvance : ℕ → Call → Type 0
 IsAdvance u (step k a h) = (k ≡ u) × (a ≡ advance)
 IsAdvance u (store place bytes) = ⊥
-IsAdvance u (read-register k r) = ⊥
+IsAdvance u (read_register k r) = ⊥
 
 -- each advance of unit u reads the same bytes in the run from s and in the one without the others from t
 pub data ReadsSame (n u : ℕ) : List Call → Here → Here → Type 0 where
@@ -71,9 +71,9 @@ pub record Seen : Type 0 where
 unfoldable pub sight_of : ℕ → Call → Here → Seen
 sight_of n c s =
     record {
-      answer = (onCall n c (coupledFrom n s)).answer;
-      word = word_of c (coupledFrom n s);
-      bytes = pick (isStep (onCall n c (coupledFrom n s)).answer) (bytes_at c s.core) noBytes;
+      answer = (on_call n c (coupled_from n s)).answer;
+      word = word_of c (coupled_from n s);
+      bytes = pick (is_step (on_call n c (coupled_from n s)).answer) (bytes_at c s.core) no_bytes;
     }
 
 unfoldable pub seen : ℕ → ℕ → List Call → Here → List Seen
@@ -83,21 +83,21 @@ seen n u (c ∷ cs) s =
 
 -- the unit is not disturbed: its record (registers and position among its numbers), reel and table end the same, and all that was seen of it on the way is
 pub record Undisturbed (n u : ℕ) (cs : List Call) (s : Here) : Type 0 where
-  pub deck : deckAt (ran n cs s).core u ≡ deckAt (ran n (without u cs) s).core u
+  pub deck : deck_at (ran n cs s).core u ≡ deck_at (ran n (without u cs) s).core u
   pub sight : seen n u cs s ≡ seen n u (without u cs) s
 
 -- all that a waiting command could read, however it ends: its packet, and the data that a Write or Write Characteristics names there. What it reads lies in these (the law
--- `reads-within`)
+-- `reads_within`)
 module _ (u : Unit) (m s : List ℕ) where
   pub data BuffersAt (j : ℕ) : Type 0 where
-    in-packet : {i : ℕ} → u.registers.ssr ≡ false → i < packetBytes → j ≡ u.registers.pointer + i → BuffersAt j
-    in-characteristics : {i : ℕ} → u.registers.ssr ≡ false → (header u m s).code ≡ 4 → i < min 8 (packet u m s).count → j ≡ (packet u m s).pointer + i → BuffersAt j
-    in-data : {i : ℕ} → u.registers.ssr ≡ false → (header u m s).code ≡ 5 → i < (packet u m s).count → j ≡ place (header u m s).swb ((packet u m s).pointer + i) → BuffersAt j
+    in_packet : {i : ℕ} → u.registers.ssr ≡ false → i < packet_bytes → j ≡ u.registers.pointer + i → BuffersAt j
+    in_characteristics : {i : ℕ} → u.registers.ssr ≡ false → (header u m s).code ≡ 4 → i < min 8 (packet u m s).count → j ≡ (packet u m s).pointer + i → BuffersAt j
+    in_data : {i : ℕ} → u.registers.ssr ≡ false → (header u m s).code ≡ 5 → i < (packet u m s).count → j ≡ place (header u m s).swb ((packet u m s).pointer + i) → BuffersAt j
 
 -- what a user sees to: a region of memory, given as a test, that holds the packet and data of every advance of unit u, and in which no step of another unit stores
 pub data Apart (n u : ℕ) (R : ℕ → Bool) : List Call → Here → Type 0 where
   none : {s : Here} → Apart n u R [] s
   one : {c : Call} {cs : List Call} {s : Here}
       → (IsAdvance u c → (j : ℕ) → BuffersAt (core_of u s.core).unit s.core.memory (core_of u s.core).reel j → R j ≡ true)
-      → (remains u c ≡ false → kindNow n c s ≡ stepped → (j : ℕ) → TouchesAt (doing c s.core).touched j → R j ≡ true → ⊥)
+      → (remains u c ≡ false → kind_now n c s ≡ stepped → (j : ℕ) → TouchesAt (doing c s.core).touched j → R j ≡ true → ⊥)
       → Apart n u R cs (does (calls n) c s) → Apart n u R (c ∷ cs) s

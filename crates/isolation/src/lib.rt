@@ -1,8 +1,8 @@
 // What an advance reads from memory, and that units disturb each other by nothing else. No code: the theorems are about the calls' definitions, as those of histories are.
 //
 //   [9]        an advance depends on nothing of memory but the bytes that
-//              it reads, step by step                                       plans-alike, advances-alike   proofs/Planning.antt, Asking.antt, specs/Reads.antt
-//              and it does not read further than the step that ends it      header-alone, packet-alone, unwritten-unread   proofs/Unread.antt
+//              it reads, step by step                                       plans_alike, advances_alike   proofs/Planning.antt, Asking.antt, specs/Reads.antt
+//              and it does not read further than the step that ends it      header_alone, packet_alone, unwritten_unread   proofs/Unread.antt
 //              a run without the other units' calls, in which those bytes
 //              are the same and no call that remains is refused with 9 or
 //              11, shows a unit the same: registers and their words,

@@ -2,9 +2,9 @@
 // (specs/Calls.antt); the theorems over any sequence of calls over a row are listed in crates/histories/src/lib.rt.
 ghost use Rattle.std.specs.Prelude.{◌≡◌, length};
 ghost use Rattle.unit.specs.Asks.{Ask};
-ghost use Rattle.worlds.specs.Worlds.{Leaves, worldOf};
-ghost use Rattle.tape.specs.Afresh.{objectsIn};
-ghost use Rattle.worlds.specs.Calls.{mountOn, registerOn, stepOn, tableMounted};
+ghost use Rattle.worlds.specs.Worlds.{Leaves, world_of};
+ghost use Rattle.tape.specs.Afresh.{objects_in};
+ghost use Rattle.worlds.specs.Calls.{mount_on, register_on, step_on, table_mounted};
 
 use commands::Answer;
 use state::Act;
@@ -21,7 +21,7 @@ pub fn write_tsdb(
     jrnl: &mut [u8],
     word: u16,
 ) -> Outcome
-    ensures { Leaves (stepOn (worldOf k s mem.old reel.old table.now jrnl.old) (length jrnl.old) (Ask.write-tsdb word)) jrnl.old result mem.new reel.new table.now jrnl.new }
+    ensures { Leaves (step_on (world_of k s mem.old reel.old table.now jrnl.old) (length jrnl.old) (Ask.write_tsdb word)) jrnl.old result mem.new reel.new table.now jrnl.new }
 {
     let n = change_refusal(s, mem.len(), reel.len(), table.len(), jrnl.len());
     if n != 0 {
@@ -40,7 +40,7 @@ pub fn write_tssr(
     table: &[u8],
     jrnl: &mut [u8],
 ) -> Outcome
-    ensures { Leaves (stepOn (worldOf k s mem.old reel.old table.now jrnl.old) (length jrnl.old) Ask.write-tssr) jrnl.old result mem.new reel.new table.now jrnl.new }
+    ensures { Leaves (step_on (world_of k s mem.old reel.old table.now jrnl.old) (length jrnl.old) Ask.write_tssr) jrnl.old result mem.new reel.new table.now jrnl.new }
 {
     let n = change_refusal(s, mem.len(), reel.len(), table.len(), jrnl.len());
     if n != 0 {
@@ -59,7 +59,7 @@ pub fn operate(
     jrnl: &mut [u8],
     act: Act,
 ) -> Outcome
-    ensures { Leaves (stepOn (worldOf k s mem.old reel.old table.now jrnl.old) (length jrnl.old) (Ask.operate act)) jrnl.old result mem.new reel.new table.now jrnl.new }
+    ensures { Leaves (step_on (world_of k s mem.old reel.old table.now jrnl.old) (length jrnl.old) (Ask.operate act)) jrnl.old result mem.new reel.new table.now jrnl.new }
 {
     let n = change_refusal(s, mem.len(), reel.len(), table.len(), jrnl.len());
     if n != 0 {
@@ -71,7 +71,7 @@ pub fn operate(
 
 // 0 and the word, or refusal 1 and word 0.
 pub fn read_register(s: Session, register: Register) -> RegisterRead
-    ensures { result ≡ registerOn s register }
+    ensures { result ≡ register_on s register }
 {
     if session_wrong(s) {
         return RegisterRead {
@@ -94,7 +94,7 @@ pub fn advance(
     table: &mut [u8],
     jrnl: &mut [u8],
 ) -> Outcome
-    ensures { Leaves (stepOn (worldOf k s mem.old reel.old table.old jrnl.old) (length jrnl.old) Ask.advance) jrnl.old result mem.new reel.new table.new jrnl.new }
+    ensures { Leaves (step_on (world_of k s mem.old reel.old table.old jrnl.old) (length jrnl.old) Ask.advance) jrnl.old result mem.new reel.new table.new jrnl.new }
 {
     let n = check(s, mem.len(), reel.len(), jrnl.len());
     if n != 0 {
@@ -122,8 +122,8 @@ pub fn mount(
     online: bool,
     locked: bool,
 ) -> Outcome
-    ensures outcome { result ≡ mountOn old memory reel.now (length table.old) journal e online locked }
-    ensures table { table.new ≡ tableMounted table.old (objectsIn reel.now e) result.answer }
+    ensures outcome { result ≡ mount_on old memory reel.now (length table.old) journal e online locked }
+    ensures table { table.new ≡ table_mounted table.old (objects_in reel.now e) result.answer }
 {
     let n = unit::mount_refusal(memory, reel.len(), e);
     if n != 0 {

@@ -1,6 +1,6 @@
 // Look-ups in the table: they take the state and the table, and change nothing.
 ghost use Rattle.std.specs.Prelude.{◌≡◌};
-ghost use Rattle.worlds.specs.Calls.{blockOn, fileOn, findRefusal, findingOf};
+ghost use Rattle.worlds.specs.Calls.{block_on, file_on, find_refusal, finding_of};
 
 use commands::Answer;
 use index::{Found, find_block, find_file, places};
@@ -8,7 +8,7 @@ use worlds::{Finding, Session, session_wrong};
 
 // 1 as for a register, 11 where the table has fewer places than are used, else 0.
 fn find_refusal(s: Session, table: usize) -> usize
-    ensures { result ≡ findRefusal s table }
+    ensures { result ≡ find_refusal s table }
 {
     if session_wrong(s) {
         return 1;
@@ -21,7 +21,7 @@ fn find_refusal(s: Session, table: usize) -> usize
 
 // What a look-up hands back that found x, unless it is refused with n.
 fn finding(n: usize, x: Found) -> Finding
-    ensures { result ≡ findingOf n x }
+    ensures { result ≡ finding_of n x }
 {
     if n != 0 {
         return Finding {
@@ -37,14 +37,14 @@ fn finding(n: usize, x: Found) -> Finding
 
 // The place where file f begins.
 pub fn file_place(s: Session, table: &[u8], f: usize) -> Finding
-    ensures { result ≡ fileOn s table.now f }
+    ensures { result ≡ file_on s table.now f }
 {
     finding(find_refusal(s, table.len()), find_file(table, s.objects, f))
 }
 
 // The place of the object that holds block b.
 pub fn block_place(s: Session, table: &[u8], b: usize) -> Finding
-    ensures { result ≡ blockOn s table.now b }
+    ensures { result ≡ block_on s table.now b }
 {
     finding(
         find_refusal(s, table.len()),

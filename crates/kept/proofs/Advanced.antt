@@ -3,24 +3,24 @@ use mathlib.Core.List.{List}
 use mathlib.Core.Path.{◌≡◌}
 use Prim.Native.Nat.{ℕ, ◌*◌}
 use lib.ListN.{length}
-use Rattle.tape.specs.Numbers.{blockBytes}
+use Rattle.tape.specs.Numbers.{block_bytes}
 use Rattle.tape.specs.Objects.{Holds, Object}
 use Rattle.tape.proofs.Accepted.{clash}
 use Rattle.tape.specs.declared.BlockFault.{BlockFault}
-use Rattle.signals.specs.Codes.{commandOf}
+use Rattle.signals.specs.Codes.{command_of}
 use Rattle.state.specs.declared.Tape.{Tape}
 use Rattle.state.specs.declared.Unit.{Unit}
 use Rattle.moves.specs.Between.{Bound}
 use Rattle.commands.specs.declared.plans.Answer.TheVariants as answer
-use Rattle.storing.specs.Stored.{reelAfter}
+use Rattle.storing.specs.Stored.{reel_after}
 use Rattle.advance.specs.Steps.{advanced}
-use Rattle.advance.proofs.Walk.{Akin, Carries, Rejects, Untold, advanced-all}
+use Rattle.advance.proofs.Walk.{Akin, Carries, Rejects, Untold, advanced_all}
 use Rattle.kept.specs.Formed.{Formed}
-use Rattle.kept.proofs.Carrying.{carried-kept, rests}
-use Rattle.kept.proofs.Lengths.{right-count}
-use Rattle.kept.proofs.Standing.{KeptPlan, still_kept, untold-kept}
+use Rattle.kept.proofs.Carrying.{carried_kept, rests}
+use Rattle.kept.proofs.Lengths.{right_count}
+use Rattle.kept.proofs.Standing.{KeptPlan, still_kept, untold_kept}
 
-module _ (s m : List ℕ) (u : Unit) (w : length s ≡ blockBytes * u.lengths.blocks) (k : Formed s u.tape) where
+module _ (s m : List ℕ) (u : Unit) (w : length s ≡ block_bytes * u.lengths.blocks) (k : Formed s u.tape) where
   -- in every state that a step leaves
   still_formed : (v : Unit) → Akin u v → Formed s v.tape
   still_formed v a = rw a.tape k
@@ -29,18 +29,18 @@ module _ (s m : List ℕ) (u : Unit) (w : length s ≡ blockBytes * u.lengths.bl
   rejects v a ie x h = rests s m v ie x v.tape (still_formed v a)
 
   untolds : Untold u (KeptPlan s m)
-  untolds v a class interrupts h = untold-kept s m v class interrupts (still_formed v a)
+  untolds v a class interrupts h = untold_kept s m v class interrupts (still_formed v a)
 
   carries : Carries u m s (KeptPlan s m)
   carries v a h p f d =
-      carried-kept s m v (rw a.lengths w) (still_formed v a) h p (commandOf h.code h.mode) (right-count h p.count f)
+      carried_kept s m v (rw a.lengths w) (still_formed v a) h p (command_of h.code h.mode) (right_count h p.count f)
 
-  plan-kept : KeptPlan s m (advanced u m s)
-  plan-kept = advanced-all u m s (KeptPlan s m) rejects untolds carries (still_kept s m u answer.Idle k (λ why b c. clash (cc)))
+  plan_kept : KeptPlan s m (advanced u m s)
+  plan_kept = advanced_all u m s (KeptPlan s m) rejects untolds carries (still_kept s m u answer.Idle k (λ why b c. clash (cc)))
 
-module _ (u : Unit) (m s : List ℕ) {os : List Object} (w : length s ≡ blockBytes * u.lengths.blocks) (h : Holds s u.tape.end os) (b : Bound os u.tape.position) where
-  pub advanced-kept : Formed (reelAfter (advanced u m s) m s) (advanced u m s).unit.tape
-  advanced-kept = (plan-kept s m u w (os, h, b)).stands
+module _ (u : Unit) (m s : List ℕ) {os : List Object} (w : length s ≡ block_bytes * u.lengths.blocks) (h : Holds s u.tape.end os) (b : Bound os u.tape.position) where
+  pub advanced_kept : Formed (reel_after (advanced u m s) m s) (advanced u m s).unit.tape
+  advanced_kept = (plan_kept s m u w (os, h, b)).stands
 
-  pub advanced-no-fault : (why : BlockFault) (k : ℕ) → (advanced u m s).answer ≡ answer.BadBlock why k → ⊥
-  advanced-no-fault = (plan-kept s m u w (os, h, b)).sound
+  pub advanced_no_fault : (why : BlockFault) (k : ℕ) → (advanced u m s).answer ≡ answer.BadBlock why k → ⊥
+  advanced_no_fault = (plan_kept s m u w (os, h, b)).sound

@@ -5,34 +5,34 @@ use Prim.Native.Nat.{ℕ, ◌+◌, ◌*◌, ◌≤◌}
 use native.Mathlib.Omega.{arith}
 use lib.ListN.{length, take, drop}
 use lib.Seq.{sets, take-add}
-use Rattle.lists.proofs.Stores.{sets-part, take-sets}
-use Rattle.tape.specs.Numbers.{blockBytes}
-use Rattle.tape.specs.Objects.{AllAllowed, Holds, Object, blocksOf, imagesOf}
-use Rattle.tape.proofs.Images.{allowed-both, blocks-append, images-append, length-images}
-use Rattle.tape.proofs.Written.{holds-front}
+use Rattle.lists.proofs.Stores.{sets_part, take_sets}
+use Rattle.tape.specs.Numbers.{block_bytes}
+use Rattle.tape.specs.Objects.{AllAllowed, Holds, Object, blocks_of, images_of}
+use Rattle.tape.proofs.Images.{allowed_both, blocks_append, images_append, length_images}
+use Rattle.tape.proofs.Written.{holds_front}
 use Rattle.moves.specs.Between.{Bound}
 
 module _ {s : List ℕ} {e : ℕ} {os : List Object} (h : Holds s e os) {p : ℕ} (b : Bound os p) where
   -- the end may come down to any bound
   up_to : Holds s p b.before
-  up_to = rw b.place at (holds-front b.before b.after (rw b.whole at h))
+  up_to = rw b.place at (holds_front b.before b.after (rw b.whole at h))
 
-  module _ (new : List Object) (n : ℕ) (l : blocksOf new ≡ n) where
+  module _ (new : List Object) (n : ℕ) (l : blocks_of new ≡ n) where
     -- the new blocks are where they were stored
-    new-part : blockBytes * (p + n) ≤ length s → take (blockBytes * n) (drop (blockBytes * p) (sets s (blockBytes * p) (imagesOf new))) ≡ imagesOf new
-    new-part room = rw (length-images new, l) at (sets-part (imagesOf new) s (blockBytes * p) (rw (length-images new, l) (omega arith)))
+    new_part : block_bytes * (p + n) ≤ length s → take (block_bytes * n) (drop (block_bytes * p) (sets s (block_bytes * p) (images_of new))) ≡ images_of new
+    new_part room = rw (length_images new, l) at (sets_part (images_of new) s (block_bytes * p) (rw (length_images new, l) (omega arith)))
 
-    pub overlaid : AllAllowed new → blockBytes * (p + n) ≤ length s → Holds (sets s (blockBytes * p) (imagesOf new)) (p + n) (b.before ++ new)
+    pub overlaid : AllAllowed new → block_bytes * (p + n) ≤ length s → Holds (sets s (block_bytes * p) (images_of new)) (p + n) (b.before ++ new)
     overlaid a room =
-        let at : blockBytes * (p + n) ≡ blockBytes * p + blockBytes * n = omega arith in
-        let under = take-sets (imagesOf new) s (blockBytes * p) (blockBytes * p) (omega arith) in
+        let at : block_bytes * (p + n) ≡ block_bytes * p + block_bytes * n = omega arith in
+        let under = take_sets (images_of new) s (block_bytes * p) (block_bytes * p) (omega arith) in
         record {
-          allowed = allowed-both up_to.allowed a;
-          ends = rw (blocks-append b.before new, b.place, l);
-          image = rw (at, take-add, under, up_to.image, new-part room, images-append b.before new);
+          allowed = allowed_both up_to.allowed a;
+          ends = rw (blocks_append b.before new, b.place, l);
+          image = rw (at, take-add, under, up_to.image, new_part room, images_append b.before new);
         }
 
     -- and the end is a bound
-    pub overlaid-end : Bound (b.before ++ new) (p + n)
-    overlaid-end =
-        record { before = b.before ++ new; after = []; whole = sym (append-nil (b.before ++ new)); place = rw (blocks-append b.before new, b.place, l) }
+    pub overlaid_end : Bound (b.before ++ new) (p + n)
+    overlaid_end =
+        record { before = b.before ++ new; after = []; whole = sym (append-nil (b.before ++ new)); place = rw (blocks_append b.before new, b.place, l) }

@@ -3,56 +3,56 @@ use mathlib.Core.Bool.{Bool}
 use mathlib.Core.List.{List}
 use mathlib.Core.Path.{◌≡◌, refl}
 use Prim.Native.Nat.{ℕ}
-use Rattle.tape.specs.Objects.{Holds, Object, imagesOf}
+use Rattle.tape.specs.Objects.{Holds, Object, images_of}
 use Rattle.tape.proofs.Accepted.{clash}
 use Rattle.tape.specs.declared.BlockFault.{BlockFault}
 use Rattle.state.specs.declared.Unit.{Unit}
 use Rattle.moves.specs.Between.{Bound}
-use Rattle.motions.specs.Parts.{noLay, standing}
+use Rattle.motions.specs.Parts.{no_lay, standing}
 use Rattle.motions.specs.declared.parts.Ending.{Ending}
 use Rattle.motions.specs.declared.parts.Motion.{Motion}
 use Rattle.motions.specs.declared.parts.Motion.TheVariants as motion
-use Rattle.commands.specs.Ends.{ended, motionPlan, motionPlanUnder, still, told, toldUnder, toldUnit, untold}
+use Rattle.commands.specs.Ends.{ended, motion_plan, motion_plan_under, still, told, told_under, told_unit, untold}
 use Rattle.commands.specs.declared.plans.Answer.{Answer}
 use Rattle.commands.specs.declared.plans.Answer.TheVariants as answer
 use Rattle.commands.specs.declared.plans.Plan.{Plan}
-use Rattle.storing.specs.Stored.{laidObject, laidObjects, laidOn, reelAfter}
+use Rattle.storing.specs.Stored.{laid_object, laid_objects, laid_on, reel_after}
 use Rattle.kept.specs.Formed.{Formed}
 
 -- a motion ends, with no block at fault, and its tape stands well on the reel as it is laid
 abbrev pub KeptMotion : List ℕ → List ℕ → Motion → Type 0
-KeptMotion s m (motion.Ended x) = Formed (laidOn s m x.laid) x.tape
+KeptMotion s m (motion.Ended x) = Formed (laid_on s m x.laid) x.tape
 KeptMotion s m (motion.Fault why k) = ⊥
 
 -- a plan names no block at fault, and its tape stands well on the reel that it leaves
 pub record KeptPlan (s m : List ℕ) (p : Plan) : Type 0 where
-  pub stands : Formed (reelAfter p m s) p.unit.tape
+  pub stands : Formed (reel_after p m s) p.unit.tape
   pub sound : (why : BlockFault) (k : ℕ) → p.answer ≡ answer.BadBlock why k → ⊥
 
 -- a reel on which nothing is laid stays as it was
-pub unlaid : (s m : List ℕ) → laidOn s m noLay ≡ s
-unfolding laidOn laidObjects laidObject imagesOf
+pub unlaid : (s m : List ℕ) → laid_on s m no_lay ≡ s
+unfolding laid_on laid_objects laid_object images_of
 unlaid s m = refl
 
 module _ (s m : List ℕ) {e : ℕ} {os : List Object} (h : Holds s e os) where
   -- so a motion that lays nothing may end at any bound
-  pub halts : {q : ℕ} → Bound os q → Formed (laidOn s m noLay) (standing q e)
+  pub halts : {q : ℕ} → Bound os q → Formed (laid_on s m no_lay) (standing q e)
   halts b = rw (unlaid s m) (os, h, b)
 
 module _ (s m : List ℕ) where
-  pub told-kept : (u : Unit) (ie : Bool) (x : Ending) → Formed (laidOn s m x.laid) x.tape → KeptPlan s m (told u ie x)
-  unfolding toldUnder toldUnit ended reelAfter
-  told-kept u ie x k = record { stands = k; sound = λ why b c. clash (cc) }
+  pub told_kept : (u : Unit) (ie : Bool) (x : Ending) → Formed (laid_on s m x.laid) x.tape → KeptPlan s m (told u ie x)
+  unfolding told_under told_unit ended reel_after
+  told_kept u ie x k = record { stands = k; sound = λ why b c. clash (cc) }
 
   pub still_kept : (u : Unit) (a : Answer) → Formed s u.tape → ((why : BlockFault) (k : ℕ) → a ≡ answer.BadBlock why k → ⊥) → KeptPlan s m (still u a)
-  unfolding still reelAfter
+  unfolding still reel_after
   still_kept u a k f = record { stands = rw (unlaid s m) k; sound = f }
 
-  pub untold-kept : (u : Unit) (class : ℕ) (interrupts : Bool) → Formed s u.tape → KeptPlan s m (untold u class interrupts)
+  pub untold_kept : (u : Unit) (class : ℕ) (interrupts : Bool) → Formed s u.tape → KeptPlan s m (untold u class interrupts)
   unfolding untold ended
-  untold-kept u class interrupts k = still_kept _ _ k (λ why b c. clash (cc))
+  untold_kept u class interrupts k = still_kept _ _ k (λ why b c. clash (cc))
 
-  pub motion-kept : (u : Unit) (ie : Bool) (y : Motion) → KeptMotion s m y → KeptPlan s m (motionPlan u ie y)
-  unfolding motionPlanUnder
-  motion-kept u ie (motion.Ended x) k = told-kept u ie x k
-  motion-kept u ie (motion.Fault why b) k = absurd k
+  pub motion_kept : (u : Unit) (ie : Bool) (y : Motion) → KeptMotion s m y → KeptPlan s m (motion_plan u ie y)
+  unfolding motion_plan_under
+  motion_kept u ie (motion.Ended x) k = told_kept u ie x k
+  motion_kept u ie (motion.Fault why b) k = absurd k

@@ -4,8 +4,8 @@ use mathlib.Core.Path.{◌≡◌, sym, ◌∙◌}
 use Prim.Native.Nat.{ℕ}
 use lib.Dec.{eqb}
 use Rattle.lists.specs.Pick.{Always}
-use Rattle.lists.proofs.Cases.{pick-told}
-use Rattle.signals.specs.Codes.{commandOf, controlMode, positionMode, readMode, singleMode}
+use Rattle.lists.proofs.Cases.{pick_told}
+use Rattle.signals.specs.Codes.{command_of, control_mode, position_mode, read_mode, single_mode}
 use Rattle.signals.specs.declared.codes.Command.{Command}
 use Rattle.signals.specs.declared.codes.Command.TheVariants as command
 use Rattle.signals.specs.declared.packet.Header.{Header}
@@ -35,40 +35,40 @@ Unwriting command.Initialize = Always
 Unwriting command.GetStatus = Always
 Unwriting command.Illegal = Always
 
-reads : (mode : ℕ) → Unwriting (readMode mode)
-unfolding readMode
+reads : (mode : ℕ) → Unwriting (read_mode mode)
+unfolding read_mode
 reads mode =
     either Unwriting (eqb mode 0) _ _ tt
     (either Unwriting (eqb mode 1) _ _ tt (either Unwriting (eqb mode 2) _ _ tt (either Unwriting (eqb mode 3) _ _ tt tt)))
 
-positions : (mode : ℕ) → Unwriting (positionMode mode)
-unfolding positionMode
+positions : (mode : ℕ) → Unwriting (position_mode mode)
+unfolding position_mode
 positions mode =
     either Unwriting (eqb mode 0) _ _ tt
     (either Unwriting (eqb mode 1) _ _ tt
     (either Unwriting (eqb mode 2) _ _ tt (either Unwriting (eqb mode 3) _ _ tt (either Unwriting (eqb mode 4) _ _ tt tt))))
 
-controls : (mode : ℕ) → Unwriting (controlMode mode)
-unfolding controlMode
+controls : (mode : ℕ) → Unwriting (control_mode mode)
+unfolding control_mode
 controls mode = either Unwriting (eqb mode 0) _ _ tt (either Unwriting (eqb mode 1) _ _ tt (either Unwriting (eqb mode 2) _ _ tt tt))
 
-single : (c : Command) (mode : ℕ) → Unwriting c → Unwriting (singleMode c mode)
-unfolding singleMode
+single : (c : Command) (mode : ℕ) → Unwriting c → Unwriting (single_mode c mode)
+unfolding single_mode
 single c mode k = either Unwriting (eqb mode 0) c _ k tt
 
-others : (code mode : ℕ) → eqb code 5 ≡ false → eqb code 9 ≡ false → Unwriting (commandOf code mode)
-unfolding commandOf
+others : (code mode : ℕ) → eqb code 5 ≡ false → eqb code 9 ≡ false → Unwriting (command_of code mode)
+unfolding command_of
 others code mode five nine =
     either Unwriting (eqb code 1) _ _ (reads mode)
     (either Unwriting (eqb code 4) _ _ (single command.WriteCharacteristics mode tt)
-    (pick-told Unwriting (eqb code 5) _ _ (λ e. absurd (true≢false (sym e ∙ five))) (λ e.
+    (pick_told Unwriting (eqb code 5) _ _ (λ e. absurd (true≢false (sym e ∙ five))) (λ e.
     either Unwriting (eqb code 8) _ _ (positions mode)
-    (pick-told Unwriting (eqb code 9) _ _ (λ k. absurd (true≢false (sym k ∙ nine))) (λ k.
+    (pick_told Unwriting (eqb code 9) _ _ (λ k. absurd (true≢false (sym k ∙ nine))) (λ k.
     either Unwriting (eqb code 10) _ _ (controls mode)
     (either Unwriting (eqb code 11) _ _ (single command.Initialize mode tt)
     (either Unwriting (eqb code 15) _ _ (single command.GetStatus mode tt) tt)))))))
 
-pub unwriting : (h : Header) → writes h ≡ false → Unwriting (commandOf h.code h.mode)
+pub unwriting : (h : Header) → writes h ≡ false → Unwriting (command_of h.code h.mode)
 unwriting h w =
     let n = neither (eqb h.code 5) (eqb h.code 9) w in
     others h.code h.mode n.0 n.1

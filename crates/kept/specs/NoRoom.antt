@@ -5,7 +5,7 @@ use Rattle.state.specs.declared.Tape.{Tape}
 use Rattle.state.specs.declared.Unit.{Unit}
 use Rattle.moves.specs.declared.seeking.Sought.{Sought}
 use Rattle.moves.specs.declared.seeking.Sought.TheVariants as sought-as
-use Rattle.demands.specs.Done.{sentWord}
+use Rattle.demands.specs.Done.{sent_word}
 
 -- from the tape t and the reel s to the state u', the memory m' with its message and the reel s'
 module _ (t : Tape) (s : List ℕ) (u' : Unit) (m' s' : List ℕ) where
@@ -15,10 +15,10 @@ module _ (t : Tape) (s : List ℕ) (u' : Unit) (m' s' : List ℕ) where
     pub unmoved : u'.tape ≡ t
     pub reel : s' ≡ s
     -- residual; XST0 above its low byte, and its lowest bit; XST3
-    pub residual : sentWord u' m' 2 ≡ 0
-    pub found : sentWord u' m' 3 / 256 * 256 ≡ NEF
-    pub eot : sentWord u' m' 3 / EOT % 2 ≡ 1
-    pub xst3 : sentWord u' m' 6 ≡ 0
+    pub residual : sent_word u' m' 2 ≡ 0
+    pub found : sent_word u' m' 3 / 256 * 256 ≡ NEF
+    pub eot : sent_word u' m' 3 / EOT % 2 ≡ 1
+    pub xst3 : sent_word u' m' 6 ≡ 0
 
   -- "None found: RIB, class 2, nothing written."; "Reverse to block 0 with no further record or mark: .. position 0"
   pub record NoneFound : Type 0 where
@@ -26,11 +26,11 @@ module _ (t : Tape) (s : List ℕ) (u' : Unit) (m' s' : List ℕ) where
     pub position : u'.tape.position ≡ 0
     pub end : u'.tape.end ≡ t.end
     pub reel : s' ≡ s
-    pub residual : sentWord u' m' 2 ≡ 0
-    pub found : sentWord u' m' 3 / 256 * 256 ≡ 0
-    pub xst3 : sentWord u' m' 6 ≡ REV + RIB
+    pub residual : sent_word u' m' 2 ≡ 0
+    pub found : sent_word u' m' 3 / 256 * 256 ≡ 0
+    pub xst3 : sent_word u' m' 6 ≡ REV + RIB
 
 -- "space reverse over gaps and one record or mark": a search that found one stopped at q
 pub data Found (q : ℕ) : Sought → Type 0 where
-  found-record : {n : ℕ} → Found q (sought-as.Record n q)
-  found-mark : Found q (sought-as.Mark q)
+  found_record : {n : ℕ} → Found q (sought-as.Record n q)
+  found_mark : Found q (sought-as.Mark q)

@@ -7,11 +7,11 @@ use Rattle.commands.specs.declared.plans.Plan.{Plan}
 -- a number, and the same with EOT, its lowest bit, where that was clear
 pub data SoonerEot (w w' : ℕ) : Type 0 where
   as_before : w' ≡ w → SoonerEot w w'
-  eot-now : w % 2 ≡ 0 → w' ≡ w + EOT → SoonerEot w w'
+  eot_now : w % 2 ≡ 0 → w' ≡ w + EOT → SoonerEot w w'
 
 -- "Message: header, 10, residual, XST0, XST1 0, XST2 0, XST3": the same words, but for EOT in XST0
 pub data SameButEot : List ℕ → List ℕ → Type 0 where
-  same-words : {header ten residual xst0 xst0' xst1 xst2 xst3 : ℕ} → SoonerEot xst0 xst0'
+  same_words : {header ten residual xst0 xst0' xst1 xst2 xst3 : ℕ} → SoonerEot xst0 xst0'
       → SameButEot (header ∷ ten ∷ residual ∷ xst0 ∷ xst1 ∷ xst2 ∷ xst3 ∷ []) (header ∷ ten ∷ residual ∷ xst0' ∷ xst1 ∷ xst2 ∷ xst3 ∷ [])
 
 -- memories m and m' that are the same but for EOT in the byte at a

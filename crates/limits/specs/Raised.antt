@@ -2,27 +2,27 @@
 -- `eotMargin'`, neither smaller. "Every reel stored under the old limit reads the same, only its EOT bit may come earlier; a unit of the old limit that meets a
 -- longer record refuses the mount with 7 at its first block." (02, [7])
 use Rattle.std.specs.Prelude.{Bool, true, false, List, ◌⊎◌, ◌≡◌, ℕ, ◌+◌, ◌-◌, ◌/◌, ◌<◌, ◌≤◌, length}
-use Rattle.tape.specs.Numbers.{blockBytes}
+use Rattle.tape.specs.Numbers.{block_bytes}
 use Rattle.tape.specs.Objects.{HoldsUnder, Object}
-use Rattle.tape.specs.Reading.{classAtUnder}
+use Rattle.tape.specs.Reading.{class_at_under}
 use Rattle.tape.specs.declared.Block.TheVariants as block
 use Rattle.tape.specs.declared.BlockFault.TheVariants as fault
-use Rattle.signals.specs.Message.{messageBytes}
-use Rattle.state.specs.Changes.{mountedAs}
+use Rattle.signals.specs.Message.{message_bytes}
+use Rattle.state.specs.Changes.{mounted_as}
 use Rattle.state.specs.declared.Unit.{Unit}
-use Rattle.motions.specs.Parts.{laidBlocks}
-use Rattle.motions.specs.Writes.{writtenMotionUnder}
+use Rattle.motions.specs.Parts.{laid_blocks}
+use Rattle.motions.specs.Writes.{written_motion_under}
 use Rattle.motions.specs.declared.parts.Laid.{Laid}
 use Rattle.motions.specs.declared.parts.Motion.{Motion}
 use Rattle.motions.specs.declared.parts.Motion.TheVariants as motion
 use Rattle.commands.specs.declared.plans.Answer.TheVariants as answer
 use Rattle.commands.specs.declared.plans.Plan.{Plan}
-use Rattle.storing.specs.Stored.{memoryAfter, reelAfter}
+use Rattle.storing.specs.Stored.{memory_after, reel_after}
 use Rattle.advance.specs.Rules.{writes}
-use Rattle.advance.specs.Steps.{advancedUnder}
+use Rattle.advance.specs.Steps.{advanced_under}
 use Rattle.demands.specs.Ways.{Waits, header}
-use Rattle.unit.specs.Mounts.{mountCallUnder, mountRefusal, mountedWith}
-use Rattle.unit.specs.Touching.{touchedBy}
+use Rattle.unit.specs.Mounts.{mount_call_under, mount_refusal, mounted_with}
+use Rattle.unit.specs.Touching.{touched_by}
 use Rattle.limits.specs.Alike.{ButEotAt, ReadsAlike}
 
 -- an advance that reads, of a reel that keeps to the limit: no Write or Format waits, and the tape stands no further than the recorded end
@@ -31,13 +31,13 @@ pub record ReadsUnder (limit : ℕ) (u : Unit) (m s : List ℕ) (os : List Objec
   pub within : u.tape.position ≤ u.tape.end
   pub unwriting : Waits u m s → writes (header u m s) ≡ false
 
--- a message that goes out lies inside memory m, as it does in every state that refusal 1 lets pass (`advanced-storable`)
+-- a message that goes out lies inside memory m, as it does in every state that refusal 1 lets pass (`advanced_storable`)
 abbrev pub SentInside : Plan → List ℕ → Type 0
-SentInside q m = q.sends ≡ true → q.unit.characteristics.address + messageBytes ≤ length m
+SentInside q m = q.sends ≡ true → q.unit.characteristics.address + message_bytes ≤ length m
 
 -- where XST0's low byte stands in memory
-abbrev pub eotByte : Plan → ℕ
-eotByte q = q.unit.characteristics.address + 6
+abbrev pub eot_byte : Plan → ℕ
+eot_byte q = q.unit.characteristics.address + 6
 
 -- a motion that ends so
 abbrev pub EndsWith : ℕ → Motion → Type 0
@@ -50,16 +50,16 @@ pub record LongerAt (limit limit' : ℕ) (s : List ℕ) (e p : ℕ) : Type 0 whe
   pub formed : HoldsUnder limit s p before
   pub below : p < e
   pub bytes : ℕ
-  pub piece : classAtUnder limit' s p ≡ block.Piece bytes 0
+  pub piece : class_at_under limit' s p ≡ block.Piece bytes 0
   pub longer : limit < bytes
 
 module _ (limit limit' eotMargin eotMargin' : ℕ) where
   -- what the two advances come to
   abbrev pub one : Unit → List ℕ → List ℕ → Plan
-  one u m s = advancedUnder limit eotMargin u m s
+  one u m s = advanced_under limit eotMargin u m s
 
   abbrev pub other : Unit → List ℕ → List ℕ → Plan
-  other u m s = advancedUnder limit' eotMargin' u m s
+  other u m s = advanced_under limit' eotMargin' u m s
 
   pub record Raised : Type 0 where
     -- a reel that is well formed under the one is under the other, with the same objects
@@ -67,18 +67,18 @@ module _ (limit limit' eotMargin eotMargin' : ℕ) where
     -- every advance that reads comes to the same there, wherever the tape stands, but for EOT in its message
     pub reads : (u : Unit) (m s : List ℕ) {os : List Object} → ReadsUnder limit u m s os → ReadsAlike (one u m s) (other u m s)
     -- so it touches the same places, wherever the table is cut, and takes an entry of the same length; it leaves the same reel, and the same memory but for that bit
-    pub touches : (u : Unit) (m s : List ℕ) {os : List Object} → ReadsUnder limit u m s os → (place : ℕ) → touchedBy (one u m s) place ≡ touchedBy (other u m s) place
-    pub reel : (u : Unit) (m s : List ℕ) {os : List Object} → ReadsUnder limit u m s os → reelAfter (one u m s) m s ≡ reelAfter (other u m s) m s
-    pub memory : (u : Unit) (m s : List ℕ) {os : List Object} → ReadsUnder limit u m s os → SentInside (other u m s) m → ButEotAt (eotByte (other u m s)) (memoryAfter (one u m s) m s) (memoryAfter (other u m s) m s)
+    pub touches : (u : Unit) (m s : List ℕ) {os : List Object} → ReadsUnder limit u m s os → (place : ℕ) → touched_by (one u m s) place ≡ touched_by (other u m s) place
+    pub reel : (u : Unit) (m s : List ℕ) {os : List Object} → ReadsUnder limit u m s os → reel_after (one u m s) m s ≡ reel_after (other u m s) m s
+    pub memory : (u : Unit) (m s : List ℕ) {os : List Object} → ReadsUnder limit u m s os → SentInside (other u m s) m → ButEotAt (eot_byte (other u m s)) (memory_after (one u m s) m s) (memory_after (other u m s) m s)
     -- a write may differ: one that ends at the marker of the larger margin, and so before the other, has class 2 where it had class 0
-    pub writes : (l : Laid) (blocks : ℕ) (mark : Bool) → eotMargin < eotMargin' → eotMargin' ≤ blocks → l.at + laidBlocks l ≡ blocks - eotMargin'
-        → EndsWith 0 (writtenMotionUnder eotMargin l blocks mark) × EndsWith 2 (writtenMotionUnder eotMargin' l blocks mark)
+    pub writes : (l : Laid) (blocks : ℕ) (mark : Bool) → eotMargin < eotMargin' → eotMargin' ≤ blocks → l.at + laid_blocks l ≡ blocks - eotMargin'
+        → EndsWith 0 (written_motion_under eotMargin l blocks mark) × EndsWith 2 (written_motion_under eotMargin' l blocks mark)
     -- both mount such a reel, to the same state
-    pub mounts : (old : Unit) (memory : ℕ) (s : List ℕ) (e : ℕ) (online locked : Bool) {os : List Object} → HoldsUnder limit s e os → mountRefusal memory (length s) e ≡ 0
-        → (mountCallUnder limit old memory s e online locked ≡ mountCallUnder limit' old memory s e online locked)
-        × (mountCallUnder limit old memory s e online locked ≡ mountedWith (answer.Done false) (mountedAs e online locked (record { memory = memory; blocks = length s / blockBytes })))
+    pub mounts : (old : Unit) (memory : ℕ) (s : List ℕ) (e : ℕ) (online locked : Bool) {os : List Object} → HoldsUnder limit s e os → mount_refusal memory (length s) e ≡ 0
+        → (mount_call_under limit old memory s e online locked ≡ mount_call_under limit' old memory s e online locked)
+        × (mount_call_under limit old memory s e online locked ≡ mounted_with (answer.Done false) (mounted_as e online locked (record { memory = memory; blocks = length s / block_bytes })))
     -- where a record is longer, the smaller limit refuses the mount with 7 at its first block, for its length (N), whatever lies behind that block
-    pub refuses : (old : Unit) (memory : ℕ) (s : List ℕ) (e : ℕ) (online locked : Bool) {p : ℕ} → LongerAt limit limit' s e p → mountRefusal memory (length s) e ≡ 0
-        → mountCallUnder limit old memory s e online locked ≡ mountedWith (answer.BadBlock fault.Length p) old
+    pub refuses : (old : Unit) (memory : ℕ) (s : List ℕ) (e : ℕ) (online locked : Bool) {p : ℕ} → LongerAt limit limit' s e p → mount_refusal memory (length s) e ≡ 0
+        → mount_call_under limit old memory s e online locked ≡ mounted_with (answer.BadBlock fault.Length p) old
     -- and of every reel that is well formed under the higher limit one of the two holds
     pub exhausts : {s : List ℕ} {e : ℕ} {os : List Object} → HoldsUnder limit' s e os → HoldsUnder limit s e os ⊎ ((p : ℕ) × LongerAt limit limit' s e p)

@@ -6,8 +6,8 @@ use Prim.Native.Nat.{ℕ, zero, suc, ◌-◌, ◌≤◌, ◌<◌}
 use native.Mathlib.Omega.{arith}
 use Rattle.script.specs.declared.Value.{Value}
 use Rattle.lines.specs.Makes.{number_at}
-use Rattle.lines.specs.Starts.{hasWord}
-use Rattle.lines.specs.Rules.{heldBy, named, says, within}
+use Rattle.lines.specs.Starts.{has_word}
+use Rattle.lines.specs.Rules.{held_by, named, says, within}
 
 pub named_none : (t : List ℕ) (n k : ℕ) → k ≤ 0 → named t n k ≡ false
 unfolding named
@@ -24,11 +24,11 @@ module _ (t : List ℕ) (n : ℕ) (v : Value) (x : Bool) where
       rw (f, e, before)
 
   module _ (k : ℕ) (h : 0 < k) (e : v ≡ number_at t k) (f : x ≡ says v n) where
-    pub named-stop : x ≡ true → named t n k ≡ true
-    named-stop s = named_by k h e f ∙ rw s
+    pub named_stop : x ≡ true → named t n k ≡ true
+    named_stop s = named_by k h e f ∙ rw s
 
-    pub named-on : x ≡ false → named t n k ≡ named t n (k - 1)
-    named-on s = named_by k h e f ∙ rw s
+    pub named_on : x ≡ false → named t n k ≡ named t n (k - 1)
+    named_on s = named_by k h e f ∙ rw s
 
 pub within_none : (a b : List ℕ) (k : ℕ) → k ≤ 0 → within a b k ≡ true
 unfolding within
@@ -37,21 +37,21 @@ within_none a b (suc k) h = absurd (omega arith)
 
 -- there is a word k or not, and what it says, as it was read, is held or not
 module _ (a b : List ℕ) (y : Bool) (v : Value) (x : Bool) where
-  within_by : (k : ℕ) → 0 < k → y ≡ hasWord a k → v ≡ number_at a k → x ≡ heldBy b v → within a b k ≡ ((not y || x) && within a b (k - 1))
+  within_by : (k : ℕ) → 0 < k → y ≡ has_word a k → v ≡ number_at a k → x ≡ held_by b v → within a b k ≡ ((not y || x) && within a b (k - 1))
   unfolding within
   within_by zero h e f g = absurd (omega arith)
   within_by (suc k) h e f g =
       let before : suc k - 1 ≡ k = omega arith in
       rw (g, e, f, before)
 
-  module _ (k : ℕ) (h : 0 < k) (e : y ≡ hasWord a k) (f : v ≡ number_at a k) (g : x ≡ heldBy b v) where
-    pub within-stop : (y && not x) ≡ true → within a b k ≡ false
-    within-stop s = within_by k h e f g ∙ ap (λ (z : Bool). z && within a b (k - 1)) (not-held y x s)
+  module _ (k : ℕ) (h : 0 < k) (e : y ≡ has_word a k) (f : v ≡ number_at a k) (g : x ≡ held_by b v) where
+    pub within_stop : (y && not x) ≡ true → within a b k ≡ false
+    within_stop s = within_by k h e f g ∙ ap (λ (z : Bool). z && within a b (k - 1)) (not_held y x s)
       where
-        not-held : (y x : Bool) → (y && not x) ≡ true → (not y || x) ≡ false
-        not-held true true s = sym s
-        not-held true false s = refl
-        not-held false x s = sym s
+        not_held : (y x : Bool) → (y && not x) ≡ true → (not y || x) ≡ false
+        not_held true true s = sym s
+        not_held true false s = refl
+        not_held false x s = sym s
 
     pub within_on : (y && not x) ≡ false → within a b k ≡ within a b (k - 1)
     within_on s = within_by k h e f g ∙ ap (λ (z : Bool). z && within a b (k - 1)) (held y x s)

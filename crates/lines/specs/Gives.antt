@@ -5,25 +5,25 @@ use Rattle.lists.specs.Pick.{pick}
 use Rattle.script.specs.declared.Fault.TheVariants as fault
 use Rattle.script.specs.declared.Value.{Value}
 use Rattle.script.specs.declared.Value.TheVariants as value
-use Rattle.script.specs.Fills.{generated, hexAnswer, hexFilled}
-use Rattle.script.specs.Words.{wordFrom}
+use Rattle.script.specs.Fills.{generated, hex_answer, hex_filled}
+use Rattle.script.specs.Words.{word_from}
 use Rattle.lines.specs.declared.Given.{Given}
 use Rattle.lines.specs.declared.Given.TheVariants as given
 
 -- n bytes made from a seed
-unfoldable pub madeAnswer : ℕ → ℕ → Value
-madeAnswer n room = pick (ltb room n) (value.Wrong fault.BeyondBuffers) (value.Is n)
+unfoldable pub made_answer : ℕ → ℕ → Value
+made_answer n room = pick (ltb room n) (value.Wrong fault.BeyondBuffers) (value.Is n)
 
-unfoldable pub madeFilled : ℕ → ℕ → List ℕ → List ℕ
-madeFilled n seed b = pick (ltb (length b) n) b (sets b 0 (generated seed n))
+unfoldable pub made_filled : ℕ → ℕ → List ℕ → List ℕ
+made_filled n seed b = pick (ltb (length b) n) b (sets b 0 (generated seed n))
 
 -- of a line with the text t
-unfoldable pub givenAnswer : Given → List ℕ → ℕ → Value
-givenAnswer given.Nothing t room = value.Is 0
-givenAnswer (given.Word k) t room = hexAnswer (wordFrom t k) room
-givenAnswer (given.Made n seed) t room = madeAnswer n room
+unfoldable pub given_answer : Given → List ℕ → ℕ → Value
+given_answer given.Nothing t room = value.Is 0
+given_answer (given.Word k) t room = hex_answer (word_from t k) room
+given_answer (given.Made n seed) t room = made_answer n room
 
-unfoldable pub givenFilled : Given → List ℕ → List ℕ → List ℕ
-givenFilled given.Nothing t b = b
-givenFilled (given.Word k) t b = hexFilled (wordFrom t k) b
-givenFilled (given.Made n seed) t b = madeFilled n seed b
+unfoldable pub given_filled : Given → List ℕ → List ℕ → List ℕ
+given_filled given.Nothing t b = b
+given_filled (given.Word k) t b = hex_filled (word_from t k) b
+given_filled (given.Made n seed) t b = made_filled n seed b

@@ -4,13 +4,13 @@ use Rattle.lists.specs.Pick.{pick}
 use Rattle.script.specs.declared.Fault.TheVariants as fault
 use Rattle.lines.specs.declared.Arrange.TheVariants as arrange
 use Rattle.lines.specs.declared.Line.{Line}
-use Rattle.lines.specs.Makes.{arrangesLine, number_at, onNumber, wrongLine}
-use Rattle.lines.specs.Arranging.{reelBytes}
+use Rattle.lines.specs.Makes.{arranges_line, number_at, on_number, wrong_line}
+use Rattle.lines.specs.Arranging.{reel_bytes}
 
 -- "the row has N records (0 to 9 ..)"
-unfoldable pub unitsTo : ℕ → Line
-unitsTo n = pick (ltb 9 n) (wrongLine fault.NumberTooLarge) (arrangesLine (arrange.Units n))
+unfoldable pub units_to : ℕ → Line
+units_to n = pick (ltb 9 n) (wrong_line fault.NumberTooLarge) (arranges_line (arrange.Units n))
 
 -- 24 `units N`, 25 `reel BLOCKS`
 unfoldable pub rowing : List ℕ → ℕ → Line
-rowing t k = onNumber (number_at t 1) (λ n. pick (eqb k 24) (unitsTo n) (arrangesLine (arrange.Reel (reelBytes n))))
+rowing t k = on_number (number_at t 1) (λ n. pick (eqb k 24) (units_to n) (arranges_line (arrange.Reel (reel_bytes n))))

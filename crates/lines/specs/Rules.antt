@@ -6,12 +6,12 @@ use Rattle.script.specs.declared.Value.{Value}
 use Rattle.script.specs.declared.Value.TheVariants as value
 use Rattle.lines.specs.declared.Does.TheVariants as does
 use Rattle.lines.specs.declared.Line.{Line}
-use Rattle.lines.specs.Makes.{number_at, plainLine, wrongLine}
-use Rattle.lines.specs.Starts.{hasWord}
+use Rattle.lines.specs.Makes.{number_at, plain_line, wrong_line}
+use Rattle.lines.specs.Starts.{has_word}
 
 -- the program's own: "rules 2 4 7 8 9"
-unfoldable pub ownRules : List ℕ
-ownRules = 114 ∷ 117 ∷ 108 ∷ 101 ∷ 115 ∷ 32 ∷ 50 ∷ 32 ∷ 52 ∷ 32 ∷ 55 ∷ 32 ∷ 56 ∷ 32 ∷ 57 ∷ []
+unfoldable pub own_rules : List ℕ
+own_rules = 114 ∷ 117 ∷ 108 ∷ 101 ∷ 115 ∷ 32 ∷ 50 ∷ 32 ∷ 52 ∷ 32 ∷ 55 ∷ 32 ∷ 56 ∷ 32 ∷ 57 ∷ []
 
 -- document 02 has so many requests, and a line names no more
 abbrev pub requests : ℕ
@@ -31,19 +31,19 @@ abbrev pub unseen : ℕ → Bool
 unseen n = ((eqb n 1 || eqb n 3) || eqb n 12) || eqb n 13
 
 -- a number that the line b names, or that no script shows
-unfoldable pub heldBy : List ℕ → Value → Bool
-heldBy b (value.Is n) = unseen n || named b n requests
-heldBy b (value.Wrong f) = false
+unfoldable pub held_by : List ℕ → Value → Bool
+held_by b (value.Is n) = unseen n || named b n requests
+held_by b (value.Wrong f) = false
 
 -- each of the words 1 to k of the line a is one
 unfoldable pub within : List ℕ → List ℕ → ℕ → Bool
 within a b zero = true
-within a b (suc k) = (not (hasWord a (suc k)) || heldBy b (number_at a (suc k))) && within a b k
+within a b (suc k) = (not (has_word a (suc k)) || held_by b (number_at a (suc k))) && within a b k
 
 -- two lines name the same set
 abbrev pub same_rules : List ℕ → List ℕ → Bool
 same_rules a b = within a b requests && within b a requests
 
 -- "it takes the line, and says so in one line if it names another set than its own"
-unfoldable pub rulesLine : List ℕ → Line
-rulesLine t = pick (same_rules t ownRules) (plainLine does.Nothing) (wrongLine fault.OtherRules)
+unfoldable pub rules_line : List ℕ → Line
+rules_line t = pick (same_rules t own_rules) (plain_line does.Nothing) (wrong_line fault.OtherRules)

@@ -1,6 +1,6 @@
 // Lines that set the desk up.
 ghost use Rattle.std.specs.Prelude.{◌≡◌};
-ghost use Rattle.lines.specs.Arranging.{arranging, cutLine, field_of, lensLine, reelBytes, setLine, set_to, sizesLine, tableBytes, tooWide};
+ghost use Rattle.lines.specs.Arranging.{arranging, cut_line, field_of, lens_line, reel_bytes, set_line, set_to, sizes_line, table_bytes, too_wide};
 
 use crate::makes::{arranges, wrong};
 use crate::texts::has_word;
@@ -11,20 +11,20 @@ use tape::Geometry;
 
 // In bytes; no reel of the program has so many blocks that a cut matters.
 pub fn reel_bytes(blocks: usize) -> usize
-    ensures { result ≡ reelBytes blocks }
+    ensures { result ≡ reel_bytes blocks }
 {
     Geometry::BLOCK * least(blocks, 1000000)
 }
 
 // Eight bytes for each block, unless a line says another length.
 fn table_bytes(blocks: usize) -> usize
-    ensures { result ≡ tableBytes blocks }
+    ensures { result ≡ table_bytes blocks }
 {
     8 * least(blocks, 1000000)
 }
 
 fn sizes_line(text: &[u8]) -> Line
-    ensures { result ≡ sizesLine text.now }
+    ensures { result ≡ sizes_line text.now }
 {
     match numbers(text, 1, 3) {
         Three::Wrong(f) => wrong(f),
@@ -39,7 +39,7 @@ fn sizes_line(text: &[u8]) -> Line
 
 // Without a fourth number the table stays as it is.
 fn cut_line(text: &[u8], memory: usize, reel: usize, journal: usize) -> Line
-    ensures { result ≡ cutLine text.now memory reel journal }
+    ensures { result ≡ cut_line text.now memory reel journal }
 {
     if !has_word(text, 4) {
         let s = Sizes {
@@ -65,7 +65,7 @@ fn cut_line(text: &[u8], memory: usize, reel: usize, journal: usize) -> Line
 }
 
 fn lens_line(text: &[u8]) -> Line
-    ensures { result ≡ lensLine text.now }
+    ensures { result ≡ lens_line text.now }
 {
     if find_word(b"off", text, 1) == 0 {
         return arranges(Arrange::Uncut);
@@ -88,7 +88,7 @@ fn field_in(text: &[u8]) -> usize
 
 // Is v more than field k of the state can hold? The message buffer's address and length have 32 bits.
 fn too_wide(k: usize, v: usize) -> bool
-    ensures { result ≡ tooWide k v }
+    ensures { result ≡ too_wide k v }
 {
     ((k == 16) | (k == 17)) & (4294967295 < v)
 }
@@ -106,7 +106,7 @@ fn set_to(k: usize, v: usize) -> Line
 }
 
 fn set_line(text: &[u8]) -> Line
-    ensures { result ≡ setLine text.now }
+    ensures { result ≡ set_line text.now }
 {
     match argument(text, 2) {
         Value::Wrong(f) => wrong(f),

@@ -1,6 +1,6 @@
 // Lines that put bytes into memory or reel with no call.
 ghost use Rattle.std.specs.Prelude.{◌≡◌};
-ghost use Rattle.lines.specs.Building.{laying, madeLine, pokeLine, poking, recordLine, sumLine, word_line};
+ghost use Rattle.lines.specs.Building.{laying, made_line, poke_line, poking, record_line, sum_line, word_line};
 
 use crate::makes::{builds, wrong};
 use crate::texts::has_word;
@@ -8,7 +8,7 @@ use crate::{Build, Given, Line};
 use script::{Fault, Three, Value, argument, numbers};
 
 fn poke_line(text: &[u8], reel: bool) -> Line
-    ensures { result ≡ pokeLine text.now reel }
+    ensures { result ≡ poke_line text.now reel }
 {
     match argument(text, 1) {
         Value::Wrong(f) => wrong(f),
@@ -31,7 +31,7 @@ fn word_line(text: &[u8]) -> Line
 }
 
 fn sum_line(text: &[u8]) -> Line
-    ensures { result ≡ sumLine text.now }
+    ensures { result ≡ sum_line text.now }
 {
     match argument(text, 1) {
         Value::Wrong(f) => wrong(f),
@@ -52,7 +52,7 @@ pub fn poke_lines(text: &[u8], k: usize) -> Line
 }
 
 fn record_line(text: &[u8]) -> Line
-    ensures { result ≡ recordLine text.now }
+    ensures { result ≡ record_line text.now }
 {
     if has_word(text, 1) {
         return builds(Build::Record, Given::Word(1));
@@ -61,7 +61,7 @@ fn record_line(text: &[u8]) -> Line
 }
 
 fn made_line(text: &[u8]) -> Line
-    ensures { result ≡ madeLine text.now }
+    ensures { result ≡ made_line text.now }
 {
     match numbers(text, 1, 2) {
         Three::Wrong(f) => wrong(f),

@@ -1,6 +1,6 @@
 // Call lines.
 ghost use Rattle.std.specs.Prelude.{◌≡◌};
-ghost use Rattle.lines.specs.Calling.{calling, end_of, hostLine, hostnLine, mountLine, opLine, regLine, tsdbLine, tsdbTo, tssrLine};
+ghost use Rattle.lines.specs.Calling.{calling, end_of, host_line, hostn_line, mount_line, op_line, reg_line, tsdb_line, tsdb_to, tssr_line};
 
 use crate::makes::{asks, calls, wrong};
 use crate::{Ask, Call, Given, Line};
@@ -17,7 +17,7 @@ fn end_in(text: &[u8], cursor: usize) -> Value
 }
 
 fn mount_line(text: &[u8], cursor: usize) -> Line
-    ensures { result ≡ mountLine text.now cursor }
+    ensures { result ≡ mount_line text.now cursor }
 {
     match end_in(text, cursor) {
         Value::Wrong(f) => wrong(f),
@@ -31,7 +31,7 @@ fn mount_line(text: &[u8], cursor: usize) -> Line
 }
 
 fn tsdb_to(w: usize) -> Line
-    ensures { result ≡ tsdbTo w }
+    ensures { result ≡ tsdb_to w }
 {
     if 65535 < w {
         return wrong(Fault::NumberTooLarge);
@@ -40,7 +40,7 @@ fn tsdb_to(w: usize) -> Line
 }
 
 fn tsdb_line(text: &[u8]) -> Line
-    ensures { result ≡ tsdbLine text.now }
+    ensures { result ≡ tsdb_line text.now }
 {
     match argument(text, 1) {
         Value::Wrong(f) => wrong(f),
@@ -49,7 +49,7 @@ fn tsdb_line(text: &[u8]) -> Line
 }
 
 fn tssr_line(text: &[u8]) -> Line
-    ensures { result ≡ tssrLine text.now }
+    ensures { result ≡ tssr_line text.now }
 {
     match argument(text, 1) {
         Value::Wrong(f) => wrong(f),
@@ -58,7 +58,7 @@ fn tssr_line(text: &[u8]) -> Line
 }
 
 fn reg_line(text: &[u8]) -> Line
-    ensures { result ≡ regLine text.now }
+    ensures { result ≡ reg_line text.now }
 {
     match find_word(b"tsba tssr", text, 1) {
         0 => calls(Call::ReadTsba, Given::Nothing),
@@ -68,7 +68,7 @@ fn reg_line(text: &[u8]) -> Line
 }
 
 fn op_line(text: &[u8]) -> Line
-    ensures { result ≡ opLine text.now }
+    ensures { result ≡ op_line text.now }
 {
     match find_word(b"on off lock unlock", text, 1) {
         0 => asks(Ask::Operate(Act::OnLine), Given::Nothing),
@@ -80,7 +80,7 @@ fn op_line(text: &[u8]) -> Line
 }
 
 fn host_line(text: &[u8]) -> Line
-    ensures { result ≡ hostLine text.now }
+    ensures { result ≡ host_line text.now }
 {
     match argument(text, 1) {
         Value::Wrong(f) => wrong(f),
@@ -89,7 +89,7 @@ fn host_line(text: &[u8]) -> Line
 }
 
 fn hostn_line(text: &[u8]) -> Line
-    ensures { result ≡ hostnLine text.now }
+    ensures { result ≡ hostn_line text.now }
 {
     match numbers(text, 1, 3) {
         Three::Wrong(f) => wrong(f),

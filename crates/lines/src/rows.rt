@@ -1,6 +1,6 @@
 // Lines about the row of units.
 ghost use Rattle.std.specs.Prelude.{◌≡◌};
-ghost use Rattle.lines.specs.Rowing.{rowing, unitsTo};
+ghost use Rattle.lines.specs.Rowing.{rowing, units_to};
 
 use crate::arranges::reel_bytes;
 use crate::makes::{arranges, wrong};
@@ -8,7 +8,7 @@ use crate::{Arrange, Line};
 use script::{Fault, Value, argument};
 
 fn units_to(n: usize) -> Line
-    ensures { result ≡ unitsTo n }
+    ensures { result ≡ units_to n }
 {
     if 9 < n {
         return wrong(Fault::NumberTooLarge);

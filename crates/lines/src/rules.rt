@@ -1,6 +1,6 @@
 // The requests that a script expects: they have to be those of this program.
 ghost use Rattle.std.specs.Prelude.{◌≡◌};
-ghost use Rattle.lines.specs.Rules.{heldBy, named, requests, rulesLine, same_rules, says, unseen, within};
+ghost use Rattle.lines.specs.Rules.{held_by, named, requests, rules_line, same_rules, says, unseen, within};
 
 use crate::makes::{plain, wrong};
 use crate::texts::has_word;
@@ -40,7 +40,7 @@ fn is_unseen(n: usize) -> bool
 }
 
 fn is_held(text: &[u8], v: Value) -> bool
-    ensures { result ≡ heldBy text.now v }
+    ensures { result ≡ held_by text.now v }
 {
     match v {
         Value::Is(n) => is_unseen(n) | names(text, n),
@@ -69,7 +69,7 @@ fn are_same(a: &[u8], b: &[u8]) -> bool
 }
 
 pub fn rules_line(text: &[u8]) -> Line
-    ensures { result ≡ rulesLine text.now }
+    ensures { result ≡ rules_line text.now }
 {
     if are_same(text, b"rules 2 4 7 8 9") {
         return plain(Does::Nothing);

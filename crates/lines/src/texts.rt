@@ -1,7 +1,7 @@
 // A line by its words.
 ghost use Rattle.std.specs.Prelude.{◌≡◌, ◌<◌};
-ghost use Rattle.lines.specs.Lines.{lineBy, lineFrom, line_of};
-ghost use Rattle.lines.specs.Starts.{hasWord, mostWords, start_of};
+ghost use Rattle.lines.specs.Lines.{line_by, line_from, line_of};
+ghost use Rattle.lines.specs.Starts.{has_word, most_words, start_of};
 
 use crate::arranges::arrange_line;
 use crate::builds::{lay_line, poke_lines};
@@ -27,7 +27,7 @@ fn first_word(text: &[u8]) -> usize
 // How many words a line may have that starts with word k of them.
 fn most_words(k: usize) -> usize
     requires { k < 26 }
-    ensures { result ≡ mostWords k }
+    ensures { result ≡ most_words k }
 {
     let most: [usize; 26] = [
         4096, // case
@@ -61,7 +61,7 @@ fn most_words(k: usize) -> usize
 }
 
 pub fn has_word(text: &[u8], k: usize) -> bool
-    ensures { result ≡ hasWord text.now k }
+    ensures { result ≡ has_word text.now k }
 {
     let s = nth(text, k);
     s.start < s.end
@@ -69,7 +69,7 @@ pub fn has_word(text: &[u8], k: usize) -> bool
 
 // The line whose first word is number k of the list.
 fn line_by(text: &[u8], k: usize, cursor: usize) -> Line
-    ensures { result ≡ lineBy text.now k cursor }
+    ensures { result ≡ line_by text.now k cursor }
 {
     if k < 4 {
         return arrange_line(text, k);
@@ -94,7 +94,7 @@ fn line_by(text: &[u8], k: usize, cursor: usize) -> Line
 
 // A line that starts with word k of the list, or with none of them.
 fn line_from(text: &[u8], k: usize, cursor: usize) -> Line
-    ensures { result ≡ lineFrom text.now k cursor }
+    ensures { result ≡ line_from text.now k cursor }
 {
     if 25 < k {
         return wrong(Fault::UnknownWord);

@@ -1,8 +1,8 @@
 -- "Letter, first block, record length; E gives the recorded end ..; a gap prints G and its block." (01, The listing)
 use Rattle.std.specs.Prelude.{List, [], ◌∷◌, ◌++◌, ℕ, ◌+◌, length}
-use Rattle.tape.specs.Letters.{letterOf}
+use Rattle.tape.specs.Letters.{letter_of}
 use Rattle.tape.specs.declared.BlockFault.{BlockFault}
-use Rattle.tape.specs.Objects.{Object, blocksIn, gap, mark, record_of}
+use Rattle.tape.specs.Objects.{Object, blocks_in, gap, mark, record_of}
 use Rattle.script.specs.Spelling.{spelling}
 
 -- in the fewest digits
@@ -10,39 +10,39 @@ abbrev pub decimal : ℕ → List ℕ
 decimal n = spelling 10 1 n
 
 -- a letter's code, a blank, a number and a line end
-unfoldable pub numberLine : ℕ → ℕ → List ℕ
-numberLine letter k = letter ∷ 32 ∷ (decimal k ++ (10 ∷ []))
+unfoldable pub number_line : ℕ → ℕ → List ℕ
+number_line letter k = letter ∷ 32 ∷ (decimal k ++ (10 ∷ []))
 
 -- R, M, G, E, X
-abbrev pub letterR : ℕ
-letterR = 82
+abbrev pub letter_r : ℕ
+letter_r = 82
 
-abbrev pub letterM : ℕ
-letterM = 77
+abbrev pub letter_m : ℕ
+letter_m = 77
 
-abbrev pub letterG : ℕ
-letterG = 71
+abbrev pub letter_g : ℕ
+letter_g = 71
 
-abbrev pub letterE : ℕ
-letterE = 69
+abbrev pub letter_e : ℕ
+letter_e = 69
 
-abbrev pub letterX : ℕ
-letterX = 88
+abbrev pub letter_x : ℕ
+letter_x = 88
 
-unfoldable pub recordLine : ℕ → ℕ → List ℕ
-recordLine p n = letterR ∷ 32 ∷ (decimal p ++ (32 ∷ (decimal n ++ (10 ∷ []))))
+unfoldable pub record_line : ℕ → ℕ → List ℕ
+record_line p n = letter_r ∷ 32 ∷ (decimal p ++ (32 ∷ (decimal n ++ (10 ∷ []))))
 
 -- a bad block and the letter of its fault: `X 3 C`
-unfoldable pub badLine : BlockFault → ℕ → List ℕ
-badLine why k = letterX ∷ 32 ∷ (decimal k ++ (32 ∷ letterOf why ∷ 10 ∷ []))
+unfoldable pub bad_line : BlockFault → ℕ → List ℕ
+bad_line why k = letter_x ∷ 32 ∷ (decimal k ++ (32 ∷ letter_of why ∷ 10 ∷ []))
 
 -- the line of the object whose first block is p
 unfoldable pub line_of : ℕ → Object → List ℕ
-line_of p (record_of d) = recordLine p (length d)
-line_of p mark = numberLine letterM p
-line_of p gap = numberLine letterG p
+line_of p (record_of d) = record_line p (length d)
+line_of p mark = number_line letter_m p
+line_of p gap = number_line letter_g p
 
 -- the lines of objects in a row, the first of them at block p
 unfoldable pub lines_of : ℕ → List Object → List ℕ
 lines_of p [] = []
-lines_of p (o ∷ os) = line_of p o ++ lines_of (p + blocksIn o) os
+lines_of p (o ∷ os) = line_of p o ++ lines_of (p + blocks_in o) os

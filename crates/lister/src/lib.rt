@@ -2,7 +2,7 @@
 mod prints;
 
 ghost use Rattle.std.specs.Prelude.{◌≡◌, length};
-ghost use Rattle.lister.specs.Listed.{listingLimit};
+ghost use Rattle.lister.specs.Listed.{listing_limit};
 
 use libc::STDOUT_FILENO;
 use prints::LISTING_LIMIT;
@@ -15,7 +15,7 @@ fn space() -> [u8; Geometry::IMAGE_LIMIT + 1] {
 }
 
 fn lines_space() -> [u8; LISTING_LIMIT]
-    ensures { listingLimit ≡ length result }
+    ensures { listing_limit ≡ length result }
 {
     [0u8; LISTING_LIMIT]
 }

@@ -2,8 +2,8 @@
 ghost use Rattle.std.specs.Prelude.{◌≡◌, [], ◌∷◌, ◌++◌, length};
 ghost use Rattle.std.proofs.lemmas.List.Edits.{sets};
 ghost use Rattle.script.specs.Prints.{Put};
-ghost use Rattle.lister.specs.Lines.{badLine, decimal, recordLine};
-ghost use Rattle.lister.specs.Listed.{lines_from, listed, metLine, metNext};
+ghost use Rattle.lister.specs.Lines.{bad_line, decimal, record_line};
+ghost use Rattle.lister.specs.Listed.{lines_from, listed, met_line, met_next};
 
 use script::{put_byte, put_bytes, put_labelled};
 use tape::{BlockFault, Image, Met};
@@ -21,7 +21,7 @@ fn put_line(out: &mut [u8], at: usize, label: &[u8], k: usize) -> usize
 
 // A record: its first block and its length.
 fn put_record(out: &mut [u8], at: usize, p: usize, n: usize) -> usize
-    ensures { Put out.old at (recordLine p n) out.new result }
+    ensures { Put out.old at (record_line p n) out.new result }
 {
     let next = put_labelled(out, at, b"R ", p);
     put_line(out, next, b" ", n)
@@ -29,7 +29,7 @@ fn put_record(out: &mut [u8], at: usize, p: usize, n: usize) -> usize
 
 // The line of what is met at block p.
 fn put_met(out: &mut [u8], at: usize, p: usize, m: Met) -> usize
-    ensures { Put out.old at (metLine p m) out.new result }
+    ensures { Put out.old at (met_line p m) out.new result }
 {
     match m {
         Met::Record(n, _) => put_record(out, at, p, n),
@@ -41,7 +41,7 @@ fn put_met(out: &mut [u8], at: usize, p: usize, m: Met) -> usize
 }
 
 fn next_of(m: Met, e: usize) -> usize
-    ensures { result ≡ metNext e m }
+    ensures { result ≡ met_next e m }
 {
     match m {
         Met::Record(_, q) => q,
@@ -70,7 +70,7 @@ fn put_objects(out: &mut [u8], image: &[u8], e: usize) -> usize
 
 // A bad block: its number, and the letter of what is wrong with it.
 fn put_bad(out: &mut [u8], fault: BlockFault, k: usize) -> usize
-    ensures { Put out.old 0 (badLine fault k) out.new result }
+    ensures { Put out.old 0 (bad_line fault k) out.new result }
 {
     let at1 = put_labelled(out, 0, b"X ", k);
     let at2 = put_bytes(out, at1, b" ");

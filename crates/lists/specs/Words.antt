@@ -2,8 +2,8 @@
 use Rattle.std.specs.Prelude.{List, [], ◌∷◌, ℕ, ◌+◌, ◌*◌, ◌/◌, ◌%◌, ◌<◌, get_or}
 
 -- one more than the largest word
-abbrev pub wordLimit : ℕ
-wordLimit = 65536
+abbrev pub word_limit : ℕ
+word_limit = 65536
 
 -- the word in the bytes at i and i + 1
 abbrev pub word_at : List ℕ → ℕ → ℕ
@@ -14,10 +14,10 @@ abbrev pub word_bytes : ℕ → List ℕ
 word_bytes w = (w % 256) ∷ (w / 256) ∷ []
 
 -- the sum of the words of a list of bytes
-unfoldable pub wordSum : List ℕ → ℕ
-wordSum [] = 0
-wordSum (a ∷ []) = a
-wordSum (a ∷ (b ∷ r)) = a + 256 * b + wordSum r
+unfoldable pub word_sum : List ℕ → ℕ
+word_sum [] = 0
+word_sum (a ∷ []) = a
+word_sum (a ∷ (b ∷ r)) = a + 256 * b + word_sum r
 
 -- a list of bytes, as every lent slice of u8 is
 abbrev pub Bytes : List ℕ → Type 0

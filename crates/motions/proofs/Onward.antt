@@ -1,6 +1,6 @@
 -- What holds of every end of a stage, and of all that goes on from its record, holds of the two together.
 use Prim.Native.Nat.{ℕ}
-use Rattle.motions.specs.Reads.{onRecord}
+use Rattle.motions.specs.Reads.{on_record}
 use Rattle.motions.specs.declared.parts.Motion.{Motion}
 use Rattle.motions.specs.declared.parts.Motion.TheVariants as motion
 use Rattle.motions.specs.declared.reads.Stage.{Stage}
@@ -12,8 +12,8 @@ StageHas P R (stage.Record n q) = R n q
 StageHas P R (stage.Over x) = P (motion.Ended x)
 StageHas P R (stage.Bad why k) = P (motion.Fault why k)
 
-pub on-record : (P : Motion → Type 0) (R : ℕ → ℕ → Type 0) (x : Stage) (f : ℕ → ℕ → Motion) → StageHas P R x → ((n q : ℕ) → R n q → P (f n q)) → P (onRecord x f)
-unfolding onRecord
-on-record P R (stage.Record n q) f h on = on n q h
-on-record P R (stage.Over x) f h on = h
-on-record P R (stage.Bad why k) f h on = h
+pub on_record_lem : (P : Motion → Type 0) (R : ℕ → ℕ → Type 0) (x : Stage) (f : ℕ → ℕ → Motion) → StageHas P R x → ((n q : ℕ) → R n q → P (f n q)) → P (on_record x f)
+unfolding on_record
+on_record_lem P R (stage.Record n q) f h on = on n q h
+on_record_lem P R (stage.Over x) f h on = h
+on_record_lem P R (stage.Bad why k) f h on = h

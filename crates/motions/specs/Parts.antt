@@ -20,30 +20,30 @@ end class found xst3 left = record { class = class; found = found; xst3 = xst3; 
 abbrev pub standing : ℕ → ℕ → Tape
 standing p e = record { position = p; end = e }
 
-abbrev pub noMove : Moved
-noMove = record { first = 0; length = 0; reverse = false; pointer = 0; count = 0; swb = false }
+abbrev pub no_move : Moved
+no_move = record { first = 0; length = 0; reverse = false; pointer = 0; count = 0; swb = false }
 
-abbrev pub noLay : Laid
-noLay = record { at = 0; gap_first = false; object = kind.Nothing; pointer = 0; length = 0; swb = false }
+abbrev pub no_lay : Laid
+no_lay = record { at = 0; gap_first = false; object = kind.Nothing; pointer = 0; length = 0; swb = false }
 
 -- an end that moves and lays nothing
 abbrev pub resting : End → Tape → Ending
-resting x t = record { end = x; tape = t; moved = noMove; laid = noLay }
+resting x t = record { end = x; tape = t; moved = no_move; laid = no_lay }
 
 abbrev pub stops : End → Tape → Motion
 stops x t = motion.Ended (resting x t)
 
 -- the blocks of what is laid
-unfoldable pub objectBlocks : ObjectKind → ℕ → ℕ
-objectBlocks kind.Nothing n = 0
-objectBlocks kind.Mark n = 1
-objectBlocks kind.Gap n = 1
-objectBlocks kind.Record n = pieces_of n
+unfoldable pub object_blocks : ObjectKind → ℕ → ℕ
+object_blocks kind.Nothing n = 0
+object_blocks kind.Mark n = 1
+object_blocks kind.Gap n = 1
+object_blocks kind.Record n = pieces_of n
 
 -- "gap and object together" for a retry
-unfoldable pub laidBlocks : Laid → ℕ
-laidBlocks l = pick l.gap_first (objectBlocks l.object l.length + 1) (objectBlocks l.object l.length)
+unfoldable pub laid_blocks : Laid → ℕ
+laid_blocks l = pick l.gap_first (object_blocks l.object l.length + 1) (object_blocks l.object l.length)
 
 -- the memory bytes that a Read stores
-unfoldable pub movedLength : Moved → ℕ
-movedLength m = min m.length m.count
+unfoldable pub moved_length : Moved → ℕ
+moved_length m = min m.length m.count

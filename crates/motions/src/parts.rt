@@ -1,7 +1,7 @@
 // The parts of what a command is about to do: what is moved to memory and what is laid on the reel.
 ghost use Rattle.std.specs.Prelude.{◌≡◌, ◌+◌, ◌≤◌};
-ghost use Rattle.tape.specs.Numbers.{capacityLimit};
-ghost use Rattle.motions.specs.Parts.{laidBlocks, movedLength, noLay, noMove, objectBlocks, resting};
+ghost use Rattle.tape.specs.Numbers.{capacity_limit};
+ghost use Rattle.motions.specs.Parts.{laid_blocks, moved_length, no_lay, no_move, object_blocks, resting};
 
 use signals::End;
 use state::Tape;
@@ -55,7 +55,7 @@ pub enum Motion {
 }
 
 pub fn no_move() -> Moved
-    ensures { result ≡ noMove }
+    ensures { result ≡ no_move }
 {
     Moved {
         first: 0,
@@ -68,7 +68,7 @@ pub fn no_move() -> Moved
 }
 
 pub fn no_lay() -> Laid
-    ensures { result ≡ noLay }
+    ensures { result ≡ no_lay }
 {
     Laid {
         at: 0,
@@ -95,8 +95,8 @@ pub fn rest(end: End, tape: Tape) -> Ending
 }
 
 fn object_blocks(o: ObjectKind, length: u16) -> usize
-    ensures is { result ≡ objectBlocks o length }
-    ensures low { result ≤ capacityLimit }
+    ensures is { result ≡ object_blocks o length }
+    ensures low { result ≤ capacity_limit }
 {
     match o {
         ObjectKind::Nothing => 0,
@@ -108,8 +108,8 @@ fn object_blocks(o: ObjectKind, length: u16) -> usize
 
 // How many blocks are laid.
 pub fn laid_blocks(l: Laid) -> usize
-    ensures is { result ≡ laidBlocks l }
-    ensures low { result ≤ capacityLimit + 1 }
+    ensures is { result ≡ laid_blocks l }
+    ensures low { result ≤ capacity_limit + 1 }
 {
     let o = l.object;
     let n = object_blocks(o, l.length);
@@ -118,7 +118,7 @@ pub fn laid_blocks(l: Laid) -> usize
 
 // How many memory bytes a Read stores.
 pub fn moved_bytes(m: Moved) -> usize
-    ensures { result ≡ movedLength m }
+    ensures { result ≡ moved_length m }
 {
     lists::least(m.length, m.count as usize)
 }

@@ -1,6 +1,6 @@
 // Read: one stage, or two for a reread.
 ghost use Rattle.std.specs.Prelude.{◌≡◌};
-ghost use Rattle.motions.specs.Reads.{firstBlock, markEnd, nothingEnd, readEnd, readMotion, readOne, readThenSpace, reread, spaceBack, spaceThenRead, stageOf};
+ghost use Rattle.motions.specs.Reads.{first_block, mark_end, nothing_end, read_end, read_motion, read_one, read_then_space, reread, space_back, space_then_read, stage_of};
 
 use crate::parts::{Ending, Motion, Moved, no_lay, rest};
 use moves::{Sought, seek};
@@ -26,7 +26,7 @@ pub enum Stage {
 
 // A record of n bytes against the count: RLS if shorter, RLL if longer, class 2 for both.
 fn read_end(n: usize, count: ByteCount, rev: bool) -> End
-    ensures { result ≡ readEnd n count rev }
+    ensures { result ≡ read_end n count rev }
 {
     let c = count.0 as usize;
     let class = if n == c { 0 } else { 2 };
@@ -44,7 +44,7 @@ fn read_end(n: usize, count: ByteCount, rev: bool) -> End
 
 // A mark: TMK, RLS, class 2.
 fn mark_end(count: ByteCount, rev: bool) -> End
-    ensures { result ≡ markEnd count rev }
+    ensures { result ≡ mark_end count rev }
 {
     let xst3 = flag(rev, signals::REV);
     let residual = Residual::Bytes(count);
@@ -58,7 +58,7 @@ fn mark_end(count: ByteCount, rev: bool) -> End
 
 // Nothing left: OPI and class 6 forward, RIB and class 2 in reverse.
 fn nothing_end(count: ByteCount, reverse: bool) -> End
-    ensures { result ≡ nothingEnd count reverse }
+    ensures { result ≡ nothing_end count reverse }
 {
     let residual = Residual::Bytes(count);
     if reverse {
@@ -79,7 +79,7 @@ fn nothing_end(count: ByteCount, reverse: bool) -> End
 
 // Seek, and say how the command ends where no record is found.
 fn run_stage(reel: &[u8], t: Tape, count: ByteCount, reverse: bool) -> Stage
-    ensures { result ≡ stageOf reel.now t count reverse }
+    ensures { result ≡ stage_of reel.now t count reverse }
 {
     match seek(reel, reverse, t.position, t.end) {
         Sought::Record(n, q) => Stage::Record(n, q),
@@ -103,7 +103,7 @@ fn run_stage(reel: &[u8], t: Tape, count: ByteCount, reverse: bool) -> Stage
 
 // The first block of the record of n bytes beyond which the position is q.
 fn first_block(reverse: bool, n: usize, q: usize) -> usize
-    ensures { result ≡ firstBlock reverse n q }
+    ensures { result ≡ first_block reverse n q }
 {
     if reverse {
         return q;
@@ -114,7 +114,7 @@ fn first_block(reverse: bool, n: usize, q: usize) -> usize
 
 // The record's bytes go to the buffer by the direction of the read, and the tape stands at `position` after the last stage.
 fn read_motion(r: Buffer, reverse: bool, n: usize, q: usize, t: Tape, rev: bool) -> Motion
-    ensures { result ≡ readMotion r reverse n q t rev }
+    ensures { result ≡ read_motion r reverse n q t rev }
 {
     let count = r.count;
     let end = read_end(n, count, rev);
@@ -137,7 +137,7 @@ fn read_motion(r: Buffer, reverse: bool, n: usize, q: usize, t: Tape, rev: bool)
 }
 
 pub fn read_one(reel: &[u8], t: Tape, r: Buffer, reverse: bool) -> Motion
-    ensures { result ≡ readOne reel.now t r reverse }
+    ensures { result ≡ read_one reel.now t r reverse }
 {
     match run_stage(reel, t, r.count, reverse) {
         Stage::Record(n, q) => read_motion(
@@ -158,7 +158,7 @@ pub fn read_one(reel: &[u8], t: Tape, r: Buffer, reverse: bool) -> Motion
 
 // Space, then read back over it.
 fn space_then_read(reel: &[u8], t: Tape, r: Buffer, reverse: bool) -> Motion
-    ensures { result ≡ spaceThenRead reel.now t r reverse }
+    ensures { result ≡ space_then_read reel.now t r reverse }
 {
     match run_stage(reel, t, r.count, reverse) {
         Stage::Record(_, q) => read_one(
@@ -177,7 +177,7 @@ fn space_then_read(reel: &[u8], t: Tape, r: Buffer, reverse: bool) -> Motion
 
 // The space back after a read, for OPP.
 fn space_back(reel: &[u8], e: usize, r: Buffer, reverse: bool, n: usize, q: usize) -> Motion
-    ensures { result ≡ spaceBack reel.now e r reverse n q }
+    ensures { result ≡ space_back reel.now e r reverse n q }
 {
     match run_stage(
         reel,
@@ -206,7 +206,7 @@ fn space_back(reel: &[u8], e: usize, r: Buffer, reverse: bool, n: usize, q: usiz
 
 // Read, then space back over it: OPP.
 fn read_then_space(reel: &[u8], t: Tape, r: Buffer, reverse: bool) -> Motion
-    ensures { result ≡ readThenSpace reel.now t r reverse }
+    ensures { result ≡ read_then_space reel.now t r reverse }
 {
     match run_stage(reel, t, r.count, reverse) {
         Stage::Record(n, q) => space_back(reel, t.end, r, reverse, n, q),

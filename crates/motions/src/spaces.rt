@@ -1,7 +1,7 @@
 // Position: records and marks, forward and in reverse.
 ghost use Rattle.std.specs.Prelude.{◌≡◌, ◌≤◌};
-ghost use Rattle.tape.specs.Numbers.{capacityLimit};
-ghost use Rattle.motions.specs.Spaces.{positioned, residualOf, spaceEnd, spaceMotion};
+ghost use Rattle.tape.specs.Numbers.{capacity_limit};
+ghost use Rattle.motions.specs.Spaces.{positioned, residual_of, space_end, space_motion};
 
 use crate::parts::{Ending, Motion, no_lay, no_move};
 use moves::{Count, Rule, Spaced, Span, Stop, none_left, space};
@@ -9,7 +9,7 @@ use signals::{End, Residual, flag};
 use state::Tape;
 
 fn residual_of(left: Count) -> Residual
-    ensures { result ≡ residualOf left }
+    ensures { result ≡ residual_of left }
 {
     match left {
         Count::Records(n) => Residual::Records(n),
@@ -19,7 +19,7 @@ fn residual_of(left: Count) -> Residual
 
 // How a stop ends the command; RLS if BOT or LET left any count.
 fn space_end(r: Rule, s: Span, stop: Stop) -> End
-    ensures { result ≡ spaceEnd r s stop }
+    ensures { result ≡ space_end r s stop }
 {
     let count = s.left;
     let residual = residual_of(count);
@@ -70,7 +70,7 @@ fn space_end(r: Rule, s: Span, stop: Stop) -> End
 }
 
 fn space_motion(r: Rule, x: Spaced, e: usize) -> Motion
-    ensures { result ≡ spaceMotion r x e }
+    ensures { result ≡ space_motion r x e }
 {
     let stop = x.stop;
     let span = x.span;
@@ -94,7 +94,7 @@ fn space_motion(r: Rule, x: Spaced, e: usize) -> Motion
 
 // A count of 0 moves nothing and no stage runs. With ENB a mark met first from block 0 counts as the second in a row.
 pub fn position(reel: &[u8], t: Tape, r: Rule, count: Count, enb: bool) -> Motion
-    requires { t.end ≤ capacityLimit }
+    requires { t.end ≤ capacity_limit }
     ensures { result ≡ positioned reel.now t r count enb }
 {
     if none_left(count) {

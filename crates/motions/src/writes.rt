@@ -1,7 +1,7 @@
 // Write and Format: the object goes where the tape stands, or for a retry, behind a gap, where the last object stood.
 ghost use Rattle.std.specs.Prelude.{◌≡◌, ◌+◌, ◌≤◌};
-ghost use Rattle.motions.specs.Parts.{laidBlocks};
-ghost use Rattle.motions.specs.Writes.{behindGap, noRoom, retried, writtenAt, writtenMotion};
+ghost use Rattle.motions.specs.Parts.{laid_blocks};
+ghost use Rattle.motions.specs.Writes.{behind_gap, no_room, retried, written_at, written_motion};
 
 use crate::parts::{Ending, Laid, Motion, laid_blocks, no_lay, no_move};
 use moves::{Sought, seek};
@@ -11,7 +11,7 @@ use tape::Geometry;
 
 // Step 11: the object doesn't fit the reel: NEF, class 3, unmoved. (EOT shows by the position.)
 fn no_room(t: Tape) -> Motion
-    ensures { result ≡ noRoom t }
+    ensures { result ≡ no_room t }
 {
     let residual = Residual::Nothing;
     let end = End {
@@ -32,8 +32,8 @@ fn no_room(t: Tape) -> Motion
 
 // Carried out: class 2 if it ends at or past EOT. A written mark sets TMK.
 fn written_motion(l: Laid, blocks: usize, mark: bool) -> Motion
-    requires { l.at + laidBlocks l ≤ blocks }
-    ensures { result ≡ writtenMotion l blocks mark }
+    requires { l.at + laid_blocks l ≤ blocks }
+    ensures { result ≡ written_motion l blocks mark }
 {
     let after = l.at + laid_blocks(l);
     let marker = Geometry { capacity: blocks }.marker();
@@ -60,7 +60,7 @@ fn written_motion(l: Laid, blocks: usize, mark: bool) -> Motion
 }
 
 pub fn write_at(t: Tape, blocks: usize, l: Laid, mark: bool) -> Motion
-    ensures { result ≡ writtenAt t blocks l mark }
+    ensures { result ≡ written_at t blocks l mark }
 {
     if blocks < l.at {
         return no_room(t);
@@ -72,7 +72,7 @@ pub fn write_at(t: Tape, blocks: usize, l: Laid, mark: bool) -> Motion
 }
 
 fn behind_gap(l: Laid, q: usize) -> Laid
-    ensures { result ≡ behindGap l q }
+    ensures { result ≡ behind_gap l q }
 {
     let object = l.object;
     Laid {

@@ -9,11 +9,11 @@ use Rattle.lists.specs.Pick.{pick}
 use Rattle.tape.specs.Objects.{AllAllowed, Holds, Object, gap, mark, record_of}
 use Rattle.tape.specs.Pass.{ahead}
 use Rattle.tape.proofs.Accepted.{clash}
-use Rattle.tape.proofs.Within.{Onward, fewer-ahead}
+use Rattle.tape.proofs.Within.{Onward, fewer_ahead}
 use Rattle.tape.specs.declared.BlockFault.{BlockFault}
-use Rattle.moves.specs.Between.{Between, Bound, Gaps, countIn, no_gap, one-gap, withGaps}
-use Rattle.moves.specs.Counting.{howMany, ofMarks}
-use Rattle.moves.specs.Spacing.{markTurn, recordTurn, spaced, spacedUnder, turn_of}
+use Rattle.moves.specs.Between.{Between, Bound, Gaps, count_in, no_gap, one_gap, with_gaps}
+use Rattle.moves.specs.Counting.{how_many, of_marks}
+use Rattle.moves.specs.Spacing.{mark_turn, record_turn, spaced, spaced_under, turn_of}
 use Rattle.moves.specs.declared.seeking.Sought.{Sought}
 use Rattle.moves.specs.declared.seeking.Sought.TheVariants as sought-as
 use Rattle.moves.specs.declared.spacing.Rule.{Rule}
@@ -21,34 +21,34 @@ use Rattle.moves.specs.declared.spacing.Spaced.{Spaced}
 use Rattle.moves.specs.declared.spacing.Span.{Span}
 use Rattle.moves.specs.declared.spacing.Stop.TheVariants as stop-as
 use Rattle.moves.specs.declared.spacing.Turn.{Turn}
-use Rattle.moves.proofs.Bounds.{bound-to, joins, stays}
-use Rattle.moves.specs.Finding.{Finds, finds-mark, finds-nothing, finds-record}
-use Rattle.moves.proofs.Finds.{ahead-most, finds}
-use Rattle.moves.proofs.Counting.{mark-number, mark-stops-number, record-number}
+use Rattle.moves.proofs.Bounds.{bound_to, joins, stays}
+use Rattle.moves.specs.Finding.{Finds, finds_mark, finds_nothing, finds_record}
+use Rattle.moves.proofs.Finds.{ahead_most, finds}
+use Rattle.moves.proofs.Counting.{mark_number, mark_stops_number, record_number}
 use Rattle.moves.proofs.Rounds.{rounds}
-use Rattle.moves.proofs.Turns.{Counts, TurnHas, mark-turns, turn_more, turnAt}
-use Rattle.moves.proofs.Within.{SoughtIn, sought-in}
+use Rattle.moves.proofs.Turns.{Counts, TurnHas, mark_turns, turn_more, turn_at}
+use Rattle.moves.proofs.Within.{SoughtIn, sought_in}
 
-count-both : (marks : Bool) (xs ys : List Object) → countIn marks (xs ++ ys) ≡ countIn marks xs + countIn marks ys
-unfolding countIn
-count-both marks [] ys = omega arith
-count-both marks (record_of d ∷ xs) ys = omega (arith, count-both marks xs ys)
-count-both marks (mark ∷ xs) ys = omega (arith, count-both marks xs ys)
-count-both marks (gap ∷ xs) ys = count-both marks xs ys
+count_both : (marks : Bool) (xs ys : List Object) → count_in marks (xs ++ ys) ≡ count_in marks xs + count_in marks ys
+unfolding count_in
+count_both marks [] ys = omega arith
+count_both marks (record_of d ∷ xs) ys = omega (arith, count_both marks xs ys)
+count_both marks (mark ∷ xs) ys = omega (arith, count_both marks xs ys)
+count_both marks (gap ∷ xs) ys = count_both marks xs ys
 
-count-gaps : (marks : Bool) {gaps : List Object} → Gaps gaps → countIn marks gaps ≡ 0
-unfolding countIn
-count-gaps marks no_gap = refl
-count-gaps marks (one-gap g) = count-gaps marks g
+count_gaps : (marks : Bool) {gaps : List Object} → Gaps gaps → count_in marks gaps ≡ 0
+unfolding count_in
+count_gaps marks no_gap = refl
+count_gaps marks (one_gap g) = count_gaps marks g
 
 -- gaps are not counted, on either side
-count-found : (marks reverse : Bool) {gaps : List Object} (o : Object) → Gaps gaps → countIn marks (withGaps reverse gaps o) ≡ countIn marks (o ∷ [])
-count-found marks true {gaps} o g = omega (arith, count-both marks (o ∷ []) gaps, count-gaps marks g)
-count-found marks false {gaps} o g = omega (arith, count-both marks gaps (o ∷ []), count-gaps marks g)
+count_found : (marks reverse : Bool) {gaps : List Object} (o : Object) → Gaps gaps → count_in marks (with_gaps reverse gaps o) ≡ count_in marks (o ∷ [])
+count_found marks true {gaps} o g = omega (arith, count_both marks (o ∷ []) gaps, count_gaps marks g)
+count_found marks false {gaps} o g = omega (arith, count_both marks gaps (o ∷ []), count_gaps marks g)
 
 -- from the span x to the span y, objects were passed: those counted and what is left make up what was left before
 abbrev pub Counted : List Object → Bool → Bool → Span → Span → Type 0
-Counted os reverse marks x y = (mid : List Object) × Between os reverse x.position y.position mid × (countIn marks mid + howMany y.left ≡ howMany x.left)
+Counted os reverse marks x y = (mid : List Object) × Between os reverse x.position y.position mid × (count_in marks mid + how_many y.left ≡ how_many x.left)
 
 abbrev NoFault : Spaced → Type 0
 NoFault z = (why : BlockFault) (k : ℕ) → z.stop ≡ stop-as.Bad why k → ⊥
@@ -58,84 +58,84 @@ abbrev Turned : List Object → Bool → Bool → Span → Turn → Type 0
 Turned os reverse marks x t = TurnHas (Counted os reverse marks x) (λ z. Counted os reverse marks x z.span × NoFault z) t
 
 -- a record counts as one where records are counted, a mark where marks are
-one-record : (marks : Bool) (d : List ℕ) → countIn marks (record_of d ∷ []) ≡ pick marks 0 1
-unfolding countIn
-one-record marks d = omega arith
+one_record : (marks : Bool) (d : List ℕ) → count_in marks (record_of d ∷ []) ≡ pick marks 0 1
+unfolding count_in
+one_record marks d = omega arith
 
-one-mark : (marks : Bool) → countIn marks (mark ∷ []) ≡ pick marks 1 0
-unfolding countIn
-one-mark marks = omega arith
+one_mark : (marks : Bool) → count_in marks (mark ∷ []) ≡ pick marks 1 0
+unfolding count_in
+one_mark marks = omega arith
 
-module _ {os : List Object} (r : Rule) (y : Span) (some : howMany y.left ≡ 0 → ⊥) where
-  mark-done : {gaps : List Object} {q : ℕ} → Gaps gaps → Between os r.reverse y.position q (withGaps r.reverse gaps mark) → Turned os r.reverse (ofMarks y.left) y (markTurn r y q)
-  mark-done {gaps} {q} g b =
-      let one = count-found (ofMarks y.left) r.reverse mark g ∙ one-mark (ofMarks y.left) in
-      mark-turns (Turned os r.reverse (ofMarks y.left) y) r y q
-      (λ n e. ((withGaps r.reverse gaps mark, b, omega (arith, one, mark-stops-number n e)), λ why k z. clash (cc)))
-      (λ n e w. ((withGaps r.reverse gaps mark, b, omega (arith, one, mark-number n e some)), λ why k z. clash (cc)))
-      (λ n e w. (withGaps r.reverse gaps mark, b, omega (arith, one, mark-number n e some)))
+module _ {os : List Object} (r : Rule) (y : Span) (some : how_many y.left ≡ 0 → ⊥) where
+  mark_done : {gaps : List Object} {q : ℕ} → Gaps gaps → Between os r.reverse y.position q (with_gaps r.reverse gaps mark) → Turned os r.reverse (of_marks y.left) y (mark_turn r y q)
+  mark_done {gaps} {q} g b =
+      let one = count_found (of_marks y.left) r.reverse mark g ∙ one_mark (of_marks y.left) in
+      mark_turns (Turned os r.reverse (of_marks y.left) y) r y q
+      (λ n e. ((with_gaps r.reverse gaps mark, b, omega (arith, one, mark_stops_number n e)), λ why k z. clash (cc)))
+      (λ n e w. ((with_gaps r.reverse gaps mark, b, omega (arith, one, mark_number n e some)), λ why k z. clash (cc)))
+      (λ n e w. (with_gaps r.reverse gaps mark, b, omega (arith, one, mark_number n e some)))
 
-  turn-done : {f : Sought} → Finds os r.reverse y.position f → Turned os r.reverse (ofMarks y.left) y (turn_of r y f)
-  unfolding turn_of recordTurn
-  turn-done (finds-record d {gaps} g b) =
-      let one = count-found (ofMarks y.left) r.reverse (record_of d) g ∙ one-record (ofMarks y.left) d in
-      (withGaps r.reverse gaps (record_of d), b, omega (arith, one, record-number y.left some))
-  turn-done (finds-mark g b) = mark-done g b
-  turn-done (finds-nothing {gaps = gaps} g b z) = ((gaps, b, omega (arith, count-gaps (ofMarks y.left) g)), λ why k e. clash (cc))
+  turn_done : {f : Sought} → Finds os r.reverse y.position f → Turned os r.reverse (of_marks y.left) y (turn_of r y f)
+  unfolding turn_of record_turn
+  turn_done (finds_record d {gaps} g b) =
+      let one = count_found (of_marks y.left) r.reverse (record_of d) g ∙ one_record (of_marks y.left) d in
+      (with_gaps r.reverse gaps (record_of d), b, omega (arith, one, record_number y.left some))
+  turn_done (finds_mark g b) = mark_done g b
+  turn_done (finds_nothing {gaps = gaps} g b z) = ((gaps, b, omega (arith, count_gaps (of_marks y.left) g)), λ why k e. clash (cc))
 
 -- one after the other
 done_more : {os : List Object} (reverse marks : Bool) → AllAllowed os → (x y z : Span) → Counted os reverse marks x y → Counted os reverse marks y z → Counted os reverse marks x z
-done_more true marks h x y z a b = (b.0 ++ a.0, joins true h a.1 b.1, omega (arith, count-both marks b.0 a.0, a.2, b.2))
-done_more false marks h x y z a b = (a.0 ++ b.0, joins false h a.1 b.1, omega (arith, count-both marks a.0 b.0, a.2, b.2))
+done_more true marks h x y z a b = (b.0 ++ a.0, joins true h a.1 b.1, omega (arith, count_both marks b.0 a.0, a.2, b.2))
+done_more false marks h x y z a b = (a.0 ++ b.0, joins false h a.1 b.1, omega (arith, count_both marks a.0 b.0, a.2, b.2))
 
 module _ {s : List ℕ} {e : ℕ} {os : List Object} (h : Holds s e os) (r : Rule) (x : Span) where
   abbrev Since : Span → Type 0
-  Since y = Counted os r.reverse (ofMarks x.left) x y
+  Since y = Counted os r.reverse (of_marks x.left) x y
 
-  turn_on : (y : Span) → Counts (ofMarks x.left) y → Since y → (howMany y.left ≡ 0 → ⊥) → Turned os r.reverse (ofMarks x.left) x (turnAt s r e y)
+  turn_on : (y : Span) → Counts (of_marks x.left) y → Since y → (how_many y.left ≡ 0 → ⊥) → Turned os r.reverse (of_marks x.left) x (turn_at s r e y)
   turn_on y k i n =
-      let more : (z : Span) → Counted os r.reverse (ofMarks x.left) y z → Since z = λ z j. done_more r.reverse (ofMarks x.left) h.allowed x y z i j in
-      turn_more _ _ _ _ more (λ z j. (more z.span j.0, j.1)) (turnAt s r e y) (rw k at (turn-done r y n (finds h r.reverse (bound-to r.reverse i.1))))
+      let more : (z : Span) → Counted os r.reverse (of_marks x.left) y z → Since z = λ z j. done_more r.reverse (of_marks x.left) h.allowed x y z i j in
+      turn_more _ _ _ _ more (λ z j. (more z.span j.0, j.1)) (turn_at s r e y) (rw k at (turn_done r y n (finds h r.reverse (bound_to r.reverse i.1))))
 
   all_done : Bound os x.position → Since (spaced s r e x).span × NoFault (spaced s r e x)
-  unfolding spacedUnder countIn
+  unfolding spaced_under count_in
   all_done b =
-      rounds s r e (ofMarks x.left) (λ _ y. Since y) (λ z. Since z.span × NoFault z) (λ turns y k i n. turn_on y k i n) (λ turns y i w. (i, λ why k z. clash (cc)))
+      rounds s r e (of_marks x.left) (λ _ y. Since y) (λ z. Since z.span × NoFault z) (λ turns y k i n. turn_on y k i n) (λ turns y i w. (i, λ why k z. clash (cc)))
       (e + 1) x refl ([], stays r.reverse b, omega arith)
 
-  pub spaced-sound : Bound os x.position → (why : BlockFault) (k : ℕ) → (spaced s r e x).stop ≡ stop-as.Bad why k → ⊥
-  spaced-sound b = (all_done b).1
+  pub spaced_sound : Bound os x.position → (why : BlockFault) (k : ℕ) → (spaced s r e x).stop ≡ stop-as.Bad why k → ⊥
+  spaced_sound b = (all_done b).1
 
   -- done and residual make up the count asked
-  pub spaced-between : Bound os x.position → (mid : List Object) × Between os r.reverse x.position (spaced s r e x).span.position mid × (countIn (ofMarks x.left) mid + howMany (spaced s r e x).span.left ≡ howMany x.left)
-  spaced-between b = (all_done b).0
+  pub spaced_between : Bound os x.position → (mid : List Object) × Between os r.reverse x.position (spaced s r e x).span.position mid × (count_in (of_marks x.left) mid + how_many (spaced s r e x).span.left ≡ how_many x.left)
+  spaced_between b = (all_done b).0
 
-  pub spaced-bound : Bound os x.position → Bound os (spaced s r e x).span.position
-  spaced-bound b = bound-to r.reverse (spaced-between b).1
+  pub spaced_bound : Bound os x.position → Bound os (spaced s r e x).span.position
+  spaced_bound b = bound_to r.reverse (spaced_between b).1
 
 -- a turn that goes on passes a block or more, and one that is over says another reason than the count
 abbrev Onwards : Rule → ℕ → Span → Turn → Type 0
 Onwards r e y t = TurnHas (λ z. Onward r.reverse y.position e z.position) (λ z. z.stop ≡ stop-as.Count → ⊥) t
 
-turn-moves : (r : Rule) (e : ℕ) (y : Span) (f : Sought) → SoughtIn r.reverse y.position e f → Onwards r e y (turn_of r y f)
-unfolding turn_of recordTurn
-turn-moves r e y (sought-as.Record n q) i = i.1
-turn-moves r e y (sought-as.Mark q) i = mark-turns (Onwards r e y) r y q (λ n c z. clash (cc)) (λ n c w z. clash (cc)) (λ n c w. i)
-turn-moves r e y (sought-as.Nothing q) i = λ z. clash (cc)
-turn-moves r e y (sought-as.Bad why k) i = λ z. clash (cc)
+turn_moves : (r : Rule) (e : ℕ) (y : Span) (f : Sought) → SoughtIn r.reverse y.position e f → Onwards r e y (turn_of r y f)
+unfolding turn_of record_turn
+turn_moves r e y (sought-as.Record n q) i = i.1
+turn_moves r e y (sought-as.Mark q) i = mark_turns (Onwards r e y) r y q (λ n c z. clash (cc)) (λ n c w z. clash (cc)) (λ n c w. i)
+turn_moves r e y (sought-as.Nothing q) i = λ z. clash (cc)
+turn_moves r e y (sought-as.Bad why k) i = λ z. clash (cc)
 
 -- so that the turns never run out before the count does
 module _ (s : List ℕ) (r : Rule) (e : ℕ) where
   abbrev Enough : ℕ → Span → Type 0
   Enough turns y = (y.position ≤ e) × (ahead r.reverse y.position e < turns)
 
-  turn-enough : (turns : ℕ) (y : Span) → Enough (suc turns) y → TurnHas (Enough turns) (λ z. z.stop ≡ stop-as.Count → howMany z.span.left ≡ 0) (turnAt s r e y)
-  turn-enough turns y i =
-      turn_more _ _ _ _ (λ z o. (o.below, omega (arith, i.1, fewer-ahead r.reverse y.position e z.position i.0 o))) (λ z n k. absurd (n k)) (turnAt s r e y)
-      (turn-moves r e y _ (sought-in s r.reverse y.position e i.0))
+  turn_enough : (turns : ℕ) (y : Span) → Enough (suc turns) y → TurnHas (Enough turns) (λ z. z.stop ≡ stop-as.Count → how_many z.span.left ≡ 0) (turn_at s r e y)
+  turn_enough turns y i =
+      turn_more _ _ _ _ (λ z o. (o.below, omega (arith, i.1, fewer_ahead r.reverse y.position e z.position i.0 o))) (λ z n k. absurd (n k)) (turn_at s r e y)
+      (turn_moves r e y _ (sought_in s r.reverse y.position e i.0))
 
-  pub spaced-why : (x : Span) → x.position ≤ e → (spaced s r e x).stop ≡ stop-as.Count → howMany (spaced s r e x).span.left ≡ 0
-  unfolding spacedUnder
-  spaced-why x h =
-      rounds s r e (ofMarks x.left) Enough (λ z. z.stop ≡ stop-as.Count → howMany z.span.left ≡ 0) (λ turns y k i n. turn-enough turns y i) (λ turns y i w k. ⊎_elim (λ z. absurd (omega arith)) (λ z. z) w)
-      (e + 1) x refl (h, omega (arith, ahead-most r.reverse x.position e h))
+  pub spaced_why : (x : Span) → x.position ≤ e → (spaced s r e x).stop ≡ stop-as.Count → how_many (spaced s r e x).span.left ≡ 0
+  unfolding spaced_under
+  spaced_why x h =
+      rounds s r e (of_marks x.left) Enough (λ z. z.stop ≡ stop-as.Count → how_many z.span.left ≡ 0) (λ turns y k i n. turn_enough turns y i) (λ turns y i w k. ⊎_elim (λ z. absurd (omega arith)) (λ z. z) w)
+      (e + 1) x refl (h, omega (arith, ahead_most r.reverse x.position e h))

@@ -6,9 +6,9 @@ use Prim.Native.Nat.{ℕ, ◌-◌}
 use Rattle.lists.specs.Pick.{pick}
 use Rattle.signals.specs.declared.counts.MarkCount.{MarkCount}
 use Rattle.signals.specs.declared.counts.RecordCount.{RecordCount}
-use Rattle.moves.specs.Counting.{marks, ofMarks}
+use Rattle.moves.specs.Counting.{marks, of_marks}
 use Rattle.moves.specs.Seeking.{sought}
-use Rattle.moves.specs.Spacing.{markTurn, markTurnBy, recordTurn, skipTurn, span, stopped, turn_of}
+use Rattle.moves.specs.Spacing.{mark_turn, mark_turn_by, record_turn, skip_turn, span, stopped, turn_of}
 use Rattle.moves.specs.declared.seeking.Sought.{Sought}
 use Rattle.moves.specs.declared.seeking.Sought.TheVariants as sought-as
 use Rattle.moves.specs.declared.spacing.Count.{Count}
@@ -19,11 +19,11 @@ use Rattle.moves.specs.declared.spacing.Span.{Span}
 use Rattle.moves.specs.declared.spacing.Stop.TheVariants as stop-as
 use Rattle.moves.specs.declared.spacing.Turn.{Turn}
 use Rattle.moves.specs.declared.spacing.Turn.TheVariants as turn-as
-use Rattle.moves.proofs.Counting.{record-kind}
+use Rattle.moves.proofs.Counting.{record_kind}
 
 -- the turn that a space makes from y
-abbrev pub turnAt : List ℕ → Rule → ℕ → Span → Turn
-turnAt s r e y = turn_of r y (sought s r.reverse y.position e)
+abbrev pub turn_at : List ℕ → Rule → ℕ → Span → Turn
+turn_at s r e y = turn_of r y (sought s r.reverse y.position e)
 
 -- one thing of a turn that goes on, and one of the last
 abbrev pub TurnHas : (Span → Type 0) → (Spaced → Type 0) → Turn → Type 0
@@ -40,32 +40,32 @@ turn_more P P' Q Q' f g (turn-as.Over z) h = g z h
 
 -- the three things that a mark can come to from the span x
 module _ (P : Turn → Type 0) (r : Rule) (x : Span) (q : ℕ)
-    (by-mark : (n : RecordCount) → x.left ≡ count-as.Records n → P (turn-as.Over (stopped stop-as.Mark (span q (count-as.Records n) true true))))
-    (at-end : (n : MarkCount) → x.left ≡ count-as.Marks n → (r.ess && x.after_mark) ≡ true → P (turn-as.Over (stopped stop-as.LogicalEnd (span q (marks (n.0 - 1)) true true))))
+    (by_mark : (n : RecordCount) → x.left ≡ count-as.Records n → P (turn-as.Over (stopped stop-as.Mark (span q (count-as.Records n) true true))))
+    (at_end : (n : MarkCount) → x.left ≡ count-as.Marks n → (r.ess && x.after_mark) ≡ true → P (turn-as.Over (stopped stop-as.LogicalEnd (span q (marks (n.0 - 1)) true true))))
     (goes_on : (n : MarkCount) → x.left ≡ count-as.Marks n → (r.ess && x.after_mark) ≡ false → P (turn-as.On (span q (marks (n.0 - 1)) true true))) where
   skip_by : (n : MarkCount) → x.left ≡ count-as.Marks n → (b : Bool) → (r.ess && x.after_mark) ≡ b
       → P (pick b (turn-as.Over (stopped stop-as.LogicalEnd (span q (marks (n.0 - 1)) true true))) (turn-as.On (span q (marks (n.0 - 1)) true true)))
-  skip_by n e true w = at-end n e w
+  skip_by n e true w = at_end n e w
   skip_by n e false w = goes_on n e w
 
-  mark-by : (c : Count) → x.left ≡ c → P (markTurnBy r x c q)
-  unfolding markTurnBy skipTurn
-  mark-by (count-as.Records n) e = by-mark n e
-  mark-by (count-as.Marks n) e = skip_by n e (r.ess && x.after_mark) refl
+  mark_by : (c : Count) → x.left ≡ c → P (mark_turn_by r x c q)
+  unfolding mark_turn_by skip_turn
+  mark_by (count-as.Records n) e = by_mark n e
+  mark_by (count-as.Marks n) e = skip_by n e (r.ess && x.after_mark) refl
 
-  pub mark-turns : P (markTurn r x q)
-  unfolding markTurn
-  mark-turns = mark-by x.left refl
+  pub mark_turns : P (mark_turn r x q)
+  unfolding mark_turn
+  mark_turns = mark_by x.left refl
 
 -- it counts marks, or records
 abbrev pub Counts : Bool → Span → Type 0
-Counts marks y = ofMarks y.left ≡ marks
+Counts marks y = of_marks y.left ≡ marks
 
 -- a space over records never becomes a skip over marks, nor a skip a space
-pub turn-kind : (marks : Bool) (r : Rule) (y : Span) (f : Sought) → Counts marks y → SpanHas (Counts marks) (turn_of r y f)
-unfolding turn_of recordTurn
-turn-kind marks r y (sought-as.Record n q) k = record-kind y.left ∙ k
-turn-kind marks r y (sought-as.Mark q) k =
-    mark-turns (SpanHas (Counts marks)) r y q (λ n e. ap ofMarks (sym e) ∙ k) (λ n e w. ap ofMarks (sym e) ∙ k) (λ n e w. ap ofMarks (sym e) ∙ k)
-turn-kind marks r y (sought-as.Nothing q) k = k
-turn-kind marks r y (sought-as.Bad why n) k = k
+pub turn_kind : (marks : Bool) (r : Rule) (y : Span) (f : Sought) → Counts marks y → SpanHas (Counts marks) (turn_of r y f)
+unfolding turn_of record_turn
+turn_kind marks r y (sought-as.Record n q) k = record_kind y.left ∙ k
+turn_kind marks r y (sought-as.Mark q) k =
+    mark_turns (SpanHas (Counts marks)) r y q (λ n e. ap of_marks (sym e) ∙ k) (λ n e w. ap of_marks (sym e) ∙ k) (λ n e w. ap of_marks (sym e) ∙ k)
+turn_kind marks r y (sought-as.Nothing q) k = k
+turn_kind marks r y (sought-as.Bad why n) k = k

@@ -10,14 +10,14 @@ abbrev pub marks : ℕ → Count
 marks n = count-as.Marks (record { 0 = n })
 
 -- how many, of either
-abbrev pub howMany : Count → ℕ
-howMany (count-as.Records n) = n.0
-howMany (count-as.Marks n) = n.0
+abbrev pub how_many : Count → ℕ
+how_many (count-as.Records n) = n.0
+how_many (count-as.Marks n) = n.0
 
 -- which of the two is counted
-abbrev pub ofMarks : Count → Bool
-ofMarks (count-as.Records n) = false
-ofMarks (count-as.Marks n) = true
+abbrev pub of_marks : Count → Bool
+of_marks (count-as.Records n) = false
+of_marks (count-as.Marks n) = true
 
 -- n of the one or the other
 abbrev pub count_of : Bool → ℕ → Count
@@ -25,6 +25,6 @@ count_of true n = marks n
 count_of false n = records n
 
 -- a record is counted, unless marks are
-abbrev pub afterRecord : Count → Count
-afterRecord (count-as.Records n) = records (n.0 - 1)
-afterRecord (count-as.Marks n) = count-as.Marks n
+abbrev pub after_record : Count → Count
+after_record (count-as.Records n) = records (n.0 - 1)
+after_record (count-as.Marks n) = count-as.Marks n

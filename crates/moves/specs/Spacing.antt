@@ -2,10 +2,10 @@
 -- end it, that mark counted" (01, Commands)
 use Rattle.std.specs.Prelude.{Bool, true, false, ◌&&◌, List, ℕ, suc, ◌+◌, ◌-◌, eqb}
 use Rattle.lists.specs.Pick.{pick}
-use Rattle.tape.specs.Numbers.{recordLimit}
+use Rattle.tape.specs.Numbers.{record_limit}
 use Rattle.signals.specs.declared.counts.MarkCount.{MarkCount}
-use Rattle.moves.specs.Counting.{afterRecord, howMany, marks}
-use Rattle.moves.specs.Seeking.{soughtUnder}
+use Rattle.moves.specs.Counting.{after_record, how_many, marks}
+use Rattle.moves.specs.Seeking.{sought_under}
 use Rattle.moves.specs.declared.seeking.Sought.{Sought}
 use Rattle.moves.specs.declared.seeking.Sought.TheVariants as sought-as
 use Rattle.moves.specs.declared.spacing.Count.{Count}
@@ -25,49 +25,49 @@ abbrev pub stopped : Stop → Span → Spaced
 stopped why x = record { span = x; stop = why }
 
 -- a record is counted, unless marks are
-unfoldable pub recordTurn : Span → ℕ → Turn
-recordTurn x q = turn-as.On (span q (afterRecord x.left) x.tmk false)
+unfoldable pub record_turn : Span → ℕ → Turn
+record_turn x q = turn-as.On (span q (after_record x.left) x.tmk false)
 
 -- of marks it is counted, and with ESS the second in a row ends the command
-unfoldable pub skipTurn : Rule → Span → MarkCount → ℕ → Turn
-skipTurn r x n q =
+unfoldable pub skip_turn : Rule → Span → MarkCount → ℕ → Turn
+skip_turn r x n q =
     pick (r.ess && x.after_mark)
     (turn-as.Over (stopped stop-as.LogicalEnd (span q (marks (n.0 - 1)) true true)))
     (turn-as.On (span q (marks (n.0 - 1)) true true))
 
 -- a mark stops records
-unfoldable pub markTurnBy : Rule → Span → Count → ℕ → Turn
-markTurnBy r x (count-as.Records n) q = turn-as.Over (stopped stop-as.Mark (span q (count-as.Records n) true true))
-markTurnBy r x (count-as.Marks n) q = skipTurn r x n q
+unfoldable pub mark_turn_by : Rule → Span → Count → ℕ → Turn
+mark_turn_by r x (count-as.Records n) q = turn-as.Over (stopped stop-as.Mark (span q (count-as.Records n) true true))
+mark_turn_by r x (count-as.Marks n) q = skip_turn r x n q
 
-unfoldable pub markTurn : Rule → Span → ℕ → Turn
-markTurn r x q = markTurnBy r x x.left q
+unfoldable pub mark_turn : Rule → Span → ℕ → Turn
+mark_turn r x q = mark_turn_by r x x.left q
 
 unfoldable pub turn_of : Rule → Span → Sought → Turn
-turn_of r x (sought-as.Record n q) = recordTurn x q
-turn_of r x (sought-as.Mark q) = markTurn r x q
+turn_of r x (sought-as.Record n q) = record_turn x q
+turn_of r x (sought-as.Mark q) = mark_turn r x q
 turn_of r x (sought-as.Nothing q) = turn-as.Over (stopped stop-as.Nothing (span q x.left x.tmk x.after_mark))
 turn_of r x (sought-as.Bad why k) = turn-as.Over (stopped (stop-as.Bad why k) x)
 
-unfoldable pub spacedOn : Turn → (Span → Spaced) → Spaced
-spacedOn (turn-as.On x) onward = onward x
-spacedOn (turn-as.Over y) onward = y
+unfoldable pub spaced_on : Turn → (Span → Spaced) → Spaced
+spaced_on (turn-as.On x) onward = onward x
+spaced_on (turn-as.Over y) onward = y
 
 -- under any record limit
 module _ (limit : ℕ) where
-  unfoldable pub spacedFromUnder : ℕ → List ℕ → Rule → ℕ → Span → Spaced
-  spacedFromUnder ℕ.zero s r e x = stopped stop-as.Count x
-  spacedFromUnder (suc turns) s r e x =
-      let rest = spacedOn (turn_of r x (soughtUnder limit s r.reverse x.position e)) (λ y. spacedFromUnder turns s r e y) in
-      pick (eqb (howMany x.left) 0) (stopped stop-as.Count x) rest
+  unfoldable pub spaced_from_under : ℕ → List ℕ → Rule → ℕ → Span → Spaced
+  spaced_from_under ℕ.zero s r e x = stopped stop-as.Count x
+  spaced_from_under (suc turns) s r e x =
+      let rest = spaced_on (turn_of r x (sought_under limit s r.reverse x.position e)) (λ y. spaced_from_under turns s r e y) in
+      pick (eqb (how_many x.left) 0) (stopped stop-as.Count x) rest
 
   -- each turn passes a block or more, so a turn for each block and one more are enough
-  unfoldable pub spacedUnder : List ℕ → Rule → ℕ → Span → Spaced
-  spacedUnder s r e x = spacedFromUnder (e + 1) s r e x
+  unfoldable pub spaced_under : List ℕ → Rule → ℕ → Span → Spaced
+  spaced_under s r e x = spaced_from_under (e + 1) s r e x
 
 -- and under this unit's own
-abbrev pub spacedFrom : ℕ → List ℕ → Rule → ℕ → Span → Spaced
-spacedFrom = spacedFromUnder recordLimit
+abbrev pub spaced_from : ℕ → List ℕ → Rule → ℕ → Span → Spaced
+spaced_from = spaced_from_under record_limit
 
 abbrev pub spaced : List ℕ → Rule → ℕ → Span → Spaced
-spaced = spacedUnder recordLimit
+spaced = spaced_under record_limit

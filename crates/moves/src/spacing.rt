@@ -1,7 +1,7 @@
 // Spacing over a count of records, or skipping a count of marks.
 ghost use Rattle.std.specs.Prelude.{◌≡◌, ◌<◌, ◌≤◌, eqb};
-ghost use Rattle.moves.specs.Counting.{afterRecord, howMany};
-ghost use Rattle.moves.specs.Spacing.{markTurn, recordTurn, skipTurn, spaced, turn_of};
+ghost use Rattle.moves.specs.Counting.{after_record, how_many};
+ghost use Rattle.moves.specs.Spacing.{mark_turn, record_turn, skip_turn, spaced, turn_of};
 
 use crate::seeking::{Sought, seek};
 use signals::{MarkCount, RecordCount};
@@ -54,7 +54,7 @@ pub enum Turn {
 
 // Is all of it done?
 pub fn none_left(c: Count) -> bool
-    ensures { result ≡ eqb (howMany c) 0 }
+    ensures { result ≡ eqb (how_many c) 0 }
 {
     match c {
         Count::Records(n) => n.0 == 0,
@@ -64,8 +64,8 @@ pub fn none_left(c: Count) -> bool
 
 // A record is counted, unless marks are.
 fn after_record(c: Count) -> Count
-    requires { 1 ≤ howMany c }
-    ensures { result ≡ afterRecord c }
+    requires { 1 ≤ how_many c }
+    ensures { result ≡ after_record c }
 {
     match c {
         Count::Records(n) => Count::Records(RecordCount(n.0 - 1)),
@@ -74,8 +74,8 @@ fn after_record(c: Count) -> Count
 }
 
 fn record_turn(s: Span, q: usize) -> Turn
-    requires { 1 ≤ howMany s.left }
-    ensures { result ≡ recordTurn s q }
+    requires { 1 ≤ how_many s.left }
+    ensures { result ≡ record_turn s q }
 {
     let c = s.left;
     let left = after_record(c);
@@ -90,7 +90,7 @@ fn record_turn(s: Span, q: usize) -> Turn
 // Of marks a mark is counted, and ends the command where the one before was a mark too.
 fn skip_turn(r: Rule, s: Span, n: MarkCount, q: usize) -> Turn
     requires { 1 ≤ n.0 }
-    ensures { result ≡ skipTurn r s n q }
+    ensures { result ≡ skip_turn r s n q }
 {
     let counted = Span {
         position: q,
@@ -109,8 +109,8 @@ fn skip_turn(r: Rule, s: Span, n: MarkCount, q: usize) -> Turn
 
 // A mark stops records and isn't counted.
 fn mark_turn(r: Rule, s: Span, q: usize) -> Turn
-    requires { 1 ≤ howMany s.left }
-    ensures { result ≡ markTurn r s q }
+    requires { 1 ≤ how_many s.left }
+    ensures { result ≡ mark_turn r s q }
 {
     let c = s.left;
     match c {
@@ -128,7 +128,7 @@ fn mark_turn(r: Rule, s: Span, q: usize) -> Turn
 }
 
 fn turn_over(r: Rule, s: Span, f: Sought) -> Turn
-    requires { 1 ≤ howMany s.left }
+    requires { 1 ≤ how_many s.left }
     ensures { result ≡ turn_of r s f }
 {
     match f {

@@ -7,31 +7,31 @@ use native.Mathlib.Omega.{arith}
 use borrow.Author.Tests.{ltb-true}
 use lib.Dec.{eqb, ltb}
 use lib.ListN.{get_or, length}
-use Rattle.lists.specs.Fours.{numberLimit}
+use Rattle.lists.specs.Fours.{number_limit}
 use Rattle.entries.specs.Numbers.{bit_of, is_set, nth}
 use Rattle.worlds.specs.declared.Transport.{Transport}
-use Rattle.records.specs.Records.{SmallTransport, isRecord, numbersOf, recordCount, transportIn}
+use Rattle.records.specs.Records.{SmallTransport, is_record, numbers_of, record_count, transport_in}
 
 -- a number of four bytes, and a bit
-pub low : (x : ℕ) → x < numberLimit → x % numberLimit ≡ x
+pub low : (x : ℕ) → x < number_limit → x % number_limit ≡ x
 low x h = omega arith
 
 told : (b : Bool) → not (eqb (bit_of b) 0) ≡ b
 told true = refl
 told false = refl
 
-a-flag : (b : Bool) → ltb (bit_of b) 2 ≡ true
-a-flag true = refl
-a-flag false = refl
+a_flag : (b : Bool) → ltb (bit_of b) 2 ≡ true
+a_flag true = refl
+a_flag false = refl
 
-pub length-record : (t : Transport) → length (numbersOf t) ≡ recordCount
-unfolding numbersOf
-length-record t = refl
+pub length_record : (t : Transport) → length (numbers_of t) ≡ record_count
+unfolding numbers_of
+length_record t = refl
 
 -- what a transport's record is read as
-pub transport-back : (t : Transport) → SmallTransport t → transportIn (numbersOf t) ≡ t
-unfolding numbersOf transportIn
-transport-back t h =
+pub transport_back : (t : Transport) → SmallTransport t → transport_in (numbers_of t) ≡ t
+unfolding numbers_of transport_in
+transport_back t h =
     let r = t.registers in
     let p = t.panel in
     let a = t.attention in
@@ -58,14 +58,14 @@ transport-back t h =
       low _ h.objects,
     )
 
-pub record_is : (t : Transport) → isRecord (numbersOf t) ≡ true
-unfolding isRecord numbersOf
-record_is t = simp a-flag
+pub record_is : (t : Transport) → is_record (numbers_of t) ≡ true
+unfolding is_record numbers_of
+record_is t = simp a_flag
 
 -- what numbers of four bytes are read as has numbers of at most four bytes
-pub small-in : (n : List ℕ) → ((i : ℕ) → nth n i < numberLimit) → SmallTransport (transportIn n)
-unfolding transportIn
-small-in n s =
+pub small_in : (n : List ℕ) → ((i : ℕ) → nth n i < number_limit) → SmallTransport (transport_in n)
+unfolding transport_in
+small_in n s =
     record {
       position = s 0;
       end = s 1;
@@ -84,9 +84,9 @@ shifted : (g : ℕ → ℕ) (i k : ℕ) → elements g (suc i) k ≡ elements (�
 shifted g i zero = refl
 shifted g i (suc k) = ap (λ (x : List ℕ). g (suc i) ∷ x) (shifted g (suc i) k)
 
-pub all-elements : (n : List ℕ) → elements (λ i. get_or n i 0) 0 (length n) ≡ n
-all-elements [] = refl
-all-elements (x ∷ n) = ap (λ (y : List ℕ). x ∷ y) (shifted (λ i. get_or (x ∷ n) i 0) 0 (length n) ∙ all-elements n)
+pub all_elements : (n : List ℕ) → elements (λ i. get_or n i 0) 0 (length n) ≡ n
+all_elements [] = refl
+all_elements (x ∷ n) = ap (λ (y : List ℕ). x ∷ y) (shifted (λ i. get_or (x ∷ n) i 0) 0 (length n) ∙ all_elements n)
 
 -- the tests of a record, each by itself
 both : (a b : Bool) → (a && b) ≡ true → (a ≡ true) × (b ≡ true)
@@ -108,9 +108,9 @@ record Flags (n : List ℕ) : Type 0 where
   attention : Flag n 11 × Flag n 12 × Flag n 13
   characteristics : Flag n 16 × Flag n 17 × Flag n 18
 
-flags-told : (n : List ℕ) → isRecord n ≡ true → Flags n
-unfolding isRecord
-flags-told n h =
+flags_told : (n : List ℕ) → is_record n ≡ true → Flags n
+unfolding is_record
+flags_told n h =
     let f : ℕ → Bool = λ i. ltb (nth n i) 2 in
     let a : Bool = f 4 && (f 5 && (f 6 && f 7)) in
     let b : Bool = f 8 && (f 9 && f 10) in
@@ -128,21 +128,21 @@ flags-told n h =
     }
 
 -- a flag is 0 or 1
-flag-back : (n : ℕ) → ltb n 2 ≡ true → bit_of (not (eqb n 0)) ≡ n
-flag-back zero t = refl
-flag-back (suc zero) t = refl
-flag-back (suc (suc n)) t = absurd (omega (arith, ltb-true (suc (suc n)) 2 t))
+flag_back : (n : ℕ) → ltb n 2 ≡ true → bit_of (not (eqb n 0)) ≡ n
+flag_back zero t = refl
+flag_back (suc zero) t = refl
+flag_back (suc (suc n)) t = absurd (omega (arith, ltb-true (suc (suc n)) 2 t))
 
-module _ (n : List ℕ) (small : (i : ℕ) → nth n i < numberLimit) where
-  number : (k : ℕ) → nth n k % numberLimit ≡ nth n k
+module _ (n : List ℕ) (small : (i : ℕ) → nth n i < number_limit) where
+  number : (k : ℕ) → nth n k % number_limit ≡ nth n k
   number k = low (nth n k) (small k)
 
   flag : (k : ℕ) → Flag n k → bit_of (is_set n k) ≡ nth n k
-  flag k t = flag-back (nth n k) t
+  flag k t = flag_back (nth n k) t
 
-  each-own : Flags n → numbersOf (transportIn n) ≡ elements (nth n) 0 recordCount
-  unfolding numbersOf transportIn
-  each-own f =
+  each_own : Flags n → numbers_of (transport_in n) ≡ elements (nth n) 0 record_count
+  unfolding numbers_of transport_in
+  each_own f =
       let a = f.registers in
       let b = f.panel in
       let c = f.attention in
@@ -152,9 +152,9 @@ module _ (n : List ℕ) (small : (i : ℕ) → nth n i < numberLimit) where
       ∷ nth n 14 ∷ nth n 15 ∷ flag 16 d.0 i ∷ flag 17 d.1 i ∷ flag 18 d.2 i ∷ number 19 i ∷ number 20 i ∷ []
 
   -- a record's numbers are those of the transport that it is read as
-  pub record-own : isRecord n ≡ true → length n ≡ recordCount → numbersOf (transportIn n) ≡ n
-  record-own r long = each-own (flags-told n r) ∙ ap (elements (nth n) 0) (sym long) ∙ all-elements n
+  pub record_own : is_record n ≡ true → length n ≡ record_count → numbers_of (transport_in n) ≡ n
+  record_own r long = each_own (flags_told n r) ∙ ap (elements (nth n) 0) (sym long) ∙ all_elements n
 
 -- so two records that are read as one transport are one
-pub same-record : (n k : List ℕ) → ((i : ℕ) → nth n i < numberLimit) → ((i : ℕ) → nth k i < numberLimit) → isRecord n ≡ true → isRecord k ≡ true → length n ≡ recordCount → length k ≡ recordCount → transportIn n ≡ transportIn k → n ≡ k
-same-record n k s t h j l m e = sym (record-own n s h l) ∙ ap numbersOf e ∙ record-own k t j m
+pub same_record : (n k : List ℕ) → ((i : ℕ) → nth n i < number_limit) → ((i : ℕ) → nth k i < number_limit) → is_record n ≡ true → is_record k ≡ true → length n ≡ record_count → length k ≡ record_count → transport_in n ≡ transport_in k → n ≡ k
+same_record n k s t h j l m e = sym (record_own n s h l) ∙ ap numbers_of e ∙ record_own k t j m

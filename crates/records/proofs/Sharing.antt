@@ -3,24 +3,24 @@ use mathlib.Core.Path.{◌≡◌, sym, ap, ◌∙◌}
 use mathlib.Core.List.{List, [], ◌∷◌}
 use Prim.Native.Nat.{ℕ, ◌<◌}
 use lib.ListN.{length}
-use Rattle.lists.specs.Fours.{numberLimit}
+use Rattle.lists.specs.Fours.{number_limit}
 use Rattle.entries.specs.Numbers.{nth}
 use Rattle.worlds.specs.declared.Coupler.{Coupler}
-use Rattle.records.specs.Shares.{SmallCoupler, couplerIn, shares_of}
-use Rattle.records.proofs.Keeping.{all-elements, elements, low}
+use Rattle.records.specs.Shares.{SmallCoupler, coupler_in, shares_of}
+use Rattle.records.proofs.Keeping.{all_elements, elements, low}
 
-pub coupler-back : (c : Coupler) → SmallCoupler c → couplerIn (shares_of c) ≡ c
-unfolding couplerIn shares_of
-coupler-back c h = rw (low _ h.used, low _ h.memory, low _ h.journal)
+pub coupler_back : (c : Coupler) → SmallCoupler c → coupler_in (shares_of c) ≡ c
+unfolding coupler_in shares_of
+coupler_back c h = rw (low _ h.used, low _ h.memory, low _ h.journal)
 
-pub small-shared : (n : List ℕ) → ((i : ℕ) → nth n i < numberLimit) → SmallCoupler (couplerIn n)
-unfolding couplerIn
-small-shared n s = record { used = s 0; memory = s 1; journal = s 2 }
+pub small_shared : (n : List ℕ) → ((i : ℕ) → nth n i < number_limit) → SmallCoupler (coupler_in n)
+unfolding coupler_in
+small_shared n s = record { used = s 0; memory = s 1; journal = s 2 }
 
-module _ (n : List ℕ) (small : (i : ℕ) → nth n i < numberLimit) where
-  each-own : shares_of (couplerIn n) ≡ elements (nth n) 0 3
-  unfolding couplerIn shares_of
-  each-own = λ i. low (nth n 0) (small 0) i ∷ low (nth n 1) (small 1) i ∷ low (nth n 2) (small 2) i ∷ []
+module _ (n : List ℕ) (small : (i : ℕ) → nth n i < number_limit) where
+  each_own : shares_of (coupler_in n) ≡ elements (nth n) 0 3
+  unfolding coupler_in shares_of
+  each_own = λ i. low (nth n 0) (small 0) i ∷ low (nth n 1) (small 1) i ∷ low (nth n 2) (small 2) i ∷ []
 
-  pub shares-own : length n ≡ 3 → shares_of (couplerIn n) ≡ n
-  shares-own long = each-own ∙ ap (elements (nth n) 0) (sym long) ∙ all-elements n
+  pub shares_own : length n ≡ 3 → shares_of (coupler_in n) ≡ n
+  shares_own long = each_own ∙ ap (elements (nth n) 0) (sym long) ∙ all_elements n

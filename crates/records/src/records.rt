@@ -1,7 +1,7 @@
 // A unit's record: 21 numbers, one for each field of a transport. A transport has one record, and a record whose flags are not 0 or 1 is no transport's.
 ghost use Rattle.std.specs.Prelude.{◌≡◌, ◌%◌};
 ghost use Rattle.entries.specs.Numbers.{bit_of};
-ghost use Rattle.records.specs.Records.{isRecord, numbersOf, transportIn};
+ghost use Rattle.records.specs.Records.{is_record, numbers_of, transport_in};
 
 use state::{Attention, Characteristics, Panel, Registers, Tape};
 use worlds::Transport;
@@ -25,7 +25,7 @@ fn bit_of(b: bool) -> u32
 }
 
 pub fn record_of(t: Transport) -> UnitRecord
-    ensures { result.numbers ≡ numbersOf t }
+    ensures { result.numbers ≡ numbers_of t }
 {
     let numbers = [
         low(t.tape.position),
@@ -55,7 +55,7 @@ pub fn record_of(t: Transport) -> UnitRecord
 
 // What a record is read as; every record is read as some transport.
 pub fn transport_in(r: UnitRecord) -> Transport
-    ensures { result ≡ transportIn r.numbers }
+    ensures { result ≡ transport_in r.numbers }
 {
     let n = r.numbers;
     let tape = Tape {
@@ -100,7 +100,7 @@ pub fn transport_in(r: UnitRecord) -> Transport
 
 // Whether the flags are 0 or 1: then the numbers are the record of what they are read as.
 pub fn record_right(r: UnitRecord) -> bool
-    ensures { result ≡ isRecord r.numbers }
+    ensures { result ≡ is_record r.numbers }
 {
     let n = r.numbers;
     let registers = (n[4] < 2) & ((n[5] < 2) & ((n[6] < 2) & (n[7] < 2)));

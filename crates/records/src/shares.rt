@@ -1,6 +1,6 @@
 // What the units share: three numbers, the used journal and the last mount's lengths of memory and journal.
 ghost use Rattle.std.specs.Prelude.{◌≡◌, ◌%◌};
-ghost use Rattle.records.specs.Shares.{couplerIn, shares_of};
+ghost use Rattle.records.specs.Shares.{coupler_in, shares_of};
 
 use worlds::Coupler;
 
@@ -12,7 +12,7 @@ fn low(x: usize) -> u32
 
 // The elements of an array by value are known to be of their type; of one behind a reference they are not.
 fn coupler_by(n: [u32; 3]) -> Coupler
-    ensures { result ≡ couplerIn n }
+    ensures { result ≡ coupler_in n }
 {
     Coupler {
         used: n[0] as usize,
@@ -22,7 +22,7 @@ fn coupler_by(n: [u32; 3]) -> Coupler
 }
 
 pub fn coupler_in(shared: &[u32; 3]) -> Coupler
-    ensures { result ≡ couplerIn shared.now }
+    ensures { result ≡ coupler_in shared.now }
 {
     coupler_by(*shared)
 }

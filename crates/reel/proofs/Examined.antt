@@ -4,22 +4,22 @@ use mathlib.Core.Path.{◌≡◌}
 use Prim.Native.Nat.{ℕ, ◌/◌, ◌%◌, ◌≤◌, ◌<◌}
 use borrow.Author.Tests.{lt-ltb, le-ltb, eq-eqb, ne_eqb}
 use lib.ListN.{length}
-use Rattle.tape.specs.Listing.{examined, imageLimit, imageSwept}
-use Rattle.tape.specs.Numbers.{blockBytes}
-use Rattle.tape.specs.Sweep.{sweptBelow}
+use Rattle.tape.specs.Listing.{examined, image_limit, image_swept}
+use Rattle.tape.specs.Numbers.{block_bytes}
+use Rattle.tape.specs.Sweep.{swept_below}
 use Rattle.tape.specs.declared.Image.{Image}
 use Rattle.tape.specs.declared.Image.TheVariants as image
 use Rattle.tape.specs.declared.Swept.{Swept}
 
 module _ (s : List ℕ) where
-  pub image-long : imageLimit < length s → image.TooLong ≡ examined s
+  pub image_long : image_limit < length s → image.TooLong ≡ examined s
   unfolding examined
-  image-long h = rw (lt-ltb imageLimit (length s) h)
+  image_long h = rw (lt-ltb image_limit (length s) h)
 
-  pub image-ragged : length s ≤ imageLimit → (length s % blockBytes ≡ 0 → ⊥) → image.NotWhole ≡ examined s
+  pub image_ragged : length s ≤ image_limit → (length s % block_bytes ≡ 0 → ⊥) → image.NotWhole ≡ examined s
   unfolding examined
-  image-ragged h k = rw (le-ltb imageLimit (length s) h, ne_eqb (length s % blockBytes) 0 k)
+  image_ragged h k = rw (le-ltb image_limit (length s) h, ne_eqb (length s % block_bytes) 0 k)
 
-  pub image-swept : {w : Swept} {r : Image} → length s ≤ imageLimit → length s % blockBytes ≡ 0 → w ≡ sweptBelow s (length s / blockBytes) → r ≡ imageSwept (length s / blockBytes) w → r ≡ examined s
+  pub image_swept_lem : {w : Swept} {r : Image} → length s ≤ image_limit → length s % block_bytes ≡ 0 → w ≡ swept_below s (length s / block_bytes) → r ≡ image_swept (length s / block_bytes) w → r ≡ examined s
   unfolding examined
-  image-swept h k l q = rw (le-ltb imageLimit (length s) h, eq-eqb (length s % blockBytes) 0 k, ← l) q
+  image_swept_lem h k l q = rw (le-ltb image_limit (length s) h, eq-eqb (length s % block_bytes) 0 k, ← l) q

@@ -9,9 +9,9 @@ use lib.ListN.{length, take, drop, length-drop}
 use lib.Seq.{drop-drop, length-take-le, take-add, take_all}
 use Rattle.lists.specs.Places.{placed}
 use Rattle.lists.proofs.Placed.{placed_at}
-use Rattle.tape.specs.Numbers.{blockBytes, dataBytes, headBytes, pieces_of}
-use Rattle.tape.specs.Bytes.{movedBytes, moved_to, readInto, recordBytes}
-use Rattle.tape.proofs.Recorded.{record-length, record-part}
+use Rattle.tape.specs.Numbers.{block_bytes, data_bytes, head_bytes, pieces_of}
+use Rattle.tape.specs.Bytes.{moved_bytes, moved_to, read_into, record_bytes}
+use Rattle.tape.proofs.Recorded.{record_length, record_part}
 
 -- two runs of d that meet go as one
 run_more : (w : Bool) (m d : List ℕ) (a from done c : ℕ) → from + done ≤ length d → placed w (placed w m a (take done (drop from d))) (a + done) (take c (drop (from + done) d)) ≡ placed w m a (take (done + c) (drop from d))
@@ -22,31 +22,31 @@ run_more w m d a from done c h =
 
 -- where byte i of the record at block p lies
 abbrev pub spot : ℕ → ℕ → ℕ
-spot p i = blockBytes * (p + i / dataBytes) + headBytes + i % dataBytes
+spot p i = block_bytes * (p + i / data_bytes) + head_bytes + i % data_bytes
 
 -- one turn of the loop of `copy_out`: from memory m' to m''
-pub copy_more : (w : Bool) (m m' m'' s : List ℕ) (a p n from done c : ℕ) → (from + done) % dataBytes + c ≤ dataBytes → from + done + c ≤ n → blockBytes * (p + pieces_of n) ≤ length s → m' ≡ placed w m a (take done (drop from (recordBytes s p n))) → m'' ≡ placed w m' (a + done) (take (spot p (from + done) + c - spot p (from + done)) (drop (spot p (from + done)) s)) → m'' ≡ placed w m a (take (done + c) (drop from (recordBytes s p n)))
+pub copy_more : (w : Bool) (m m' m'' s : List ℕ) (a p n from done c : ℕ) → (from + done) % data_bytes + c ≤ data_bytes → from + done + c ≤ n → block_bytes * (p + pieces_of n) ≤ length s → m' ≡ placed w m a (take done (drop from (record_bytes s p n))) → m'' ≡ placed w m' (a + done) (take (spot p (from + done) + c - spot p (from + done)) (drop (spot p (from + done)) s)) → m'' ≡ placed w m a (take (done + c) (drop from (record_bytes s p n)))
 copy_more w m m' m'' s a p n from done c h k l e f =
-    rw (f, e, add-sub_cancel_left (spot p (from + done)) c, ← record-part s p n l (from + done) c h k)
-    (run_more w m (recordBytes s p n) a from done c (omega (arith, record-length s p n l)))
+    rw (f, e, add-sub_cancel_left (spot p (from + done)) c, ← record_part s p n l (from + done) c h k)
+    (run_more w m (record_bytes s p n) a from done c (omega (arith, record_length s p n l)))
 
 -- a count beyond the length takes no more than the length
-take-least : (c n : ℕ) (d : List ℕ) → length d ≡ n → take (min n c) d ≡ take c d
-take-least zero n d e = rw min-zero
-take-least (suc c) n [] e = rw (← e, zero-min)
-take-least (suc c) n (x ∷ d) e = rw (← e, suc-min-suc) (ap (λ (l : List ℕ). x ∷ l) (take-least c (length d) d refl))
+take_least : (c n : ℕ) (d : List ℕ) → length d ≡ n → take (min n c) d ≡ take c d
+take_least zero n d e = rw min-zero
+take_least (suc c) n [] e = rw (← e, zero-min)
+take_least (suc c) n (x ∷ d) e = rw (← e, suc-min-suc) (ap (λ (l : List ℕ). x ∷ l) (take_least c (length d) d refl))
 
 -- what a Read moves of the record of n bytes at block p, and where to: memory m' after it
-module _ (r w : Bool) (m m' s : List ℕ) (p n pointer count moved : ℕ) (room : blockBytes * (p + pieces_of n) ≤ length s) (few : moved ≡ min n count) where
-  pub read-forward : r ≡ false → m' ≡ placed w m pointer (take moved (recordBytes s p n)) → m' ≡ readInto r w m pointer count (recordBytes s p n)
-  unfolding readInto moved_to movedBytes
-  read-forward e q = rw (q, e, few, take-least count n (recordBytes s p n) (record-length s p n room))
+module _ (r w : Bool) (m m' s : List ℕ) (p n pointer count moved : ℕ) (room : block_bytes * (p + pieces_of n) ≤ length s) (few : moved ≡ min n count) where
+  pub read_forward : r ≡ false → m' ≡ placed w m pointer (take moved (record_bytes s p n)) → m' ≡ read_into r w m pointer count (record_bytes s p n)
+  unfolding read_into moved_to moved_bytes
+  read_forward e q = rw (q, e, few, take_least count n (record_bytes s p n) (record_length s p n room))
 
-  pub read-reverse : r ≡ true → m' ≡ placed w m (pointer + (count - moved)) (take moved (drop (n - moved) (recordBytes s p n))) → m' ≡ readInto r w m pointer count (recordBytes s p n)
-  unfolding readInto moved_to movedBytes
-  read-reverse e q =
-      let d = recordBytes s p n in
-      let long : length d ≡ n = record-length s p n room in
+  pub read_reverse : r ≡ true → m' ≡ placed w m (pointer + (count - moved)) (take moved (drop (n - moved) (record_bytes s p n))) → m' ≡ read_into r w m pointer count (record_bytes s p n)
+  unfolding read_into moved_to moved_bytes
+  read_reverse e q =
+      let d = record_bytes s p n in
+      let long : length d ≡ n = record_length s p n room in
       let f : n - moved ≡ length d - count = omega arith in
       let g : count - moved ≡ count - length d = omega arith in
       let h : length (drop (length d - count) d) ≤ moved = rw length-drop (omega arith) in

@@ -6,7 +6,7 @@ use Prim.Native.Nat.{ℕ, suc, ◌+◌, ◌-◌, ◌≤◌, ◌<◌}
 use native.Mathlib.Numerals.{add-one}
 use native.Mathlib.Omega.{arith}
 use Rattle.lists.specs.Pick.{pick}
-use Rattle.tape.specs.Pass.{badAt, faultOf, isPiece, orderMet, piecesMet, piecesMetUnder}
+use Rattle.tape.specs.Pass.{bad_at, fault_of, is_piece, order_met, pieces_met, pieces_met_under}
 use Rattle.tape.specs.Reading.{class_at}
 use Rattle.tape.specs.declared.BlockFault.{BlockFault}
 use Rattle.tape.specs.declared.Block.{Block}
@@ -14,22 +14,22 @@ use Rattle.tape.specs.declared.Met.{Met}
 use Rattle.tape.specs.declared.Met.TheVariants as met
 
 module _ (s : List ℕ) (reverse : Bool) (n p m j : ℕ) (whole : Met) where
-  pub pieces_end : m ≤ j → whole ≡ piecesMet s reverse n p m j (m - j) whole
-  unfolding piecesMetUnder
+  pub pieces_end : m ≤ j → whole ≡ pieces_met s reverse n p m j (m - j) whole
+  unfolding pieces_met_under
   pieces_end h =
       let e : m - j ≡ 0 = omega arith in
       rw e
 
-  pub pieces_step : j < m → piecesMet s reverse n p m j (m - j) whole ≡ pick (isPiece (class_at s (p + orderMet reverse m j)) n (orderMet reverse m j)) (piecesMet s reverse n p m (j + 1) (m - (j + 1)) whole) (badAt s (p + orderMet reverse m j))
-  unfolding piecesMetUnder
+  pub pieces_step : j < m → pieces_met s reverse n p m j (m - j) whole ≡ pick (is_piece (class_at s (p + order_met reverse m j)) n (order_met reverse m j)) (pieces_met s reverse n p m (j + 1) (m - (j + 1)) whole) (bad_at s (p + order_met reverse m j))
+  unfolding pieces_met_under
   pieces_step h =
       let e : m - j ≡ suc (m - (j + 1)) = omega arith in
       rw (e, add-one j)
 
 -- the same, of what the code has in hand: the piece i that is due, and the block b that stands there
-module _ (s : List ℕ) (reverse : Bool) (n p m j : ℕ) (whole : Met) {i : ℕ} {b : Block} (h : j < m) (due : i ≡ orderMet reverse m j) (read : b ≡ class_at s (p + i)) where
-  pub pieces-pass : isPiece b n i ≡ true → piecesMet s reverse n p m j (m - j) whole ≡ piecesMet s reverse n p m (j + 1) (m - (j + 1)) whole
-  pieces-pass t = pieces_step s reverse n p m j whole h ∙ rw (← due, ← read, t)
+module _ (s : List ℕ) (reverse : Bool) (n p m j : ℕ) (whole : Met) {i : ℕ} {b : Block} (h : j < m) (due : i ≡ order_met reverse m j) (read : b ≡ class_at s (p + i)) where
+  pub pieces_pass : is_piece b n i ≡ true → pieces_met s reverse n p m j (m - j) whole ≡ pieces_met s reverse n p m (j + 1) (m - (j + 1)) whole
+  pieces_pass t = pieces_step s reverse n p m j whole h ∙ rw (← due, ← read, t)
 
-  pub pieces-stop : {f : BlockFault} → isPiece b n i ≡ false → f ≡ faultOf b → met.Bad f (p + i) ≡ piecesMet s reverse n p m j (m - j) whole
-  pieces-stop t w = rw (pieces_step s reverse n p m j whole h, ← due, ← read, t, w)
+  pub pieces_stop : {f : BlockFault} → is_piece b n i ≡ false → f ≡ fault_of b → met.Bad f (p + i) ≡ pieces_met s reverse n p m j (m - j) whole
+  pieces_stop t w = rw (pieces_step s reverse n p m j whole h, ← due, ← read, t, w)

@@ -1,8 +1,8 @@
 // Moving a record's bytes to places in memory.
 ghost use Rattle.std.specs.Prelude.{◌≡◌, ◌+◌, ◌*◌, ◌≤◌, ◌%◌, length, take, drop};
 ghost use Rattle.lists.specs.Places.{placed};
-ghost use Rattle.tape.specs.Numbers.{blockBytes, pieces_of};
-ghost use Rattle.tape.specs.Bytes.{readInto, recordBytes};
+ghost use Rattle.tape.specs.Numbers.{block_bytes, pieces_of};
+ghost use Rattle.tape.specs.Bytes.{read_into, record_bytes};
 
 use lists::{least, scatter};
 use tape::Geometry;
@@ -18,8 +18,8 @@ fn copy_out(
     a: usize,
     swb: bool,
 )
-    requires { (blockBytes * (p + pieces_of n) ≤ length reel.now) × (from + count ≤ n) × (a + count ≤ length mem.old) × (length mem.old % 2 ≡ 0) }
-    ensures { mem.new ≡ placed swb mem.old a (take count (drop from (recordBytes reel.now p n))) }
+    requires { (block_bytes * (p + pieces_of n) ≤ length reel.now) × (from + count ≤ n) × (a + count ≤ length mem.old) × (length mem.old % 2 ≡ 0) }
+    ensures { mem.new ≡ placed swb mem.old a (take count (drop from (record_bytes reel.now p n))) }
 {
     let mut done: usize = 0;
     while done < count {
@@ -44,8 +44,8 @@ pub fn read_record(
     count: usize,
     swb: bool,
 )
-    requires { (blockBytes * (p + pieces_of n) ≤ length reel.now) × (pointer + count ≤ length mem.old) × (length mem.old % 2 ≡ 0) }
-    ensures { mem.new ≡ readInto reverse swb mem.old pointer count (recordBytes reel.now p n) }
+    requires { (block_bytes * (p + pieces_of n) ≤ length reel.now) × (pointer + count ≤ length mem.old) × (length mem.old % 2 ≡ 0) }
+    ensures { mem.new ≡ read_into reverse swb mem.old pointer count (record_bytes reel.now p n) }
 {
     let moved = least(n, count);
     if reverse {

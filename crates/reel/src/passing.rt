@@ -1,7 +1,7 @@
 // Passing one object, forward or in reverse: one walk for both, since only the order of the pieces differs.
 ghost use Rattle.std.specs.Prelude.{◌≡◌, ◌+◌, ◌-◌, ◌≤◌, ◌<◌};
 ghost use Rattle.tape.specs.Numbers.{pieces_of};
-ghost use Rattle.tape.specs.Pass.{ahead, beyond, faultOf, firstMet, isPiece, lowest, orderMet, passed, piecesMet, recordMet};
+ghost use Rattle.tape.specs.Pass.{ahead, beyond, fault_of, first_met, is_piece, lowest, order_met, passed, pieces_met, record_met};
 
 use block::read_block;
 use tape::{Block, BlockFault, Met};
@@ -18,7 +18,7 @@ fn ahead_of(reverse: bool, p: usize, e: usize) -> usize
 
 fn first_met(reverse: bool, p: usize, e: usize) -> usize
     requires { 1 ≤ ahead reverse p e }
-    ensures { result ≡ firstMet reverse p }
+    ensures { result ≡ first_met reverse p }
 {
     if reverse { p - 1 } else { p }
 }
@@ -39,13 +39,13 @@ fn lowest_of(reverse: bool, p: usize, e: usize, m: usize) -> usize
 
 fn order_met(reverse: bool, m: usize, j: usize) -> usize
     requires { j < m }
-    ensures { result ≡ orderMet reverse m j }
+    ensures { result ≡ order_met reverse m j }
 {
     if reverse { m - 1 - j } else { j }
 }
 
 fn is_piece(b: Block, n: usize, i: usize) -> bool
-    ensures { result ≡ isPiece b n i }
+    ensures { result ≡ is_piece b n i }
 {
     match b {
         Block::Piece(n2, i2) => (n2 == n) & (i2 == i),
@@ -57,7 +57,7 @@ fn is_piece(b: Block, n: usize, i: usize) -> bool
 
 // What is wrong with a block that can't be taken: its own fault, and if it has none, its place.
 fn fault_of(b: Block) -> BlockFault
-    ensures { result ≡ faultOf b }
+    ensures { result ≡ fault_of b }
 {
     match b {
         Block::Damaged(f) => f,
@@ -70,7 +70,7 @@ fn fault_of(b: Block) -> BlockFault
 // The pieces due after the first, in the order met: the first at fault, else what was met.
 fn pieces_met(reel: &[u8], reverse: bool, n: usize, p: usize, m: usize, whole: Met) -> Met
     requires { (1 ≤ m) × (p + m < 18446744073709551616) }
-    ensures { result ≡ piecesMet reel.now reverse n p m 1 (m - 1) whole }
+    ensures { result ≡ pieces_met reel.now reverse n p m 1 (m - 1) whole }
 {
     let mut j: usize = 1;
     while j < m {
@@ -88,7 +88,7 @@ fn pieces_met(reel: &[u8], reverse: bool, n: usize, p: usize, m: usize, whole: M
 // A record of n bytes, met at piece i.
 fn record_met(reel: &[u8], reverse: bool, p: usize, e: usize, n: usize, i: usize) -> Met
     requires { (1 ≤ ahead reverse p e) × (1 ≤ pieces_of n) }
-    ensures { result ≡ recordMet reel.now reverse p e n i }
+    ensures { result ≡ record_met reel.now reverse p e n i }
 {
     let m = tape::pieces(n);
     let due = (i == order_met(reverse, m, 0)) & (m <= ahead_of(reverse, p, e));

@@ -1,12 +1,12 @@
 // The mount's reading of every block below the end.
 ghost use Rattle.std.specs.Prelude.{◌≡◌};
-ghost use Rattle.tape.specs.Sweep.{sweptBelow};
+ghost use Rattle.tape.specs.Sweep.{swept_below};
 
 use tape::{Met, Swept};
 
 // Each object takes a block or more, so `e` turns are enough.
 pub fn sweep(reel: &[u8], e: usize) -> Swept
-    ensures { result ≡ sweptBelow reel.now e }
+    ensures { result ≡ swept_below reel.now e }
 {
     let mut p: usize = 0;
     let mut turns = e;

@@ -2,13 +2,13 @@
 use Rattle.std.specs.Prelude.{Bool, false, List, ◌≡◌, ℕ, length}
 use Rattle.std.proofs.lemmas.List.Edits.{sets}
 use Rattle.desk.specs.Desks.{front}
-use Rattle.entries.specs.Entries.{usedIn}
+use Rattle.entries.specs.Entries.{used_in}
 use Rattle.script.specs.Fills.{wiped}
 use Rattle.worlds.specs.Worlds.{Answered}
 
 pub record JournalLeft (entered : Bool) (x : Answered) (j j' : List ℕ) : Type 0 where
-  pub used : usedIn x.world.ledger.used j' ≡ x.world.ledger.bytes
-  pub unless-entered : entered ≡ false → j' ≡ j
+  pub used : used_in x.world.ledger.used j' ≡ x.world.ledger.bytes
+  pub unless_entered : entered ≡ false → j' ≡ j
 
 -- the journal's buffer once a call is made that is handed n bytes of it: `left` stands where the handed part was
 pub record JournalHanded (n : ℕ) (entered : Bool) (x : Answered) (j j' : List ℕ) : Type 0 where

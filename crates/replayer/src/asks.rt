@@ -1,11 +1,11 @@
 // The calls of one unit.
 ghost use Rattle.std.specs.Prelude.{◌≡◌, length};
-ghost use Rattle.worlds.specs.Worlds.{Leaves, worldOf};
-ghost use Rattle.worlds.specs.Calls.{stepOn};
-ghost use Rattle.replayer.specs.Asks.{askOf, ownStep, whoseAsk, whoseOf};
-ghost use Rattle.replayer.specs.Calls.{Fitting, callOn, entered, ownEntered, ownOn};
+ghost use Rattle.worlds.specs.Worlds.{Leaves, world_of};
+ghost use Rattle.worlds.specs.Calls.{step_on};
+ghost use Rattle.replayer.specs.Asks.{ask_of, own_step, whose_ask, whose_of};
+ghost use Rattle.replayer.specs.Calls.{Fitting, call_on, entered, own_entered, own_on};
 ghost use Rattle.replayer.specs.Journals.{JournalLeft};
-ghost use Rattle.replayer.specs.Tells.{ownTold, readTold, stepAlso, stepTold, toldAs, toldOn};
+ghost use Rattle.replayer.specs.Tells.{own_told, read_told, step_also, step_told, told_as, told_on};
 
 use lines::{Ask, Call};
 use lists::least;
@@ -47,13 +47,13 @@ pub enum Whose {
 }
 
 fn own_step(d: Deed) -> Whose
-    ensures { result ≡ ownStep d }
+    ensures { result ≡ own_step d }
 {
     Whose::Unit(Own::Step(d))
 }
 
 fn whose_ask(a: Ask) -> Whose
-    ensures { result ≡ whoseAsk a }
+    ensures { result ≡ whose_ask a }
 {
     match a {
         Ask::WriteTsdb(w) => own_step(Deed::WriteTsdb(w)),
@@ -65,7 +65,7 @@ fn whose_ask(a: Ask) -> Whose
 }
 
 pub fn owner_of(c: Call) -> Whose
-    ensures { result ≡ whoseOf c }
+    ensures { result ≡ whose_of c }
 {
     match c {
         Call::Mount(e, online, locked) => Whose::Unit(Own::Mount(e, online, locked)),
@@ -86,7 +86,7 @@ fn ask(
     table: &mut [u8],
     jrnl: &mut [u8],
 ) -> Outcome
-    ensures { Leaves (stepOn (worldOf k s mem.old reel.old table.old jrnl.old) (length jrnl.old) (askOf a)) jrnl.old result mem.new reel.new table.new jrnl.new }
+    ensures { Leaves (step_on (world_of k s mem.old reel.old table.old jrnl.old) (length jrnl.old) (ask_of a)) jrnl.old result mem.new reel.new table.new jrnl.new }
 {
     match a {
         Deed::WriteTsdb(w) => journal::write_tsdb(s, k, mem, reel, table, jrnl, w),
@@ -97,7 +97,7 @@ fn ask(
 }
 
 fn told(o: Outcome, also: Also) -> Told
-    ensures { result ≡ toldAs o also }
+    ensures { result ≡ told_as o also }
 {
     let answer = o.answer;
     let session = o.session;
@@ -109,7 +109,7 @@ fn told(o: Outcome, also: Also) -> Told
 }
 
 fn also(a: Deed, n: usize) -> Also
-    ensures { result ≡ stepAlso a n }
+    ensures { result ≡ step_also a n }
 {
     match a {
         Deed::WriteTsdb(_) => Also::Entry(n),
@@ -121,7 +121,7 @@ fn also(a: Deed, n: usize) -> Also
 
 // A step tells how much longer the used journal is, and an advance whether it interrupts.
 fn step(s: Session, a: Deed, o: Outcome) -> Told
-    ensures { result ≡ stepTold s a o }
+    ensures { result ≡ step_told s a o }
 {
     let used = o.session.used;
     let x = also(a, used - least(s.used, used));
@@ -129,7 +129,7 @@ fn step(s: Session, a: Deed, o: Outcome) -> Told
 }
 
 fn read(s: Session, register: Register) -> Told
-    ensures { result ≡ readTold s register }
+    ensures { result ≡ read_told s register }
 {
     let r = journal::read_register(s, register);
     let answer = r.answer;
@@ -151,11 +151,11 @@ fn make(
     table: &mut [u8],
     jrnl: &mut [u8],
 ) -> Told
-    ensures told { result ≡ ownTold c k s mem.old reel.old table.old jrnl.old }
-    ensures memory { mem.new ≡ (ownOn c k s mem.old reel.old table.old jrnl.old).world.core.memory }
-    ensures reel { reel.new ≡ (ownOn c k s mem.old reel.old table.old jrnl.old).world.core.reel }
-    ensures table { table.new ≡ (ownOn c k s mem.old reel.old table.old jrnl.old).world.core.table }
-    ensures journal { JournalLeft (ownEntered c (ownOn c k s mem.old reel.old table.old jrnl.old).answer) (ownOn c k s mem.old reel.old table.old jrnl.old) jrnl.old jrnl.new }
+    ensures told { result ≡ own_told c k s mem.old reel.old table.old jrnl.old }
+    ensures memory { mem.new ≡ (own_on c k s mem.old reel.old table.old jrnl.old).world.core.memory }
+    ensures reel { reel.new ≡ (own_on c k s mem.old reel.old table.old jrnl.old).world.core.reel }
+    ensures table { table.new ≡ (own_on c k s mem.old reel.old table.old jrnl.old).world.core.table }
+    ensures journal { JournalLeft (own_entered c (own_on c k s mem.old reel.old table.old jrnl.old).answer) (own_on c k s mem.old reel.old table.old jrnl.old) jrnl.old jrnl.new }
 {
     match c {
         Own::Mount(e, online, locked) => told(
@@ -178,11 +178,11 @@ pub fn call(
     jrnl: &mut [u8],
 ) -> Told
     requires { Fitting c s (length mem.old) (length reel.old) (length jrnl.old) }
-    ensures told { result ≡ toldOn c k s mem.old reel.old table.old jrnl.old }
-    ensures memory { mem.new ≡ (callOn c k s mem.old reel.old table.old jrnl.old).world.core.memory }
-    ensures reel { reel.new ≡ (callOn c k s mem.old reel.old table.old jrnl.old).world.core.reel }
-    ensures table { table.new ≡ (callOn c k s mem.old reel.old table.old jrnl.old).world.core.table }
-    ensures journal { JournalLeft (entered c (callOn c k s mem.old reel.old table.old jrnl.old).answer) (callOn c k s mem.old reel.old table.old jrnl.old) jrnl.old jrnl.new }
+    ensures told { result ≡ told_on c k s mem.old reel.old table.old jrnl.old }
+    ensures memory { mem.new ≡ (call_on c k s mem.old reel.old table.old jrnl.old).world.core.memory }
+    ensures reel { reel.new ≡ (call_on c k s mem.old reel.old table.old jrnl.old).world.core.reel }
+    ensures table { table.new ≡ (call_on c k s mem.old reel.old table.old jrnl.old).world.core.table }
+    ensures journal { JournalLeft (entered c (call_on c k s mem.old reel.old table.old jrnl.old).answer) (call_on c k s mem.old reel.old table.old jrnl.old) jrnl.old jrnl.new }
 {
     match c {
         Task::Makes(x) => make(s, k, x, mem, reel, table, jrnl),

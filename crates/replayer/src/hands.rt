@@ -1,7 +1,7 @@
 // A task of one unit over its own buffers, as much of them as it is handed.
 ghost use Rattle.std.specs.Prelude.{◌≡◌};
 ghost use Rattle.std.proofs.lemmas.List.Edits.{sets};
-ghost use Rattle.replayer.specs.Hands.{FitOn, JournalFor, JournalOf, handOn, handTold, memoryKept, reelKept, tableKept};
+ghost use Rattle.replayer.specs.Hands.{FitOn, JournalFor, JournalOf, hand_on, hand_told, memory_kept, reel_kept, table_kept};
 
 use crate::asks::{Task, call};
 use desk::{Desk, trim};
@@ -19,10 +19,10 @@ fn hand(
     jrnl: &mut [u8],
 ) -> Told
     requires { FitOn d c mem.old reel.old jrnl.old }
-    ensures told { result ≡ handTold d k c mem.old reel.old table.old jrnl.old }
-    ensures memory { mem.new ≡ sets mem.old 0 (handOn d k c mem.old reel.old table.old jrnl.old).world.core.memory }
-    ensures reel { reel.new ≡ sets reel.old 0 (handOn d k c mem.old reel.old table.old jrnl.old).world.core.reel }
-    ensures table { table.new ≡ sets table.old 0 (handOn d k c mem.old reel.old table.old jrnl.old).world.core.table }
+    ensures told { result ≡ hand_told d k c mem.old reel.old table.old jrnl.old }
+    ensures memory { mem.new ≡ sets mem.old 0 (hand_on d k c mem.old reel.old table.old jrnl.old).world.core.memory }
+    ensures reel { reel.new ≡ sets reel.old 0 (hand_on d k c mem.old reel.old table.old jrnl.old).world.core.reel }
+    ensures table { table.new ≡ sets table.old 0 (hand_on d k c mem.old reel.old table.old jrnl.old).world.core.table }
     ensures journal { JournalOf d k c mem.old reel.old table.old jrnl.old jrnl.new }
 {
     let h = d.handed;
@@ -53,10 +53,10 @@ pub fn carry(
     jrnl: &mut [u8],
 ) -> Told
     requires { FitOn d c mem.old reel.old jrnl.old }
-    ensures told { result ≡ handTold d k c mem.old reel.old table.old jrnl.old }
-    ensures memory { mem.new ≡ memoryKept d k c mem.old reel.old table.old jrnl.old }
-    ensures reel { reel.new ≡ reelKept d k c mem.old reel.old table.old jrnl.old }
-    ensures table { table.new ≡ tableKept d k c mem.old reel.old table.old jrnl.old }
+    ensures told { result ≡ hand_told d k c mem.old reel.old table.old jrnl.old }
+    ensures memory { mem.new ≡ memory_kept d k c mem.old reel.old table.old jrnl.old }
+    ensures reel { reel.new ≡ reel_kept d k c mem.old reel.old table.old jrnl.old }
+    ensures table { table.new ≡ table_kept d k c mem.old reel.old table.old jrnl.old }
     ensures journal { JournalFor d k c mem.old reel.old table.old jrnl.old jrnl.new }
 {
     let t = hand(d, k, c, mem, reel, table, jrnl);

@@ -1,7 +1,7 @@
 // A unit's own lines over all the buffers: it has its part of the reels and of the tables.
 ghost use Rattle.std.specs.Prelude.{◌≡◌, ◌<◌, ◌≤◌, length, take};
-ghost use Rattle.replayer.specs.Owns.{OwnJournal, UnitFits, UnitJournal, lackingAlso, ownMemory, ownReels, ownRound, ownTables, tellRound, unitMemory, unitReels, unitTables, unitTold};
-ghost use Rattle.replayer.specs.Turns.{buildMemory, buildReels, buildRound, tableRound, tableTables};
+ghost use Rattle.replayer.specs.Owns.{OwnJournal, UnitFits, UnitJournal, lacking_also, own_memory, own_reels, own_round, own_tables, tell_round, unit_memory, unit_reels, unit_tables, unit_told};
+ghost use Rattle.replayer.specs.Turns.{build_memory, build_reels, build_round, table_round, table_tables};
 
 use crate::asks::{Own, Task};
 use crate::hands::carry;
@@ -17,7 +17,7 @@ use worlds::absent;
 // Unit k's task told: its session is kept, and unit u's fields are printed.
 pub fn tell(b: Bench, k: usize, t: Told, u: usize) -> Round
     requires { k < 5 }
-    ensures { result ≡ tellRound b k t u }
+    ensures { result ≡ tell_round b k t u }
 {
     let session = t.session;
     let answer = t.answer;
@@ -38,10 +38,10 @@ pub fn carry_for(
     requires unit { k < 5 }
     requires room { (655360 ≤ length reels.old) × (20480 ≤ length tables.old) }
     requires fits { UnitFits b k c mem.old reels.old tables.old jrnl.old }
-    ensures told { result ≡ unitTold b k c mem.old reels.old tables.old jrnl.old }
-    ensures memory { mem.new ≡ unitMemory b k c mem.old reels.old tables.old jrnl.old }
-    ensures reels { reels.new ≡ unitReels b k c mem.old reels.old tables.old jrnl.old }
-    ensures tables { tables.new ≡ unitTables b k c mem.old reels.old tables.old jrnl.old }
+    ensures told { result ≡ unit_told b k c mem.old reels.old tables.old jrnl.old }
+    ensures memory { mem.new ≡ unit_memory b k c mem.old reels.old tables.old jrnl.old }
+    ensures reels { reels.new ≡ unit_reels b k c mem.old reels.old tables.old jrnl.old }
+    ensures tables { tables.new ≡ unit_tables b k c mem.old reels.old tables.old jrnl.old }
     ensures journal { UnitJournal b k c mem.old reels.old tables.old jrnl.old jrnl.new }
 {
     let r = REEL_ROOM * k;
@@ -60,7 +60,7 @@ pub fn carry_for(
 
 // "Reading a register .. refusal 1 and word 0": of a unit not present 12 and word 0.
 fn lacking(c: Own) -> Also
-    ensures { result ≡ lackingAlso c }
+    ensures { result ≡ lacking_also c }
 {
     match c {
         Own::Mount(_, _, _) => Also::Nothing,
@@ -80,10 +80,10 @@ pub fn own(
     jrnl: &mut [u8],
 ) -> Round
     requires { (655360 ≤ length reels.old) × (20480 ≤ length tables.old) }
-    ensures round { result ≡ ownRound b u c mem.old reels.old tables.old jrnl.old }
-    ensures memory { mem.new ≡ ownMemory b u c mem.old reels.old tables.old jrnl.old }
-    ensures reels { reels.new ≡ ownReels b u c mem.old reels.old tables.old jrnl.old }
-    ensures tables { tables.new ≡ ownTables b u c mem.old reels.old tables.old jrnl.old }
+    ensures round { result ≡ own_round b u c mem.old reels.old tables.old jrnl.old }
+    ensures memory { mem.new ≡ own_memory b u c mem.old reels.old tables.old jrnl.old }
+    ensures reels { reels.new ≡ own_reels b u c mem.old reels.old tables.old jrnl.old }
+    ensures tables { tables.new ≡ own_tables b u c mem.old reels.old tables.old jrnl.old }
     ensures journal { OwnJournal b u c mem.old reels.old tables.old jrnl.old jrnl.new }
 {
     if absent(b.units, u) {
@@ -103,9 +103,9 @@ pub fn build_for(
     reels: &mut [u8],
 ) -> Round
     requires { (n ≤ length «data».now) × (655360 ≤ length reels.old) }
-    ensures round { result ≡ buildRound b u k «data».now n mem.old reels.old }
-    ensures memory { mem.new ≡ buildMemory b u k «data».now n mem.old reels.old }
-    ensures reels { reels.new ≡ buildReels b u k «data».now n mem.old reels.old }
+    ensures round { result ≡ build_round b u k «data».now n mem.old reels.old }
+    ensures memory { mem.new ≡ build_memory b u k «data».now n mem.old reels.old }
+    ensures reels { reels.new ≡ build_reels b u k «data».now n mem.old reels.old }
 {
     if STATIONS <= u {
         return refused(b);
@@ -118,8 +118,8 @@ pub fn build_for(
 
 pub fn table_for(b: Bench, u: usize, t: Table, data: &[u8], n: usize, tables: &mut [u8]) -> Round
     requires { (n ≤ length «data».now) × (20480 ≤ length tables.old) }
-    ensures round { result ≡ tableRound b u t (take n «data».now) tables.old }
-    ensures tables { tables.new ≡ tableTables b u t (take n «data».now) tables.old }
+    ensures round { result ≡ table_round b u t (take n «data».now) tables.old }
+    ensures tables { tables.new ≡ table_tables b u t (take n «data».now) tables.old }
 {
     if STATIONS <= u {
         return refused(b);

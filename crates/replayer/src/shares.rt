@@ -1,12 +1,12 @@
 // Calls of no unit: "Host stores belong to no unit", and "step back undoes the newest step of any unit".
 ghost use Rattle.std.specs.Prelude.{◌≡◌, ◌<◌, ◌≤◌, length};
 ghost use Rattle.std.proofs.lemmas.List.Edits.{sets};
-ghost use Rattle.commands.specs.Answers.{isStep};
-ghost use Rattle.desk.specs.Benches.{handedAt};
-ghost use Rattle.entries.specs.Entries.{entryBare};
+ghost use Rattle.commands.specs.Answers.{is_step};
+ghost use Rattle.desk.specs.Benches.{handed_at};
+ghost use Rattle.entries.specs.Entries.{entry_bare};
 ghost use Rattle.steps.specs.Readiness.{NoneUndoable};
 ghost use Rattle.replayer.specs.Journals.{JournalHanded};
-ghost use Rattle.replayer.specs.Shares.{BackJournal, StoreJournal, backMemory, backReels, backRefused, backRound, backTables, entryAlso, journalHanded, keptRound, memoryHanded, memoryKeptOf, newestAt, noneOn, seatAt, sharedOf, storeMemory, storeOn, storeRound};
+ghost use Rattle.replayer.specs.Shares.{BackJournal, StoreJournal, back_memory, back_reels, back_refused, back_round, back_tables, entry_also, journal_handed, kept_round, memory_handed, memory_kept_of, newest_at, none_on, seat_at, shared_of, store_memory, store_on, store_round};
 
 use crate::asks::Task;
 use crate::owns::{carry_for, tell};
@@ -22,7 +22,7 @@ use worlds::{Coupler, Seat, Shared};
 
 // What the units share is kept.
 fn keep(b: Bench, u: usize, x: Shared, also: Also) -> Round
-    ensures { result ≡ keptRound b u x also }
+    ensures { result ≡ kept_round b u x also }
 {
     let answer = x.answer;
     let c = x.coupler;
@@ -31,7 +31,7 @@ fn keep(b: Bench, u: usize, x: Shared, also: Also) -> Round
 
 // How much longer the used journal is.
 fn entry(c: Coupler, x: Shared) -> Also
-    ensures { result ≡ entryAlso c x }
+    ensures { result ≡ entry_also c x }
 {
     let used = x.coupler.used;
     Also::Entry(used - least(c.used, used))
@@ -39,9 +39,9 @@ fn entry(c: Coupler, x: Shared) -> Also
 
 // The host's bytes to a place, over what is handed.
 fn hand_store(b: Bench, at: usize, bytes: &[u8], mem: &mut [u8], jrnl: &mut [u8]) -> Shared
-    ensures shared { result ≡ sharedOf (storeOn b at bytes.now mem.old jrnl.old) }
-    ensures memory { mem.new ≡ sets mem.old 0 (storeOn b at bytes.now mem.old jrnl.old).world.core.memory }
-    ensures journal { JournalHanded (handedAt b 0).journal (isStep (storeOn b at bytes.now mem.old jrnl.old).answer) (storeOn b at bytes.now mem.old jrnl.old) jrnl.old jrnl.new }
+    ensures shared { result ≡ shared_of (store_on b at bytes.now mem.old jrnl.old) }
+    ensures memory { mem.new ≡ sets mem.old 0 (store_on b at bytes.now mem.old jrnl.old).world.core.memory }
+    ensures journal { JournalHanded (handed_at b 0).journal (is_step (store_on b at bytes.now mem.old jrnl.old).answer) (store_on b at bytes.now mem.old jrnl.old) jrnl.old jrnl.new }
 {
     let h = handed_at(b, 0);
     let m = least(h.memory, mem.len());
@@ -51,8 +51,8 @@ fn hand_store(b: Bench, at: usize, bytes: &[u8], mem: &mut [u8], jrnl: &mut [u8]
 }
 
 pub fn store(b: Bench, u: usize, at: usize, bytes: &[u8], mem: &mut [u8], jrnl: &mut [u8]) -> Round
-    ensures round { result ≡ storeRound b u at bytes.now mem.old jrnl.old }
-    ensures memory { mem.new ≡ storeMemory b at bytes.now mem.old jrnl.old }
+    ensures round { result ≡ store_round b u at bytes.now mem.old jrnl.old }
+    ensures memory { mem.new ≡ store_memory b at bytes.now mem.old jrnl.old }
     ensures journal { StoreJournal b at bytes.now mem.old jrnl.old jrnl.new }
 {
     let x = hand_store(b, at, bytes, mem, jrnl);
@@ -66,7 +66,7 @@ pub fn store(b: Bench, u: usize, at: usize, bytes: &[u8], mem: &mut [u8], jrnl: 
 // The unit's record, and how much of its reel a step back is handed.
 fn seat(b: Bench, k: usize) -> Seat
     requires { k < 5 }
-    ensures { result ≡ seatAt b k }
+    ensures { result ≡ seat_at b k }
 {
     let s = b.stations[k];
     let transport = s.transport;
@@ -79,7 +79,7 @@ fn seat(b: Bench, k: usize) -> Seat
 
 // Refusals 1 to 4, 6 and 8 of a step back over what is handed, or 0.
 fn refusal(b: Bench, mem: &[u8], jrnl: &[u8]) -> usize
-    ensures { result ≡ backRefused b mem.now jrnl.now }
+    ensures { result ≡ back_refused b mem.now jrnl.now }
 {
     let h = handed_at(b, 0);
     let m = least(h.memory, mem.len());
@@ -99,8 +99,8 @@ fn refusal(b: Bench, mem: &[u8], jrnl: &[u8]) -> usize
 
 // The unit that the newest entry names.
 fn newest(b: Bench, jrnl: &[u8]) -> usize
-    requires { (entryBare ≤ b.coupler.used) × (b.coupler.used ≤ length (journalHanded b jrnl.now)) }
-    ensures { result ≡ newestAt b jrnl.now }
+    requires { (entry_bare ≤ b.coupler.used) × (b.coupler.used ≤ length (journal_handed b jrnl.now)) }
+    ensures { result ≡ newest_at b jrnl.now }
 {
     let h = handed_at(b, 0);
     let j = least(h.journal, jrnl.len());
@@ -110,9 +110,9 @@ fn newest(b: Bench, jrnl: &[u8]) -> usize
 
 // A host store undone, over what is handed.
 fn hand_undo(b: Bench, mem: &mut [u8], jrnl: &[u8]) -> Shared
-    requires { NoneUndoable b.coupler (length (memoryHanded b mem.old)) (length (journalHanded b jrnl.now)) }
-    ensures shared { result ≡ sharedOf (noneOn b mem.old jrnl.now) }
-    ensures memory { mem.new ≡ sets mem.old 0 (noneOn b mem.old jrnl.now).world.core.memory }
+    requires { NoneUndoable b.coupler (length (memory_handed b mem.old)) (length (journal_handed b jrnl.now)) }
+    ensures shared { result ≡ shared_of (none_on b mem.old jrnl.now) }
+    ensures memory { mem.new ≡ sets mem.old 0 (none_on b mem.old jrnl.now).world.core.memory }
 {
     let h = handed_at(b, 0);
     let m = least(h.memory, mem.len());
@@ -122,9 +122,9 @@ fn hand_undo(b: Bench, mem: &mut [u8], jrnl: &[u8]) -> Shared
 }
 
 fn back_none(b: Bench, u: usize, mem: &mut [u8], jrnl: &[u8]) -> Round
-    requires { NoneUndoable b.coupler (length (memoryHanded b mem.old)) (length (journalHanded b jrnl.now)) }
-    ensures round { result ≡ keptRound b u (sharedOf (noneOn b mem.old jrnl.now)) Also.Nothing }
-    ensures memory { mem.new ≡ memoryKeptOf b (noneOn b mem.old jrnl.now) mem.old }
+    requires { NoneUndoable b.coupler (length (memory_handed b mem.old)) (length (journal_handed b jrnl.now)) }
+    ensures round { result ≡ kept_round b u (shared_of (none_on b mem.old jrnl.now)) Also.Nothing }
+    ensures memory { mem.new ≡ memory_kept_of b (none_on b mem.old jrnl.now) mem.old }
 {
     let x = hand_undo(b, mem, jrnl);
     let h = handed_at(b, 0);
@@ -142,10 +142,10 @@ pub fn back(
     jrnl: &mut [u8],
 ) -> Round
     requires { (655360 ≤ length reels.old) × (20480 ≤ length tables.old) }
-    ensures round { result ≡ backRound b mem.old reels.old tables.old jrnl.old u }
-    ensures memory { mem.new ≡ backMemory b mem.old reels.old tables.old jrnl.old }
-    ensures reels { reels.new ≡ backReels b mem.old reels.old tables.old jrnl.old }
-    ensures tables { tables.new ≡ backTables b mem.old reels.old tables.old jrnl.old }
+    ensures round { result ≡ back_round b mem.old reels.old tables.old jrnl.old u }
+    ensures memory { mem.new ≡ back_memory b mem.old reels.old tables.old jrnl.old }
+    ensures reels { reels.new ≡ back_reels b mem.old reels.old tables.old jrnl.old }
+    ensures tables { tables.new ≡ back_tables b mem.old reels.old tables.old jrnl.old }
     ensures journal { BackJournal b mem.old reels.old tables.old jrnl.old jrnl.new }
 {
     let n = refusal(b, mem, jrnl);

@@ -1,7 +1,7 @@
 // One line of the script carried out.
 ghost use Rattle.std.specs.Prelude.{◌≡◌, ◌≤◌, length};
 ghost use Rattle.desk.specs.Benches.{round, still};
-ghost use Rattle.replayer.specs.Turns.{CallJournal, JournalOn, callMemory, callReels, callRound, callTables, memoryOn, reelsOn, roundOn, tablesOn};
+ghost use Rattle.replayer.specs.Turns.{CallJournal, JournalOn, call_memory, call_reels, call_round, call_tables, memory_on, reels_on, round_on, tables_on};
 
 use crate::asks::{Whose, owner_of};
 use crate::owns::{build_for, own, table_for};
@@ -36,10 +36,10 @@ fn make_call(
     jrnl: &mut [u8],
 ) -> Round
     requires { (655360 ≤ length reels.old) × (20480 ≤ length tables.old) }
-    ensures round { result ≡ callRound b u w bytes.now mem.old reels.old tables.old jrnl.old }
-    ensures memory { mem.new ≡ callMemory b u w bytes.now mem.old reels.old tables.old jrnl.old }
-    ensures reels { reels.new ≡ callReels b u w bytes.now mem.old reels.old tables.old jrnl.old }
-    ensures tables { tables.new ≡ callTables b u w bytes.now mem.old reels.old tables.old jrnl.old }
+    ensures round { result ≡ call_round b u w bytes.now mem.old reels.old tables.old jrnl.old }
+    ensures memory { mem.new ≡ call_memory b u w bytes.now mem.old reels.old tables.old jrnl.old }
+    ensures reels { reels.new ≡ call_reels b u w bytes.now mem.old reels.old tables.old jrnl.old }
+    ensures tables { tables.new ≡ call_tables b u w bytes.now mem.old reels.old tables.old jrnl.old }
     ensures journal { CallJournal b u w bytes.now mem.old reels.old tables.old jrnl.old jrnl.new }
 {
     match w {
@@ -62,10 +62,10 @@ pub fn carry_out(
     jrnl: &mut [u8; 1048576],
 ) -> Round
     requires { n ≤ length «data».now }
-    ensures round { result ≡ roundOn b u does «data».now n mem.old reels.old tables.old jrnl.old }
-    ensures memory { mem.new ≡ memoryOn b u does «data».now n mem.old reels.old tables.old jrnl.old }
-    ensures reels { reels.new ≡ reelsOn b u does «data».now n mem.old reels.old tables.old jrnl.old }
-    ensures tables { tables.new ≡ tablesOn b u does «data».now n mem.old reels.old tables.old jrnl.old }
+    ensures round { result ≡ round_on b u does «data».now n mem.old reels.old tables.old jrnl.old }
+    ensures memory { mem.new ≡ memory_on b u does «data».now n mem.old reels.old tables.old jrnl.old }
+    ensures reels { reels.new ≡ reels_on b u does «data».now n mem.old reels.old tables.old jrnl.old }
+    ensures tables { tables.new ≡ tables_on b u does «data».now n mem.old reels.old tables.old jrnl.old }
     ensures journal { JournalOn b u does «data».now n mem.old reels.old tables.old jrnl.old jrnl.new }
 {
     match does {

@@ -5,7 +5,7 @@ use Prim.Native.Nat.{ℕ, ◌<◌}
 use native.Mathlib.Omega.{arith}
 use lib.Dec.{eqb}
 use Rattle.worlds.specs.declared.Session.{Session}
-use Rattle.results.specs.Fields.{bit_of, fields_of, low_of, sessionWith, unitWith}
+use Rattle.results.specs.Fields.{bit_of, fields_of, low_of, session_with, unit_with}
 
 low : (x : ℕ) → x < 4294967296 → low_of x ≡ x
 low x h = omega arith
@@ -14,9 +14,9 @@ told : (b : Bool) → not (eqb (bit_of b) 0) ≡ b
 told true = refl
 told false = refl
 
-pub session-back : (s : Session) → s.unit.characteristics.address < 4294967296 → s.unit.characteristics.length < 4294967296 → sessionWith (fields_of s) ≡ s
-unfolding fields_of sessionWith unitWith
-session-back s h g =
+pub session_back : (s : Session) → s.unit.characteristics.address < 4294967296 → s.unit.characteristics.length < 4294967296 → session_with (fields_of s) ≡ s
+unfolding fields_of session_with unit_with
+session_back s h g =
     let r = s.unit.registers in
     let p = s.unit.panel in
     let a = s.unit.attention in

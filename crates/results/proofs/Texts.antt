@@ -8,23 +8,23 @@ use native.Mathlib.Omega.{arith}
 use lib.ListN.{length, take, get_or}
 use lib.Seq.{take-nil, take-suc}
 use Rattle.script.specs.Prints.{Put}
-use Rattle.script.proofs.Printed.{put-more}
-use Rattle.results.specs.Lines.{decimal, numbersText}
+use Rattle.script.proofs.Printed.{put_more}
+use Rattle.results.specs.Lines.{decimal, numbers_text}
 
 -- nothing is put
-pub put-empty : (o : List ℕ) (at : ℕ) → Put o at [] o at
-put-empty o at = record { stored = rw (take-nil (length o - at)); next = rw (min-zero (length o - at), add-zero at) }
+pub put_empty : (o : List ℕ) (at : ℕ) → Put o at [] o at
+put_empty o at = record { stored = rw (take-nil (length o - at)); next = rw (min-zero (length o - at), add-zero at) }
 
 -- a text put that equals another
 pub put_same : (o t u o' : List ℕ) (at r : ℕ) → t ≡ u → Put o at t o' r → Put o at u o' r
 put_same o t u o' at r e p = rw (← e) p
 
 -- one number more
-numbers-end : (l : List ℕ) (n : ℕ) → numbersText (l ++ (n ∷ [])) ≡ numbersText l ++ ((32 ∷ []) ++ decimal n)
-unfolding numbersText
-numbers-end [] n = append-nil ((32 ∷ []) ++ decimal n)
-numbers-end (m ∷ l) n = ap (λ (t : List ℕ). ((32 ∷ []) ++ decimal m) ++ t) (numbers-end l n) ∙ sym (append_assoc ((32 ∷ []) ++ decimal m) (numbersText l) ((32 ∷ []) ++ decimal n))
+numbers_end : (l : List ℕ) (n : ℕ) → numbers_text (l ++ (n ∷ [])) ≡ numbers_text l ++ ((32 ∷ []) ++ decimal n)
+unfolding numbers_text
+numbers_end [] n = append-nil ((32 ∷ []) ++ decimal n)
+numbers_end (m ∷ l) n = ap (λ (t : List ℕ). ((32 ∷ []) ++ decimal m) ++ t) (numbers_end l n) ∙ sym (append_assoc ((32 ∷ []) ++ decimal m) (numbers_text l) ((32 ∷ []) ++ decimal n))
 
 module _ (f o o' o'' : List ℕ) (at i n r : ℕ) where
-  pub numbers_more : i < length f → Put o at (numbersText (take i f)) o' n → Put o' n ((32 ∷ []) ++ decimal (get_or f i 0)) o'' r → Put o at (numbersText (take (i + 1) f)) o'' r
-  numbers_more h p q = rw (add-one i, take-suc f i 0 h, numbers-end (take i f) (get_or f i 0)) (put-more o (numbersText (take i f)) ((32 ∷ []) ++ decimal (get_or f i 0)) o' o'' at n r p q)
+  pub numbers_more : i < length f → Put o at (numbers_text (take i f)) o' n → Put o' n ((32 ∷ []) ++ decimal (get_or f i 0)) o'' r → Put o at (numbers_text (take (i + 1) f)) o'' r
+  numbers_more h p q = rw (add-one i, take-suc f i 0 h, numbers_end (take i f) (get_or f i 0)) (put_more o (numbers_text (take i f)) ((32 ∷ []) ++ decimal (get_or f i 0)) o' o'' at n r p q)

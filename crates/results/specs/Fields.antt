@@ -34,8 +34,8 @@ fields_of s =
     ∷ []
 
 -- the first so many are printed
-abbrev pub printedFields : ℕ
-printedFields = 21
+abbrev pub printed_fields : ℕ
+printed_fields = 21
 
 -- number i; whether it is not 0; its low 32 bits
 abbrev pub nth : List ℕ → ℕ → ℕ
@@ -47,8 +47,8 @@ is_set n i = not (eqb (nth n i) 0)
 abbrev pub low_of : ℕ → ℕ
 low_of x = x % 4294967296
 
-unfoldable pub unitWith : List ℕ → Unit
-unitWith n =
+unfoldable pub unit_with : List ℕ → Unit
+unit_with n =
     record {
       tape = record { position = nth n 0; end = nth n 1 };
       registers =
@@ -73,5 +73,5 @@ unitWith n =
       lengths = record { memory = nth n 21; blocks = nth n 22 };
     }
 
-unfoldable pub sessionWith : List ℕ → Session
-sessionWith n = record { unit = unitWith n; objects = nth n 20; used = nth n 19; journal = nth n 23 }
+unfoldable pub session_with : List ℕ → Session
+session_with n = record { unit = unit_with n; objects = nth n 20; used = nth n 19; journal = nth n 23 }

@@ -1,8 +1,8 @@
 // The state's fields in the order in which they are printed, and three more that can be set.
 ghost use Rattle.std.specs.Prelude.{◌≡◌, ◌<◌, set, take};
 ghost use Rattle.script.specs.Prints.{Put};
-ghost use Rattle.results.specs.Fields.{fields_of, low_of, printedFields, sessionWith, unitWith};
-ghost use Rattle.results.specs.Lines.{numbersText};
+ghost use Rattle.results.specs.Fields.{fields_of, low_of, printed_fields, session_with, unit_with};
+ghost use Rattle.results.specs.Lines.{numbers_text};
 
 use script::{flag, put_labelled};
 use state::{Attention, Characteristics, Lengths, Panel, Registers, Tape, Unit};
@@ -47,7 +47,7 @@ fn low(x: usize) -> u32
 }
 
 fn unit_of(f: [usize; 24]) -> Unit
-    ensures { result ≡ unitWith f }
+    ensures { result ≡ unit_with f }
 {
     Unit {
         tape: Tape {
@@ -87,7 +87,7 @@ fn unit_of(f: [usize; 24]) -> Unit
 }
 
 fn session_of(f: [usize; 24]) -> Session
-    ensures { result ≡ sessionWith f }
+    ensures { result ≡ session_with f }
 {
     Session {
         unit: unit_of(f),
@@ -100,7 +100,7 @@ fn session_of(f: [usize; 24]) -> Session
 // The session with field k made up.
 pub fn with_field(s: Session, k: usize, v: usize) -> Session
     requires { k < 24 }
-    ensures { result ≡ sessionWith (set (fields_of s) k v) }
+    ensures { result ≡ session_with (set (fields_of s) k v) }
 {
     let mut f = fields(s);
     f[k] = v;
@@ -108,7 +108,7 @@ pub fn with_field(s: Session, k: usize, v: usize) -> Session
 }
 
 fn put_all(out: &mut [u8], at: usize, f: [usize; 24]) -> usize
-    ensures { Put out.old at (numbersText (take printedFields f)) out.new result }
+    ensures { Put out.old at (numbers_text (take printed_fields f)) out.new result }
 {
     let mut next = at;
     let mut i: usize = 0;
@@ -120,7 +120,7 @@ fn put_all(out: &mut [u8], at: usize, f: [usize; 24]) -> usize
 }
 
 pub fn put_fields(out: &mut [u8], at: usize, s: Session) -> usize
-    ensures { Put out.old at (numbersText (take printedFields (fields_of s))) out.new result }
+    ensures { Put out.old at (numbers_text (take printed_fields (fields_of s))) out.new result }
 {
     let f = fields(s);
     put_all(out, at, f)

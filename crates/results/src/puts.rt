@@ -1,8 +1,8 @@
 // The lines that are printed.
 ghost use Rattle.std.specs.Prelude.{◌++◌};
 ghost use Rattle.script.specs.Prints.{Put};
-ghost use Rattle.results.specs.Complaints.{complaintLine, misplacedLine, reasonText};
-ghost use Rattle.results.specs.Lines.{absentLine, alsoText, answerText, badText, doneText, entryText, interruptText, readText, resultLine, sumsText, wordText};
+ghost use Rattle.results.specs.Complaints.{complaint_line, misplaced_line, reason_text};
+ghost use Rattle.results.specs.Lines.{absent_line, also_text, answer_text, bad_text, done_text, entry_text, interrupt_text, read_text, result_line, sums_text, word_text};
 
 use crate::fields::put_fields;
 use crate::{Also, Told};
@@ -11,14 +11,14 @@ use script::{Fault, flag, put_byte, put_bytes, put_decimal, put_hex, put_labelle
 use tape::BlockFault;
 
 fn put_interrupt(out: &mut [u8], at: usize, interrupt: bool, entry: usize) -> usize
-    ensures { Put out.old at (interruptText interrupt ++ entryText entry) out.new result }
+    ensures { Put out.old at (interrupt_text interrupt ++ entry_text entry) out.new result }
 {
     let next = put_labelled(out, at, b" int=", flag(interrupt));
     put_labelled(out, next, b" entry=", entry)
 }
 
 fn put_also(out: &mut [u8], at: usize, also: Also, interrupt: bool) -> usize
-    ensures { Put out.old at (alsoText interrupt also) out.new result }
+    ensures { Put out.old at (also_text interrupt also) out.new result }
 {
     match also {
         Also::Nothing => at,
@@ -29,7 +29,7 @@ fn put_also(out: &mut [u8], at: usize, also: Also, interrupt: bool) -> usize
 }
 
 fn put_done(out: &mut [u8], also: Also, interrupt: bool) -> usize
-    ensures { Put out.old 0 (doneText interrupt also) out.new result }
+    ensures { Put out.old 0 (done_text interrupt also) out.new result }
 {
     let at = put_bytes(out, 0, b"0");
     put_also(out, at, also, interrupt)
@@ -37,7 +37,7 @@ fn put_done(out: &mut [u8], also: Also, interrupt: bool) -> usize
 
 // Refusal 7: the block, and the letter of what is wrong with it.
 fn put_bad(out: &mut [u8], fault: BlockFault, k: usize) -> usize
-    ensures { Put out.old 0 (badText fault k) out.new result }
+    ensures { Put out.old 0 (bad_text fault k) out.new result }
 {
     let at1 = put_labelled(out, 0, b"7 block=", k);
     let at2 = put_bytes(out, at1, b" fault=");
@@ -45,7 +45,7 @@ fn put_bad(out: &mut [u8], fault: BlockFault, k: usize) -> usize
 }
 
 fn put_answer(out: &mut [u8], answer: Answer, also: Also) -> usize
-    ensures { Put out.old 0 (answerText answer also) out.new result }
+    ensures { Put out.old 0 (answer_text answer also) out.new result }
 {
     match answer {
         Answer::Done(interrupt) => put_done(out, also, interrupt),
@@ -56,14 +56,14 @@ fn put_answer(out: &mut [u8], answer: Answer, also: Also) -> usize
 }
 
 fn put_read(out: &mut [u8], at: usize, w: usize) -> usize
-    ensures { Put out.old at (readText w) out.new result }
+    ensures { Put out.old at (read_text w) out.new result }
 {
     let next = put_bytes(out, at, b" word=");
     put_hex(out, next, w, 4)
 }
 
 fn put_word_read(out: &mut [u8], at: usize, also: Also) -> usize
-    ensures { Put out.old at (wordText also) out.new result }
+    ensures { Put out.old at (word_text also) out.new result }
 {
     match also {
         Also::Nothing => at,
@@ -74,7 +74,7 @@ fn put_word_read(out: &mut [u8], at: usize, also: Also) -> usize
 }
 
 fn put_sums(out: &mut [u8], at: usize, memory: usize, reel: usize, table: usize) -> usize
-    ensures { Put out.old at (sumsText memory reel table) out.new result }
+    ensures { Put out.old at (sums_text memory reel table) out.new result }
 {
     let at1 = put_bytes(out, at, b" | ");
     let at2 = put_hex(out, at1, memory, 8);
@@ -87,7 +87,7 @@ fn put_sums(out: &mut [u8], at: usize, memory: usize, reel: usize, table: usize)
 
 // The result line of a call, with the check sums of memory, reel and the table's used part.
 pub fn put_result(out: &mut [u8], t: Told, memory: usize, reel: usize, table: usize) -> usize
-    ensures { Put out.old 0 (resultLine t.answer t.also t.session memory reel table) out.new result }
+    ensures { Put out.old 0 (result_line t.answer t.also t.session memory reel table) out.new result }
 {
     let answer = t.answer;
     let also = t.also;
@@ -101,7 +101,7 @@ pub fn put_result(out: &mut [u8], t: Told, memory: usize, reel: usize, table: us
 
 // The result line of a call where the line's unit is not in the row: with the check sum of memory alone.
 pub fn put_absent(out: &mut [u8], t: Told, memory: usize) -> usize
-    ensures { Put out.old 0 (absentLine t.answer t.also memory) out.new result }
+    ensures { Put out.old 0 (absent_line t.answer t.also memory) out.new result }
 {
     let answer = t.answer;
     let also = t.also;
@@ -113,7 +113,7 @@ pub fn put_absent(out: &mut [u8], t: Told, memory: usize) -> usize
 }
 
 fn put_reason(out: &mut [u8], at: usize, f: Fault) -> usize
-    ensures { Put out.old at (reasonText f) out.new result }
+    ensures { Put out.old at (reason_text f) out.new result }
 {
     match f {
         Fault::UnknownWord => put_bytes(out, at, b": unknown word\n"),
@@ -139,7 +139,7 @@ fn put_reason(out: &mut [u8], at: usize, f: Fault) -> usize
 
 // The line that says which line can't be read, and why.
 pub fn put_complaint(out: &mut [u8], line: usize, f: Fault) -> usize
-    ensures { Put out.old 0 (complaintLine line f) out.new result }
+    ensures { Put out.old 0 (complaint_line line f) out.new result }
 {
     let at = put_labelled(out, 0, b"line ", line);
     put_reason(out, at, f)
@@ -147,7 +147,7 @@ pub fn put_complaint(out: &mut [u8], line: usize, f: Fault) -> usize
 
 // The line that says which line has a prefix and takes none.
 pub fn put_misplaced(out: &mut [u8], line: usize) -> usize
-    ensures { Put out.old 0 (misplacedLine line) out.new result }
+    ensures { Put out.old 0 (misplaced_line line) out.new result }
 {
     let at = put_labelled(out, 0, b"line ", line);
     put_bytes(out, at, b": not a line of one unit\n")

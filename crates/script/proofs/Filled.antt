@@ -12,12 +12,12 @@ use lib.Dec.{leb}
 use lib.ListN.{take-append-drop, length, take, drop, get_or, set, replicate, length-append, length-take, length-drop, length-replicate}
 use lib.Seq.{sets-eq, drop-drop, drop-length, length-take-le, length-sets, sets, take_all, take-suc}
 use Rattle.lists.specs.Pick.{pick}
-use Rattle.lists.proofs.Stores.{drop-sets, filled, put-sets, sets-at, sets_more, sets-whole}
+use Rattle.lists.proofs.Stores.{drop_sets, filled, put_sets, sets_at, sets_more, sets_whole}
 use Rattle.script.specs.Fills.{appended, copied, generated, holds, made, wiped}
 
 -- one more byte of a run
-pub store-more : (l d : List ℕ) (i : ℕ) → i < length d → set (sets l 0 (take i d)) i (get_or d i 0) ≡ sets l 0 (take (i + 1) d)
-store-more l d i h = rw (add-one i, take-suc d i 0 h) (sets-at (take i d) (get_or d i 0 ∷ []) l 0 i (rw (zero-add, length-take-le i d (omega arith))))
+pub store_more : (l d : List ℕ) (i : ℕ) → i < length d → set (sets l 0 (take i d)) i (get_or d i 0) ≡ sets l 0 (take (i + 1) d)
+store_more l d i h = rw (add-one i, take-suc d i 0 h) (sets_at (take i d) (get_or d i 0 ∷ []) l 0 i (rw (zero-add, length-take-le i d (omega arith))))
 
 take_min : (n : ℕ) (l : List ℕ) → take (min n (length l)) l ≡ take n l
 take_min zero l = rw (zero-min (length l))
@@ -25,88 +25,88 @@ take_min (suc n) [] = rw (min-zero (suc n))
 take_min (suc n) (x ∷ l) = rw (suc-min-suc n (length l)) (ap (λ (t : List ℕ). x ∷ t) (take_min n l))
 
 -- all that there is room for is copied
-pub copy-end : (b d : List ℕ) (n i : ℕ) → n ≡ min (length b) (length d) → i ≤ n → n ≤ i → sets b 0 (take i d) ≡ copied b d
-copy-end b d n i e h k =
+pub copy_end : (b d : List ℕ) (n i : ℕ) → n ≡ min (length b) (length d) → i ≤ n → n ≤ i → sets b 0 (take i d) ≡ copied b d
+copy_end b d n i e h k =
     let f : i ≡ min (length b) (length d) = omega (arith, e) in
     rw (f, take_min (length b) d)
 
 -- a list stored over itself
-sets-self : (l : List ℕ) (k : ℕ) → k ≤ length l → sets l k (drop k l) ≡ l
-sets-self l k h =
+sets_self : (l : List ℕ) (k : ℕ) → k ≤ length l → sets l k (drop k l) ≡ l
+sets_self l k h =
     let e : k + length (drop k l) ≡ length l = omega (arith, length-drop k l) in
     sets-eq (drop k l) l k (omega arith) ∙ rw (take-append-drop k l, e, drop-length l) (append-nil l)
 
 -- a run stored into the rest of a list, and the rest stored back
-sets-rest : (l v : List ℕ) (n : ℕ) → n + length v ≤ length l → sets l n (sets (drop n l) 0 v) ≡ sets l n v
-sets-rest l v n h =
+sets_rest : (l v : List ℕ) (n : ℕ) → n + length v ≤ length l → sets l n (sets (drop n l) 0 v) ≡ sets l n v
+sets_rest l v n h =
     let k : length v ≤ length (drop n l) = omega (arith, length-drop n l) in
     let x : sets (drop n l) 0 v ≡ v ++ drop (n + length v) l = sets-eq v (drop n l) 0 (rw zero-add k) ∙ rw (zero-add (length v), drop-drop (length v) n l) in
-    let y : drop (n + length v) (sets l n v) ≡ drop (n + length v) l = drop-sets v l n (n + length v) (omega arith) in
-    rw (x, ← sets_more v (drop (n + length v) l) l n, ← y) (sets-self (sets l n v) (n + length v) (rw (length-sets l n v) h))
+    let y : drop (n + length v) (sets l n v) ≡ drop (n + length v) l = drop_sets v l n (n + length v) (omega arith) in
+    rw (x, ← sets_more v (drop (n + length v) l) l n, ← y) (sets_self (sets l n v) (n + length v) (rw (length-sets l n v) h))
 
 -- d copied into the part of a line from n on
 module _ (l d g : List ℕ) (n : ℕ) (h : n ≤ length l) where
-  pub copied-part : g ≡ copied (take (length l - n) (drop n l)) d → put_mid n (length l - n) l g ≡ sets l n (take (length l - n) d)
-  copied-part e =
+  pub copied_part : g ≡ copied (take (length l - n) (drop n l)) d → put_mid n (length l - n) l g ≡ sets l n (take (length l - n) d)
+  copied_part e =
       let m : length (drop n l) ≡ length l - n = length-drop n l in
       let q : take (length l - n) (drop n l) ≡ drop n l = take_all (length l - n) (drop n l) (omega arith) in
       let f : g ≡ sets (drop n l) 0 (take (length l - n) d) = e ∙ rw (q, m) in
       let k : length g ≡ length l - n = ap length f ∙ length-sets (drop n l) 0 (take (length l - n) d) ∙ m in
-      put-sets n (length l - n) l g k (omega arith)
+      put_sets n (length l - n) l g k (omega arith)
       ∙ ap (sets l n) f
-      ∙ sets-rest l (take (length l - n) d) n (omega (arith, length-take (length l - n) d))
+      ∙ sets_rest l (take (length l - n) d) n (omega (arith, length-take (length l - n) d))
 
 -- what `append` answers and leaves
 module _ (l d : List ℕ) (n long : ℕ) where
-  pub append-long : length l < n + length d → long ≡ pick (holds l n d) (n + length d) long
-  append-long h = rw (lt-leb (n + length d) (length l) h)
+  pub append_long : length l < n + length d → long ≡ pick (holds l n d) (n + length d) long
+  append_long h = rw (lt-leb (n + length d) (length l) h)
 
   pub append_left : length l < n + length d → l ≡ appended l n d
   unfolding appended
   append_left h = rw (lt-leb (n + length d) (length l) h)
 
-  pub append-count : n + length d ≤ length l → n + length d ≡ pick (holds l n d) (n + length d) long
-  append-count h = rw (le-leb (n + length d) (length l) h)
+  pub append_count : n + length d ≤ length l → n + length d ≡ pick (holds l n d) (n + length d) long
+  append_count h = rw (le-leb (n + length d) (length l) h)
 
-  pub append-put : (g : List ℕ) → n + length d ≤ length l → g ≡ copied (take (length l - n) (drop n l)) d → put_mid n (length l - n) l g ≡ appended l n d
+  pub append_put : (g : List ℕ) → n + length d ≤ length l → g ≡ copied (take (length l - n) (drop n l)) d → put_mid n (length l - n) l g ≡ appended l n d
   unfolding appended
-  append-put g h e =
+  append_put g h e =
       let t : take (length l - n) d ≡ d = take_all (length l - n) d (omega arith) in
-      rw (le-leb (n + length d) (length l) h) (copied-part l d g n (omega arith) e ∙ ap (sets l n) t)
+      rw (le-leb (n + length d) (length l) h) (copied_part l d g n (omega arith) e ∙ ap (sets l n) t)
 
 -- what `wipe` leaves
 module _ (b : List ℕ) (from to : ℕ) where
-  pub wipe-beyond : length b < to → b ≡ wiped b from to
+  pub wipe_beyond : length b < to → b ≡ wiped b from to
   unfolding wiped
-  wipe-beyond h = rw (lt-leb to (length b) h) (off (leb from to))
+  wipe_beyond h = rw (lt-leb to (length b) h) (off (leb from to))
     where
       off : (t : Bool) → b ≡ pick (t && false) (sets b from (replicate (to - from) 0)) b
       off true = refl
       off false = refl
 
-  pub wipe-crossed : to < from → b ≡ wiped b from to
+  pub wipe_crossed : to < from → b ≡ wiped b from to
   unfolding wiped
-  wipe-crossed h = rw (lt-leb from to h)
+  wipe_crossed h = rw (lt-leb from to h)
 
-  pub wipe-zeros : (g : List ℕ) → from ≤ to → to ≤ length b → g ≡ replicate (length (take (to - from) (drop from b))) 0 → put_mid from (to - from) b g ≡ wiped b from to
+  pub wipe_zeros : (g : List ℕ) → from ≤ to → to ≤ length b → g ≡ replicate (length (take (to - from) (drop from b))) 0 → put_mid from (to - from) b g ≡ wiped b from to
   unfolding wiped
-  wipe-zeros g h k e = rw (le-leb from to h, le-leb to (length b) k) (filled (λ m. replicate m 0) (λ m. length-replicate m 0) b g from to h k e)
+  wipe_zeros g h k e = rw (le-leb from to h, le-leb to (length b) k) (filled (λ m. replicate m 0) (λ m. length-replicate m 0) b g from to h k e)
 
 -- the bytes of a seed
-pub length-generated : (seed n : ℕ) → length (generated seed n) ≡ n
+pub length_generated : (seed n : ℕ) → length (generated seed n) ≡ n
 unfolding generated
-length-generated seed zero = refl
-length-generated seed (suc n) = omega (arith, length-append (generated seed n) (made seed n ∷ []), length-generated seed n)
+length_generated seed zero = refl
+length_generated seed (suc n) = omega (arith, length-append (generated seed n) (made seed n ∷ []), length_generated seed n)
 
 same_byte : (a b k : ℕ) → b ≡ a + 256 * k → a % 256 ≡ b % 256
 same_byte a b k e = omega arith
 
-made-is : (seed i : ℕ) → (seed % 256 + i % 256 * 7 + i / 256 % 256 * 13) % 256 ≡ made seed i
-made-is seed i = same_byte (seed % 256 + i % 256 * 7 + i / 256 % 256 * 13) (seed + i * 7 + i / 256 * 13) (seed / 256 + i / 256 * 7 + i / 256 / 256 * 13) (omega arith)
+made_is : (seed i : ℕ) → (seed % 256 + i % 256 * 7 + i / 256 % 256 * 13) % 256 ≡ made seed i
+made_is seed i = same_byte (seed % 256 + i % 256 * 7 + i / 256 % 256 * 13) (seed + i * 7 + i / 256 * 13) (seed / 256 + i / 256 * 7 + i / 256 / 256 * 13) (omega arith)
 
-pub generate-more : (b m : List ℕ) (seed i : ℕ) → m ≡ sets b 0 (generated seed i) → set m i ((seed % 256 + i % 256 * 7 + i / 256 % 256 * 13) % 256) ≡ sets b 0 (generated seed (i + 1))
+pub generate_more : (b m : List ℕ) (seed i : ℕ) → m ≡ sets b 0 (generated seed i) → set m i ((seed % 256 + i % 256 * 7 + i / 256 % 256 * 13) % 256) ≡ sets b 0 (generated seed (i + 1))
 unfolding generated
-generate-more b m seed i e = rw (add-one i, made-is seed i, e) (sets-at (generated seed i) (made seed i ∷ []) b 0 i (rw (zero-add, length-generated seed i)))
+generate_more b m seed i e = rw (add-one i, made_is seed i, e) (sets_at (generated seed i) (made seed i ∷ []) b 0 i (rw (zero-add, length_generated seed i)))
 
-pub generate-end : (b : List ℕ) (seed i : ℕ) → i ≡ length b → sets b 0 (generated seed i) ≡ generated seed (length b)
-generate-end b seed i e = sets-whole (generated seed i) b (length-generated seed i ∙ e) ∙ ap (generated seed) e
+pub generate_end : (b : List ℕ) (seed i : ℕ) → i ≡ length b → sets b 0 (generated seed i) ≡ generated seed (length b)
+generate_end b seed i e = sets_whole (generated seed i) b (length_generated seed i ∙ e) ∙ ap (generated seed) e

@@ -3,44 +3,44 @@ use mathlib.Core.Path.{◌≡◌, refl}
 use mathlib.Core.List.{[], ◌∷◌}
 use Rattle.script.specs.declared.Fault.TheVariants as fault
 use Rattle.script.specs.declared.Value.TheVariants as value
-use Rattle.script.specs.Words.{eqs, last_end, over, spanned, placeFrom, place_of, wordEnd, wordFrom, wordStart}
-use Rattle.script.specs.Numbers.{digitOf, hexed, joined, number_in, said}
+use Rattle.script.specs.Words.{eqs, last_end, over, spanned, place_from, place_of, word_end, word_from, word_start}
+use Rattle.script.specs.Numbers.{digit_of, hexed, joined, number_in, said}
 use Rattle.script.specs.Fills.{generated, pairs}
-use Rattle.script.specs.Spelling.{placesFrom, spelling}
+use Rattle.script.specs.Spelling.{places_from, spelling}
 use Rattle.script.specs.Sums.{crc32, step, steps, summed}
 
 -- "ab  cd " has the words ab and cd, and is over at 6
-second : wordFrom (97 ∷ 98 ∷ 32 ∷ 9 ∷ 99 ∷ 100 ∷ 32 ∷ []) 1 ≡ 99 ∷ 100 ∷ []
-unfolding wordFrom wordStart wordEnd over spanned
+second : word_from (97 ∷ 98 ∷ 32 ∷ 9 ∷ 99 ∷ 100 ∷ 32 ∷ []) 1 ≡ 99 ∷ 100 ∷ []
+unfolding word_from word_start word_end over spanned
 second = refl
 
-last-over : last_end (97 ∷ 98 ∷ 32 ∷ 9 ∷ 99 ∷ 100 ∷ 32 ∷ []) ≡ 6
+last_over : last_end (97 ∷ 98 ∷ 32 ∷ 9 ∷ 99 ∷ 100 ∷ 32 ∷ []) ≡ 6
 unfolding last_end
-last-over = refl
+last_over = refl
 
 which : place_of (97 ∷ 98 ∷ 32 ∷ 9 ∷ 99 ∷ 100 ∷ 32 ∷ []) (99 ∷ 100 ∷ []) ≡ 1
-unfolding placeFrom eqs wordFrom wordStart wordEnd over spanned
+unfolding place_from eqs word_from word_start word_end over spanned
 which = refl
 
 -- 207, 0x1Fe, 12a, 0x and the least number that does not fit
 decimal : number_in (50 ∷ 48 ∷ 55 ∷ []) ≡ value.Is 207
-unfolding number_in hexed said joined digitOf
+unfolding number_in hexed said joined digit_of
 decimal = refl
 
 hexadecimal : number_in (48 ∷ 120 ∷ 49 ∷ 70 ∷ 101 ∷ []) ≡ value.Is 510
-unfolding number_in hexed said joined digitOf
+unfolding number_in hexed said joined digit_of
 hexadecimal = refl
 
 no_digit : number_in (49 ∷ 50 ∷ 97 ∷ []) ≡ value.Wrong fault.NumberWrong
-unfolding number_in hexed said joined digitOf
+unfolding number_in hexed said joined digit_of
 no_digit = refl
 
-no-digits : number_in (48 ∷ 120 ∷ []) ≡ value.Wrong fault.NumberWrong
-unfolding number_in hexed said joined digitOf
-no-digits = refl
+no_digits : number_in (48 ∷ 120 ∷ []) ≡ value.Wrong fault.NumberWrong
+unfolding number_in hexed said joined digit_of
+no_digits = refl
 
 too_large : number_in (49 ∷ 56 ∷ 52 ∷ 52 ∷ 54 ∷ 55 ∷ 52 ∷ 52 ∷ 48 ∷ 55 ∷ 51 ∷ 55 ∷ 48 ∷ 57 ∷ 53 ∷ 53 ∷ 49 ∷ 54 ∷ 49 ∷ 54 ∷ []) ≡ value.Wrong fault.NumberTooLarge
-unfolding number_in hexed said joined digitOf
+unfolding number_in hexed said joined digit_of
 too_large = refl
 
 -- the bytes of a seed, and of the digits 0fA9g0
@@ -49,7 +49,7 @@ unfolding generated
 seeded = refl
 
 in_pairs : pairs (48 ∷ 102 ∷ 65 ∷ 57 ∷ 103 ∷ 48 ∷ []) ≡ 15 ∷ 169 ∷ []
-unfolding pairs digitOf
+unfolding pairs digit_of
 in_pairs = refl
 
 -- the check sum of "123456789"
@@ -58,14 +58,14 @@ unfolding crc32 summed steps step
 check = refl
 
 -- 0 and 207 in decimal, and 510 in hexadecimal with at least four digits
-spelt-none : spelling 10 1 0 ≡ 48 ∷ []
-unfolding spelling placesFrom
-spelt-none = refl
+spelt_none : spelling 10 1 0 ≡ 48 ∷ []
+unfolding spelling places_from
+spelt_none = refl
 
-spelt-decimal : spelling 10 1 207 ≡ 50 ∷ 48 ∷ 55 ∷ []
-unfolding spelling placesFrom
-spelt-decimal = refl
+spelt_decimal : spelling 10 1 207 ≡ 50 ∷ 48 ∷ 55 ∷ []
+unfolding spelling places_from
+spelt_decimal = refl
 
-spelt-hexadecimal : spelling 16 4 510 ≡ 48 ∷ 49 ∷ 102 ∷ 101 ∷ []
-unfolding spelling placesFrom
-spelt-hexadecimal = refl
+spelt_hexadecimal : spelling 16 4 510 ≡ 48 ∷ 49 ∷ 102 ∷ 101 ∷ []
+unfolding spelling places_from
+spelt_hexadecimal = refl

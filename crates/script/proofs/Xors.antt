@@ -10,9 +10,9 @@ use lib.Bits.{bit_xor, differ, shifted_even, shifted_half, xor_comm, xor_mod, xo
 use lib.Dec.{eqb}
 use lib.ListN.{length, take, drop, get_or, set, length-append, get_or-append}
 use lib.Seq.{drop-cons, drop-length, get_or_at, take_all, take-suc-set}
-use Rattle.lists.proofs.Cases.{by-test}
+use Rattle.lists.proofs.Cases.{by_test}
 use Rattle.lists.specs.Words.{Bytes}
-use Rattle.script.specs.Sums.{crc32, crcBy, crcTable, step, steps, summed, tabled, tableTo}
+use Rattle.script.specs.Sums.{crc32, crc_by, crc_table, step, steps, summed, tabled, table_to}
 
 -- exclusive or is associative, as its digits are
 module _ (a b : ℕ) where
@@ -22,46 +22,46 @@ module _ (a b : ℕ) where
   odd : bit_xor a b % 2 ≡ bit_xor (a % 2) (b % 2)
   odd = xor_mod a b 1
 
-differ-is : (r s : ℕ) → r < 2 → s < 2 → bit_xor r s ≡ differ r s
-differ-is zero s h k = refl
-differ-is (suc zero) zero h k = refl
-differ-is (suc zero) (suc zero) h k = refl
-differ-is (suc zero) (suc (suc s)) h k = absurd (omega arith)
-differ-is (suc (suc r)) s h k = absurd (omega arith)
+differ_is : (r s : ℕ) → r < 2 → s < 2 → bit_xor r s ≡ differ r s
+differ_is zero s h k = refl
+differ_is (suc zero) zero h k = refl
+differ_is (suc zero) (suc zero) h k = refl
+differ_is (suc zero) (suc (suc s)) h k = absurd (omega arith)
+differ_is (suc (suc r)) s h k = absurd (omega arith)
 
-differ-assoc : (r s t : ℕ) → r < 2 → s < 2 → t < 2 → differ (differ r s) t ≡ differ r (differ s t)
-differ-assoc zero s t h k l = refl
-differ-assoc (suc zero) zero t h k l = refl
-differ-assoc (suc zero) (suc zero) zero h k l = refl
-differ-assoc (suc zero) (suc zero) (suc zero) h k l = refl
-differ-assoc (suc zero) (suc zero) (suc (suc t)) h k l = absurd (omega arith)
-differ-assoc (suc zero) (suc (suc s)) t h k l = absurd (omega arith)
-differ-assoc (suc (suc r)) s t h k l = absurd (omega arith)
+differ_assoc : (r s t : ℕ) → r < 2 → s < 2 → t < 2 → differ (differ r s) t ≡ differ r (differ s t)
+differ_assoc zero s t h k l = refl
+differ_assoc (suc zero) zero t h k l = refl
+differ_assoc (suc zero) (suc zero) zero h k l = refl
+differ_assoc (suc zero) (suc zero) (suc zero) h k l = refl
+differ_assoc (suc zero) (suc zero) (suc (suc t)) h k l = absurd (omega arith)
+differ_assoc (suc zero) (suc (suc s)) t h k l = absurd (omega arith)
+differ_assoc (suc (suc r)) s t h k l = absurd (omega arith)
 
 low : (a : ℕ) → a % 2 < 2
 low a = omega arith
 
 digit : (a b : ℕ) → bit_xor a b % 2 ≡ differ (a % 2) (b % 2)
-digit a b = odd a b ∙ differ-is (a % 2) (b % 2) (low a) (low b)
+digit a b = odd a b ∙ differ_is (a % 2) (b % 2) (low a) (low b)
 
 pub xor_assoc : (a b c : ℕ) → bit_xor (bit_xor a b) c ≡ bit_xor a (bit_xor b c)
 xor_assoc a =
     bin_ind (λ (n : ℕ). (b c : ℕ) → bit_xor (bit_xor n b) c ≡ bit_xor n (bit_xor b c)) (λ b c. refl)
     (λ n ih b c. xor_step (bit_xor n b) c
     ∙ ap₂ (λ (x y : ℕ). bit_xor x (c / 2) * 2 + differ y (c % 2)) (half n b) (digit n b)
-    ∙ ap₂ (λ (x y : ℕ). x * 2 + y) (ih (b / 2) (c / 2)) (differ-assoc (n % 2) (b % 2) (c % 2) (low n) (low b) (low c))
+    ∙ ap₂ (λ (x y : ℕ). x * 2 + y) (ih (b / 2) (c / 2)) (differ_assoc (n % 2) (b % 2) (c % 2) (low n) (low b) (low c))
     ∙ sym (ap₂ (λ (x y : ℕ). bit_xor (n / 2) x * 2 + differ (n % 2) y) (half b c) (digit b c))
     ∙ sym (xor_step n (bit_xor b c))) a
 
 module _ (a b q : ℕ) where
-  xor-second : bit_xor (bit_xor a b) q ≡ bit_xor a (bit_xor b q)
-  xor-second = xor_assoc a b q
+  xor_second : bit_xor (bit_xor a b) q ≡ bit_xor a (bit_xor b q)
+  xor_second = xor_assoc a b q
 
   xor_first : bit_xor (bit_xor a b) q ≡ bit_xor (bit_xor a q) b
   xor_first = xor_assoc a b q ∙ ap (bit_xor a) (xor_comm b q) ∙ sym (xor_assoc a q b)
 
-  xor-both : bit_xor a b ≡ bit_xor (bit_xor a q) (bit_xor b q)
-  xor-both =
+  xor_both : bit_xor a b ≡ bit_xor (bit_xor a q) (bit_xor b q)
+  xor_both =
       sym (xor_assoc a q (bit_xor b q)
       ∙ ap (bit_xor a) (ap (bit_xor q) (xor_comm b q) ∙ sym (xor_assoc q q b) ∙ ap (λ (x : ℕ). bit_xor x b) (xor_self q)))
 
@@ -74,47 +74,47 @@ even c h = by (c % 2) (low c) h
     by (suc (suc r)) k h = absurd (omega arith)
 
 -- one bit
-pub step-even : (c : ℕ) → c % 2 ≡ 0 → step c ≡ c / 2
+pub step_even : (c : ℕ) → c % 2 ≡ 0 → step c ≡ c / 2
 unfolding step
-step-even c e = rw (ne_eqb (c % 2) 1 (λ (z : c % 2 ≡ 1). omega arith))
+step_even c e = rw (ne_eqb (c % 2) 1 (λ (z : c % 2 ≡ 1). omega arith))
 
-pub step-odd : (c : ℕ) → c % 2 ≡ 1 → step c ≡ bit_xor (c / 2) 3988292384
+pub step_odd : (c : ℕ) → c % 2 ≡ 1 → step c ≡ bit_xor (c / 2) 3988292384
 unfolding step
-step-odd c e = rw (eq-eqb (c % 2) 1 e)
+step_odd c e = rw (eq-eqb (c % 2) 1 e)
 
-step-xor : (a b : ℕ) → step (bit_xor a b) ≡ bit_xor (step a) (step b)
-step-xor a b = by (a % 2) (b % 2) refl refl (low a) (low b)
+step_xor : (a b : ℕ) → step (bit_xor a b) ≡ bit_xor (step a) (step b)
+step_xor a b = by (a % 2) (b % 2) refl refl (low a) (low b)
   where
     by : (r s : ℕ) → a % 2 ≡ r → b % 2 ≡ s → r < 2 → s < 2 → step (bit_xor a b) ≡ bit_xor (step a) (step b)
     by zero zero p q h k =
-        step-even (bit_xor a b) (digit a b ∙ ap₂ differ p q) ∙ half a b ∙ sym (ap₂ bit_xor (step-even a p) (step-even b q))
+        step_even (bit_xor a b) (digit a b ∙ ap₂ differ p q) ∙ half a b ∙ sym (ap₂ bit_xor (step_even a p) (step_even b q))
     by zero (suc zero) p q h k =
-        step-odd (bit_xor a b) (digit a b ∙ ap₂ differ p q) ∙ ap (λ (x : ℕ). bit_xor x 3988292384) (half a b) ∙ xor-second (a / 2) (b / 2) 3988292384 ∙ sym (ap₂ bit_xor (step-even a p) (step-odd b q))
+        step_odd (bit_xor a b) (digit a b ∙ ap₂ differ p q) ∙ ap (λ (x : ℕ). bit_xor x 3988292384) (half a b) ∙ xor_second (a / 2) (b / 2) 3988292384 ∙ sym (ap₂ bit_xor (step_even a p) (step_odd b q))
     by (suc zero) zero p q h k =
-        step-odd (bit_xor a b) (digit a b ∙ ap₂ differ p q) ∙ ap (λ (x : ℕ). bit_xor x 3988292384) (half a b) ∙ xor_first (a / 2) (b / 2) 3988292384 ∙ sym (ap₂ bit_xor (step-odd a p) (step-even b q))
+        step_odd (bit_xor a b) (digit a b ∙ ap₂ differ p q) ∙ ap (λ (x : ℕ). bit_xor x 3988292384) (half a b) ∙ xor_first (a / 2) (b / 2) 3988292384 ∙ sym (ap₂ bit_xor (step_odd a p) (step_even b q))
     by (suc zero) (suc zero) p q h k =
-        step-even (bit_xor a b) (digit a b ∙ ap₂ differ p q) ∙ half a b ∙ xor-both (a / 2) (b / 2) 3988292384 ∙ sym (ap₂ bit_xor (step-odd a p) (step-odd b q))
+        step_even (bit_xor a b) (digit a b ∙ ap₂ differ p q) ∙ half a b ∙ xor_both (a / 2) (b / 2) 3988292384 ∙ sym (ap₂ bit_xor (step_odd a p) (step_odd b q))
     by (suc (suc r)) s p q h k = absurd (omega arith)
     by zero (suc (suc s)) p q h k = absurd (omega arith)
     by (suc zero) (suc (suc s)) p q h k = absurd (omega arith)
 
-steps-xor : (n a b : ℕ) → steps n (bit_xor a b) ≡ bit_xor (steps n a) (steps n b)
+steps_xor : (n a b : ℕ) → steps n (bit_xor a b) ≡ bit_xor (steps n a) (steps n b)
 unfolding steps
-steps-xor zero a b = refl
-steps-xor (suc n) a b = ap (steps n) (step-xor a b) ∙ steps-xor n (step a) (step b)
+steps_xor zero a b = refl
+steps_xor (suc n) a b = ap (steps n) (step_xor a b) ∙ steps_xor n (step a) (step b)
 
 -- bits that are 0 only move
-steps-shifted : (n y : ℕ) → steps n (y * 2 ^ n) ≡ y
+steps_shifted : (n y : ℕ) → steps n (y * 2 ^ n) ≡ y
 unfolding steps
-steps-shifted zero y = omega arith
-steps-shifted (suc n) y = ap (steps n) (step-even (y * 2 ^ suc n) (shifted_even y n) ∙ shifted_half y n) ∙ steps-shifted n y
+steps_shifted zero y = omega arith
+steps_shifted (suc n) y = ap (steps n) (step_even (y * 2 ^ suc n) (shifted_even y n) ∙ shifted_half y n) ∙ steps_shifted n y
 
 -- eight bits: what the low byte makes of itself, and the rest, moved
 eight : (x : ℕ) → steps 8 x ≡ bit_xor (steps 8 (x % 256)) (x / 256)
 eight x =
     let e : x ≡ x / 256 * 2 ^ 8 + x % 256 = omega arith in
     let f : x ≡ bit_xor (x / 256 * 2 ^ 8) (x % 256) = e ∙ sym (xor_shifted (x / 256) 8 (x % 256) (omega arith)) in
-    ap (steps 8) f ∙ steps-xor 8 (x / 256 * 2 ^ 8) (x % 256) ∙ ap (λ (y : ℕ). bit_xor y (steps 8 (x % 256))) (steps-shifted 8 (x / 256)) ∙ xor_comm (x / 256) (steps 8 (x % 256))
+    ap (steps 8) f ∙ steps_xor 8 (x / 256 * 2 ^ 8) (x % 256) ∙ ap (λ (y : ℕ). bit_xor y (steps 8 (x % 256))) (steps_shifted 8 (x / 256)) ∙ xor_comm (x / 256) (steps 8 (x % 256))
 
 less : (k n : ℕ) → k < suc n → (k ≡ n → ⊥) → k < n
 less k n h e = omega arith
@@ -123,34 +123,34 @@ byte : (x : ℕ) → x % 256 < 256
 byte x = omega arith
 
 -- the table
-pub length-table : (n : ℕ) → length (tableTo n) ≡ n
-unfolding tableTo
-length-table zero = refl
-length-table (suc n) = omega (arith, length-append (tableTo n) (steps 8 n ∷ []), length-table n)
+pub length_table : (n : ℕ) → length (table_to n) ≡ n
+unfolding table_to
+length_table zero = refl
+length_table (suc n) = omega (arith, length-append (table_to n) (steps 8 n ∷ []), length_table n)
 
-entry : (n k : ℕ) → k < n → get_or (tableTo n) k 0 ≡ steps 8 k
-unfolding tableTo
+entry : (n k : ℕ) → k < n → get_or (table_to n) k 0 ≡ steps 8 k
+unfolding table_to
 entry zero k h = absurd (omega arith)
 entry (suc n) k h =
-    by-test (eqb k n)
-    (λ e. let q : k ≡ n = eqb-true k n e in get_or_at (tableTo n) (steps 8 n) [] 0 k (length-table n ∙ sym q) ∙ ap (steps 8) (sym q))
-    (λ e. let q : k < n = less k n h (eqb-false k n e) in get_or-append (tableTo n) (steps 8 n ∷ []) 0 k (omega (arith, length-table n)) ∙ entry n k q)
+    by_test (eqb k n)
+    (λ e. let q : k ≡ n = eqb-true k n e in get_or_at (table_to n) (steps 8 n) [] 0 k (length_table n ∙ sym q) ∙ ap (steps 8) (sym q))
+    (λ e. let q : k < n = less k n h (eqb-false k n e) in get_or-append (table_to n) (steps 8 n ∷ []) 0 k (omega (arith, length_table n)) ∙ entry n k q)
 
-look : (c b : ℕ) → b < 256 → bit_xor (get_or crcTable (bit_xor c b % 256) 0) (c / 256) ≡ steps 8 (bit_xor c b)
+look : (c b : ℕ) → b < 256 → bit_xor (get_or crc_table (bit_xor c b % 256) 0) (c / 256) ≡ steps 8 (bit_xor c b)
 look c b h =
     let z : b / 256 ≡ 0 = omega arith in
     let high : bit_xor c b / 256 ≡ c / 256 = xor_shr c b 8 ∙ ap (bit_xor (c / 256)) z ∙ xor_zero_r (c / 256) in
     ap₂ bit_xor (entry 256 (bit_xor c b % 256) (byte (bit_xor c b))) (sym high) ∙ sym (eight (bit_xor c b))
 
-tabled-is : (t : List ℕ) → Bytes t → (c : ℕ) → tabled crcTable c t ≡ summed c t
+tabled_is : (t : List ℕ) → Bytes t → (c : ℕ) → tabled crc_table c t ≡ summed c t
 unfolding tabled summed
-tabled-is [] h c = refl
-tabled-is (b ∷ t) h c = ap (λ (x : ℕ). tabled crcTable x t) (look c b (h 0)) ∙ tabled-is t (λ i. h (suc i)) (steps 8 (bit_xor c b))
+tabled_is [] h c = refl
+tabled_is (b ∷ t) h c = ap (λ (x : ℕ). tabled crc_table x t) (look c b (h 0)) ∙ tabled_is t (λ i. h (suc i)) (steps 8 (bit_xor c b))
 
 -- with the right table the sum is CRC-32
-pub right_by : (l t : List ℕ) (r : ℕ) → Bytes t → r ≡ crcBy l t → l ≡ crcTable → r ≡ crc32 t
-unfolding crcBy crc32
-right_by l t r h e f = e ∙ rw (f, tabled-is t h 4294967295)
+pub right_by : (l t : List ℕ) (r : ℕ) → Bytes t → r ≡ crc_by l t → l ≡ crc_table → r ≡ crc32 t
+unfolding crc_by crc32
+right_by l t r h e f = e ∙ rw (f, tabled_is t h 4294967295)
 
 -- the walk of `crc_entry`
 pub steps_on : (n c r : ℕ) → 0 < n → r ≡ step c → steps n c ≡ steps (n - 1) r
@@ -159,32 +159,32 @@ steps_on n c r h e =
     let f : n ≡ suc (n - 1) = omega arith in
     ap (λ (k : ℕ). steps k c) f ∙ ap (steps (n - 1)) (sym e)
 
-pub steps-end : (n c : ℕ) → n ≤ 0 → steps n c ≡ c
+pub steps_end : (n c : ℕ) → n ≤ 0 → steps n c ≡ c
 unfolding steps
-steps-end n c h =
+steps_end n c h =
     let e : n ≡ 0 = omega arith in
     rw e
 
 -- the walk of `crc_table`
-pub table_more : (l : List ℕ) (i v : ℕ) → i < length l → take i l ≡ tableTo i → v ≡ steps 8 i → take (i + 1) (set l i v) ≡ tableTo (i + 1)
-unfolding tableTo
+pub table_more : (l : List ℕ) (i v : ℕ) → i < length l → take i l ≡ table_to i → v ≡ steps 8 i → take (i + 1) (set l i v) ≡ table_to (i + 1)
+unfolding table_to
 table_more l i v h e f = rw (add-one i, take-suc-set l i v h, e, f)
 
-pub table-end : (l : List ℕ) (i : ℕ) → i ≡ 256 → length l ≡ 256 → take i l ≡ tableTo i → l ≡ crcTable
-table-end l i e f g = sym (take_all i l (omega arith)) ∙ g ∙ ap tableTo e
+pub table_end : (l : List ℕ) (i : ℕ) → i ≡ 256 → length l ≡ 256 → take i l ≡ table_to i → l ≡ crc_table
+table_end l i e f g = sym (take_all i l (omega arith)) ∙ g ∙ ap table_to e
 
 -- the walk of `crc`
 module _ (l t : List ℕ) (c i : ℕ) where
-  pub tabled-on : (v : ℕ) → i < length t → v ≡ get_or t i 0 → tabled l c (drop i t) ≡ tabled l (bit_xor (get_or l (bit_xor c v % 256) 0) (c / 256)) (drop (i + 1) t)
+  pub tabled_on : (v : ℕ) → i < length t → v ≡ get_or t i 0 → tabled l c (drop i t) ≡ tabled l (bit_xor (get_or l (bit_xor c v % 256) 0) (c / 256)) (drop (i + 1) t)
   unfolding tabled
-  tabled-on v h e = rw (add-one i, drop-cons t i 0 h, e)
+  tabled_on v h e = rw (add-one i, drop-cons t i 0 h, e)
 
-  pub tabled-end : i ≤ length t → length t ≤ i → tabled l c (drop i t) ≡ c
+  pub tabled_end : i ≤ length t → length t ≤ i → tabled l c (drop i t) ≡ c
   unfolding tabled
-  tabled-end h k =
+  tabled_end h k =
       let e : i ≡ length t = omega arith in
       rw (e, drop-length t)
 
-pub crc-by : (l t : List ℕ) (c : ℕ) → tabled l 4294967295 t ≡ c → bit_xor c 4294967295 ≡ crcBy l t
-unfolding crcBy
-crc-by l t c e = rw e
+pub crc_by_lem : (l t : List ℕ) (c : ℕ) → tabled l 4294967295 t ≡ c → bit_xor c 4294967295 ≡ crc_by l t
+unfolding crc_by
+crc_by_lem l t c e = rw e

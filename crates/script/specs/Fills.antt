@@ -5,7 +5,7 @@ use Rattle.lists.specs.Pick.{pick}
 use Rattle.script.specs.declared.Fault.TheVariants as fault
 use Rattle.script.specs.declared.Value.{Value}
 use Rattle.script.specs.declared.Value.TheVariants as value
-use Rattle.script.specs.Numbers.{digitOf}
+use Rattle.script.specs.Numbers.{digit_of}
 
 -- as much of d as b holds, at b's front
 abbrev pub copied : List ℕ → List ℕ → List ℕ
@@ -34,15 +34,15 @@ generated seed (suc n) = generated seed n ++ (made seed n ∷ [])
 unfoldable pub pairs : List ℕ → List ℕ
 pairs [] = []
 pairs (x ∷ []) = []
-pairs (x ∷ (y ∷ t)) = pick (ltb (digitOf x) 16 && ltb (digitOf y) 16) ((16 * digitOf x + digitOf y) ∷ pairs t) []
+pairs (x ∷ (y ∷ t)) = pick (ltb (digit_of x) 16 && ltb (digit_of y) 16) ((16 * digit_of x + digit_of y) ∷ pairs t) []
 
 -- a word read as pairs of digits, and its bytes put at a slice's front: how many there are, or what is wrong
-unfoldable pub hexAnswer : List ℕ → ℕ → Value
-hexAnswer t room =
+unfoldable pub hex_answer : List ℕ → ℕ → Value
+hex_answer t room =
     pick (eqb (length t % 2) 1) (value.Wrong fault.HexWrong)
     (pick (ltb room (length t / 2)) (value.Wrong fault.BeyondBuffers)
     (pick (eqb (length (pairs t)) (length t / 2)) (value.Is (length t / 2)) (value.Wrong fault.HexWrong)))
 
 -- what the slice has then: where a digit is wrong, the bytes before it are there
-unfoldable pub hexFilled : List ℕ → List ℕ → List ℕ
-hexFilled t b = pick (eqb (length t % 2) 1) b (pick (ltb (length b) (length t / 2)) b (sets b 0 (pairs t)))
+unfoldable pub hex_filled : List ℕ → List ℕ → List ℕ
+hex_filled t b = pick (eqb (length t % 2) 1) b (pick (ltb (length b) (length t / 2)) b (sets b 0 (pairs t)))

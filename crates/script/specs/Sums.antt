@@ -20,17 +20,17 @@ unfoldable pub crc32 : List ℕ → ℕ
 crc32 t = bit_xor (summed 4294967295 t) 4294967295
 
 -- what eight bits make of each of the first n numbers
-unfoldable pub tableTo : ℕ → List ℕ
-tableTo zero = []
-tableTo (suc n) = tableTo n ++ (steps 8 n ∷ [])
+unfoldable pub table_to : ℕ → List ℕ
+table_to zero = []
+table_to (suc n) = table_to n ++ (steps 8 n ∷ [])
 
-abbrev pub crcTable : List ℕ
-crcTable = tableTo 256
+abbrev pub crc_table : List ℕ
+crc_table = table_to 256
 
 -- the same sum where eight bits at once are looked up in a table
 unfoldable pub tabled : List ℕ → ℕ → List ℕ → ℕ
 tabled l c [] = c
 tabled l c (b ∷ t) = tabled l (bit_xor (get_or l (bit_xor c b % 256) 0) (c / 256)) t
 
-unfoldable pub crcBy : List ℕ → List ℕ → ℕ
-crcBy l t = bit_xor (tabled l 4294967295 t) 4294967295
+unfoldable pub crc_by : List ℕ → List ℕ → ℕ
+crc_by l t = bit_xor (tabled l 4294967295 t) 4294967295

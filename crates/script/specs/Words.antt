@@ -9,29 +9,29 @@ spanned blank [] = 0
 spanned blank (x ∷ t) = pick (beq (ltb x 33) blank) (suc (spanned blank t)) 0
 
 -- where the first word at or behind a place starts, and where it ends; the text's length where there is none
-abbrev pub startsFrom : List ℕ → ℕ → ℕ
-startsFrom t at = at + spanned true (drop at t)
+abbrev pub starts_from : List ℕ → ℕ → ℕ
+starts_from t at = at + spanned true (drop at t)
 
-abbrev pub endsFrom : List ℕ → ℕ → ℕ
-endsFrom t at = startsFrom t at + spanned false (drop (startsFrom t at) t)
+abbrev pub ends_from : List ℕ → ℕ → ℕ
+ends_from t at = starts_from t at + spanned false (drop (starts_from t at) t)
 
 -- where the first k words are over
 unfoldable pub over : List ℕ → ℕ → ℕ
 over t zero = 0
-over t (suc k) = endsFrom t (over t k)
+over t (suc k) = ends_from t (over t k)
 
 -- word k, counted from 0: where it starts, where it ends, and its bytes
-unfoldable pub wordStart : List ℕ → ℕ → ℕ
-wordStart t k = startsFrom t (over t k)
+unfoldable pub word_start : List ℕ → ℕ → ℕ
+word_start t k = starts_from t (over t k)
 
-unfoldable pub wordEnd : List ℕ → ℕ → ℕ
-wordEnd t k = over t (suc k)
+unfoldable pub word_end : List ℕ → ℕ → ℕ
+word_end t k = over t (suc k)
 
 abbrev pub part : List ℕ → ℕ → ℕ → List ℕ
 part t start end = take (end - start) (drop start t)
 
-unfoldable pub wordFrom : List ℕ → ℕ → List ℕ
-wordFrom t k = part t (wordStart t k) (wordEnd t k)
+unfoldable pub word_from : List ℕ → ℕ → List ℕ
+word_from t k = part t (word_start t k) (word_end t k)
 
 -- how many bytes stand before the first b; the text's length where there is none
 unfoldable pub before : ℕ → List ℕ → ℕ
@@ -51,10 +51,10 @@ eqs (a ∷ t) [] = false
 eqs (a ∷ t) (b ∷ s) = eqb a b && eqs t s
 
 -- the first of the n words from word k on that is w; k + n where none is
-unfoldable pub placeFrom : List ℕ → List ℕ → ℕ → ℕ → ℕ
-placeFrom l w k zero = k
-placeFrom l w k (suc n) = pick (eqs (wordFrom l k) w) k (placeFrom l w (suc k) n)
+unfoldable pub place_from : List ℕ → List ℕ → ℕ → ℕ → ℕ
+place_from l w k zero = k
+place_from l w k (suc n) = pick (eqs (word_from l k) w) k (place_from l w (suc k) n)
 
 -- which word of a list w is; the list's length where it is none: a list has no more words than bytes, and beyond them all are empty
 abbrev pub place_of : List ℕ → List ℕ → ℕ
-place_of l w = placeFrom l w 0 (length l)
+place_of l w = place_from l w 0 (length l)

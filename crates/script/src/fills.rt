@@ -1,7 +1,7 @@
 // Bytes put into a lent slice.
 ghost use Rattle.std.specs.Prelude.{◌≡◌, ◌+◌, ◌≤◌, ◌<◌, ◌*◌, length, set};
 ghost use Rattle.lists.specs.Pick.{pick};
-ghost use Rattle.script.specs.Fills.{appended, copied, generated, hexAnswer, hexFilled, holds, wiped};
+ghost use Rattle.script.specs.Fills.{appended, copied, generated, hex_answer, hex_filled, holds, wiped};
 
 use crate::reads::digit;
 use crate::{Fault, Value};
@@ -69,8 +69,8 @@ fn put_pair(b: &mut [u8], i: usize, hi: usize, lo: usize)
 
 // The bytes that a word of hexadecimal digits gives, and how many.
 pub fn hex_bytes(text: &[u8], out: &mut [u8]) -> Value
-    ensures answer { result ≡ hexAnswer text.now (length out.old) }
-    ensures out { out.new ≡ hexFilled text.now out.old }
+    ensures answer { result ≡ hex_answer text.now (length out.old) }
+    ensures out { out.new ≡ hex_filled text.now out.old }
 {
     if text.len() % 2 == 1 {
         return Value::Wrong(Fault::HexWrong);

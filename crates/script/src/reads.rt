@@ -1,8 +1,8 @@
 // Numbers: decimal, or hexadecimal behind 0x.
 ghost use Rattle.std.specs.Prelude.{false, true, ◌≡◌, ◌+◌, ◌≤◌, ◌<◌, drop, length};
 ghost use Rattle.lists.specs.Pick.{pick};
-ghost use Rattle.script.specs.Words.{wordFrom};
-ghost use Rattle.script.specs.Numbers.{digitOf, joined, number_in, said, threeOf, wantedOf};
+ghost use Rattle.script.specs.Words.{word_from};
+ghost use Rattle.script.specs.Numbers.{digit_of, joined, number_in, said, three_of, wanted_of};
 
 use crate::words::nth;
 use crate::{Fault, Three, Value};
@@ -10,7 +10,7 @@ use lists::wide;
 
 // A hexadecimal digit's value; 16 where b is none.
 pub fn digit(b: u8) -> usize
-    ensures is { result ≡ digitOf b }
+    ensures is { result ≡ digit_of b }
     ensures low { result ≤ 16 }
 {
     let x = wide(b);
@@ -107,7 +107,7 @@ pub fn number(text: &[u8]) -> Value
 
 // Word k of the line as a number.
 pub fn argument(text: &[u8], k: usize) -> Value
-    ensures { result ≡ number_in (wordFrom text.now k) }
+    ensures { result ≡ number_in (word_from text.now k) }
 {
     let s = nth(text, k);
     let start = s.start;
@@ -117,7 +117,7 @@ pub fn argument(text: &[u8], k: usize) -> Value
 
 // 0 beyond the last word that is to be a number.
 fn wanted(text: &[u8], k: usize, last: usize) -> Value
-    ensures { result ≡ wantedOf text.now k last }
+    ensures { result ≡ wanted_of text.now k last }
 {
     if last < k {
         return Value::Is(0);
@@ -128,7 +128,7 @@ fn wanted(text: &[u8], k: usize, last: usize) -> Value
 // Words `first` to `last` as numbers, three at most.
 pub fn numbers(text: &[u8], first: usize, last: usize) -> Three
     requires { first < 9 }
-    ensures { result ≡ threeOf (wantedOf text.now first last) (wantedOf text.now (first + 1) last) (wantedOf text.now (first + 2) last) }
+    ensures { result ≡ three_of (wanted_of text.now first last) (wanted_of text.now (first + 1) last) (wanted_of text.now (first + 2) last) }
 {
     match wanted(text, first, last) {
         Value::Wrong(f) => Three::Wrong(f),

@@ -1,6 +1,6 @@
 // CRC-32 as zlib has it.
 ghost use Rattle.std.specs.Prelude.{◌≡◌};
-ghost use Rattle.script.specs.Sums.{crc32, crcBy, crcTable, step, steps};
+ghost use Rattle.script.specs.Sums.{crc32, crc_by, crc_table, step, steps};
 
 use lists::wide;
 
@@ -28,7 +28,7 @@ fn crc_entry(i: usize) -> usize
 
 // What eight bits make of each byte.
 pub fn crc_table() -> [usize; 256]
-    ensures { result ≡ crcTable }
+    ensures { result ≡ crc_table }
 {
     let mut table = [0usize; 256];
     let mut i: usize = 0;
@@ -41,8 +41,8 @@ pub fn crc_table() -> [usize; 256]
 
 // By the table of `crc_table`; any other gives what its entries say.
 pub fn crc(b: &[u8], table: &[usize; 256]) -> usize
-    ensures by { result ≡ crcBy table.now b.now }
-    ensures right { table.now ≡ crcTable → result ≡ crc32 b.now }
+    ensures by { result ≡ crc_by table.now b.now }
+    ensures right { table.now ≡ crc_table → result ≡ crc32 b.now }
 {
     let mut c: usize = 4294967295;
     let mut i: usize = 0;

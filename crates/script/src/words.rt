@@ -1,6 +1,6 @@
 // Words: runs of bytes that are not blank.
 ghost use Rattle.std.specs.Prelude.{◌≡◌, ◌+◌, ◌≤◌, ◌<◌, drop, length};
-ghost use Rattle.script.specs.Words.{before, eqs, last_end, part, spanned, place_of, wordEnd, wordFrom, wordStart};
+ghost use Rattle.script.specs.Words.{before, eqs, last_end, part, spanned, place_of, word_end, word_from, word_start};
 
 use crate::Span;
 
@@ -22,8 +22,8 @@ fn pass(text: &[u8], from: usize, blank: bool) -> usize
 
 // Word k, counted from 0.
 pub fn nth(text: &[u8], k: usize) -> Span
-    ensures start { result.start ≡ wordStart text.now k }
-    ensures end { result.end ≡ wordEnd text.now k }
+    ensures start { result.start ≡ word_start text.now k }
+    ensures end { result.end ≡ word_end text.now k }
     ensures within { (result.start ≤ result.end) × (result.end ≤ length text.now) }
 {
     let mut at: usize = 0;
@@ -112,7 +112,7 @@ pub fn place_in(list: &[u8], w: &[u8]) -> usize
 
 // Which word of the list word k of the line is.
 pub fn find_word(list: &[u8], text: &[u8], k: usize) -> usize
-    ensures { result ≡ place_of list.now (wordFrom text.now k) }
+    ensures { result ≡ place_of list.now (word_from text.now k) }
 {
     let s = nth(text, k);
     let start = s.start;

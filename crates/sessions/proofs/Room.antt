@@ -8,81 +8,81 @@ use native.Mathlib.Omega.{arith}
 use borrow.Author.Tests.{lt-ltb, ltb-true}
 use lib.Dec.{ltb}
 use lib.ListN.{length}
-use Rattle.lists.proofs.Cases.{by-test}
-use Rattle.index.specs.Table.{placesIn}
+use Rattle.lists.proofs.Cases.{by_test}
+use Rattle.index.specs.Table.{places_in}
 use Rattle.commands.specs.declared.plans.Answer.{Answer}
 use Rattle.commands.specs.declared.plans.Answer.TheVariants as answer
 use Rattle.unit.specs.Asks.{Ask}
 use Rattle.unit.specs.Cores.{Core}
-use Rattle.unit.specs.Steps.{Step, step_of, tooSmall}
-use Rattle.entries.specs.Entries.{entryLength}
+use Rattle.unit.specs.Steps.{Step, step_of, too_small}
+use Rattle.entries.specs.Entries.{entry_length}
 use Rattle.worlds.specs.Worlds.{World}
-use Rattle.worlds.specs.Calls.{entryFor, noPlace, stepOn, takenAs, takenBy, tooFull}
+use Rattle.worlds.specs.Calls.{entry_for, absent_place, step_on, taken_as, taken_by, too_full}
 use Rattle.worlds.specs.Passes.{Fit}
 use Rattle.sessions.specs.Session.{refused, stepped}
-use Rattle.sessions.specs.Calling.{stepKind}
+use Rattle.sessions.specs.Calling.{step_kind}
 use Rattle.sessions.specs.Good.{Exactly, NoPlace}
 use Rattle.sessions.proofs.Taken.{let_through, refused_none}
 
 -- "done" is no refusal
 not_done : {P : Type 0} (i : Bool) (k : ℕ) → answer.Done i ≡ answer.Refused k → P
-unfolding stepKind
-not_done i k e = let z : refused ≡ stepped = sym (ap stepKind e) in refused_none z
+unfolding step_kind
+not_done i k e = let z : refused ≡ stepped = sym (ap step_kind e) in refused_none z
 
-other-number : {P : Type 0} → answer.Refused 11 ≡ answer.Refused 9 → P
-other-number e = absurd (let z : ◌≡◌ {A = ℕ} 11 9 = cc in omega arith)
+other_number : {P : Type 0} → answer.Refused 11 ≡ answer.Refused 9 → P
+other_number e = absurd (let z : ◌≡◌ {A = ℕ} 11 9 = cc in omega arith)
 
 -- the test of 11 says what it means
 module _ (c : Core) (x : Step) where
   abbrev places : ℕ
-  places = placesIn (length c.table)
+  places = places_in (length c.table)
 
-  pub crowded : noPlace c x ≡ true → NoPlace c x
-  unfolding tooSmall
-  crowded t = by-test (ltb places c.objects) (λ a. inl (ltb-true places c.objects a)) (λ a. inr (ltb-true places x.after.objects (rw a at t)))
+  pub crowded : absent_place c x ≡ true → NoPlace c x
+  unfolding too_small
+  crowded t = by_test (ltb places c.objects) (λ a. inl (ltb-true places c.objects a)) (λ a. inr (ltb-true places x.after.objects (rw a at t)))
 
-  pub crowds : NoPlace c x → noPlace c x ≡ true
-  unfolding tooSmall
+  pub crowds : NoPlace c x → absent_place c x ≡ true
+  unfolding too_small
   crowds (inl h) = rw (lt-ltb places c.objects h)
   crowds (inr h) = rw (lt-ltb places x.after.objects h) (or-true (ltb places c.objects))
 
-  pub not-crowded : (NoPlace c x → ⊥) → noPlace c x ≡ false
-  not-crowded f = by-test (noPlace c x) (λ t. absurd (f (crowded t))) (λ t. t)
+  pub not_crowded : (NoPlace c x → ⊥) → absent_place c x ≡ false
+  not_crowded f = by_test (absent_place c x) (λ t. absurd (f (crowded t))) (λ t. t)
 
-  pub never-crowded : noPlace c x ≡ false → NoPlace c x → ⊥
-  never-crowded t h = true≢false (sym (crowds h) ∙ t)
+  pub never_crowded : absent_place c x ≡ false → NoPlace c x → ⊥
+  never_crowded t h = true≢false (sym (crowds h) ∙ t)
 
 module _ (w : World) (x : Step) where
-  as_room : (i : Bool) → Exactly w x (entryFor w.number w.core x) (takenAs w x (answer.Done i))
-  unfolding takenAs
+  as_room : (i : Bool) → Exactly w x (entry_for w.number w.core x) (taken_as w x (answer.Done i))
+  unfolding taken_as
   as_room i =
       let free : ℕ = w.ledger.length - w.ledger.used in
-      let long : ℕ = entryLength (entryFor w.number w.core x) in
+      let long : ℕ = entry_length (entry_for w.number w.core x) in
       record {
         nine = λ r.
-            by-test (noPlace w.core x)
-            (λ s. let z : answer.Refused 11 ≡ answer.Refused 9 = rw s at r in other-number z)
-            (λ s. by-test (tooFull w.ledger (entryFor w.number w.core x))
+            by_test (absent_place w.core x)
+            (λ s. let z : answer.Refused 11 ≡ answer.Refused 9 = rw s at r in other_number z)
+            (λ s. by_test (too_full w.ledger (entry_for w.number w.core x))
             (λ t. ltb-true free long t)
             (λ t. let z : answer.Done i ≡ answer.Refused 9 = rw (s, t) at r in not_done i 9 z));
-        no_room = λ f h. rw (not-crowded w.core x f, lt-ltb free long h);
+        no_room = λ f h. rw (not_crowded w.core x f, lt-ltb free long h);
         eleven = λ r.
-            by-test (noPlace w.core x)
+            by_test (absent_place w.core x)
             (λ s. crowded w.core x s)
-            (λ s. by-test (tooFull w.ledger (entryFor w.number w.core x))
-            (λ t. let z : answer.Refused 9 ≡ answer.Refused 11 = rw (s, t) at r in other-number (sym z))
+            (λ s. by_test (too_full w.ledger (entry_for w.number w.core x))
+            (λ t. let z : answer.Refused 9 ≡ answer.Refused 11 = rw (s, t) at r in other_number (sym z))
             (λ t. let z : answer.Done i ≡ answer.Refused 11 = rw (s, t) at r in not_done i 11 z));
         no_place = λ h. rw (crowds w.core x h);
       }
 
-  pub room-taken : (i : Bool) (a : Answer) → a ≡ answer.Done i → Exactly w x (entryFor w.number w.core x) (takenBy w x a)
-  unfolding takenBy
-  room-taken i a e = rw e (as_room i)
+  pub room_taken : (i : Bool) (a : Answer) → a ≡ answer.Done i → Exactly w x (entry_for w.number w.core x) (taken_by w x a)
+  unfolding taken_by
+  room_taken i a e = rw e (as_room i)
 
 -- of any ask
-pub room-asked : (n : ℕ) (a : Ask) (w : World) (i : Bool) → Fit n w → (step_of a w.core).answer ≡ answer.Done i
-    → Exactly w (step_of a w.core) (entryFor w.number w.core (step_of a w.core)) (stepOn w n a)
-unfolding stepOn
-room-asked n a w i fit s =
-    rw (let_through n w fit.sound (takenBy w (step_of a w.core) (step_of a w.core).answer))
-    (room-taken w (step_of a w.core) i (step_of a w.core).answer s)
+pub room_asked : (n : ℕ) (a : Ask) (w : World) (i : Bool) → Fit n w → (step_of a w.core).answer ≡ answer.Done i
+    → Exactly w (step_of a w.core) (entry_for w.number w.core (step_of a w.core)) (step_on w n a)
+unfolding step_on
+room_asked n a w i fit s =
+    rw (let_through n w fit.sound (taken_by w (step_of a w.core) (step_of a w.core).answer))
+    (room_taken w (step_of a w.core) i (step_of a w.core).answer s)

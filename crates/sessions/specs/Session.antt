@@ -45,12 +45,12 @@ module _ (M : Machine) where
   does k s = after (M.kind k s) k s
 
   -- step back over entries es, from the core c; with none it is refused
-  abbrev pub backFrom : List M.E → M.C → Now
-  backFrom [] c = record { core = c; entries = [] }
-  backFrom (e ∷ es) c = record { core = M.undo e c; entries = es }
+  abbrev pub back_from : List M.E → M.C → Now
+  back_from [] c = record { core = c; entries = [] }
+  back_from (e ∷ es) c = record { core = M.undo e c; entries = es }
 
   abbrev pub back : Now → Now
-  back s = backFrom s.entries s.core
+  back s = back_from s.entries s.core
 
   -- k steps back
   abbrev pub backs : ℕ → Now → Now
@@ -67,14 +67,14 @@ module _ (M : Machine) where
   -- the log l, newest first, leads from s₀ to s, with the answers that it has
   pub data Ran (s₀ : Now) : List Done → Now → Type 0 where
     start : Ran s₀ [] s₀
-    and-did : {l : List Done} {k : M.K} {a : M.A} {s s' : Now}
+    and_did : {l : List Done} {k : M.K} {a : M.A} {s s' : Now}
         → Ran s₀ l s → M.kind k s ≡ stepped → a ≡ M.answer k s → s' ≡ after stepped k s → Ran s₀ (did k a ∷ l) s'
-    and-saw : {l : List Done} {k : M.K} {a : M.A} {s : Now}
+    and_saw : {l : List Done} {k : M.K} {a : M.A} {s : Now}
         → Ran s₀ l s → M.kind k s ≡ looked → a ≡ M.answer k s → Ran s₀ (saw k a ∷ l) s
-    and-not : {l : List Done} {k : M.K} {a : M.A} {s : Now}
+    and_not : {l : List Done} {k : M.K} {a : M.A} {s : Now}
         → Ran s₀ l s → M.kind k s ≡ refused → a ≡ M.answer k s → Ran s₀ (not k a ∷ l) s
-    and-undid : {l : List Done} {e : M.E} {es : List M.E} {s s' : Now}
-        → Ran s₀ l s → s.entries ≡ e ∷ es → s' ≡ backFrom (e ∷ es) s.core → Ran s₀ (undid ∷ l) s'
+    and_undid : {l : List Done} {e : M.E} {es : List M.E} {s s' : Now}
+        → Ran s₀ l s → s.entries ≡ e ∷ es → s' ≡ back_from (e ∷ es) s.core → Ran s₀ (undid ∷ l) s'
 
   -- a step that stands: its call, and the moment that it was taken at
   pub record Standing : Type 0 where
@@ -84,10 +84,10 @@ module _ (M : Machine) where
   -- the steps of a run that stand, newest first: a step back takes the newest away
   unfoldable pub stood : {s₀ s : Now} {l : List Done} → Ran s₀ l s → List Standing
   stood start = []
-  stood (and-did {k = k} {s = s} r kd an st) = record { call = k; was = s } ∷ stood r
-  stood (and-saw r kd an) = stood r
-  stood (and-not r kd an) = stood r
-  stood (and-undid r q st) = drop 1 (stood r)
+  stood (and_did {k = k} {s = s} r kd an st) = record { call = k; was = s } ∷ stood r
+  stood (and_saw r kd an) = stood r
+  stood (and_not r kd an) = stood r
+  stood (and_undid r q st) = drop 1 (stood r)
 
   -- the entry of a step that stands
   abbrev pub entry_of : Standing → M.E
@@ -116,5 +116,5 @@ module _ (M : Machine) where
   -- a log with no step back and no refusal
   pub data Clean : List Done → Type 0 where
     none : Clean []
-    one-did : {l : List Done} {k : M.K} {a : M.A} → Clean l → Clean (did k a ∷ l)
-    one-saw : {l : List Done} {k : M.K} {a : M.A} → Clean l → Clean (saw k a ∷ l)
+    one_did : {l : List Done} {k : M.K} {a : M.A} → Clean l → Clean (did k a ∷ l)
+    one_saw : {l : List Done} {k : M.K} {a : M.A} → Clean l → Clean (saw k a ∷ l)

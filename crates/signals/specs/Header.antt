@@ -6,8 +6,8 @@ use Rattle.signals.specs.declared.packet.Header.{Header}
 use Rattle.signals.specs.declared.packet.Packet.{Packet}
 
 -- ACK 15, CVC 14, OPP 13, SWB 12, mode 11:8, IE 7, code 4:0; `plain`: "Bits 7:5 .. 000 [or] 100"
-unfoldable pub headerOf : ℕ → Header
-headerOf w =
+unfoldable pub header_of : ℕ → Header
+header_of w =
     record {
       ack = (w / 32768 % 2 == 1);
       cvc = (w / 16384 % 2 == 1);
@@ -20,13 +20,13 @@ headerOf w =
     }
 
 -- codes 1, 4, 5 have data in memory: the words are pointer low, pointer high, count
-abbrev pub hasPointer : ℕ → Bool
-hasPointer code = (code == 1 || code == 4) || code == 5
+abbrev pub has_pointer : ℕ → Bool
+has_pointer code = (code == 1 || code == 4) || code == 5
 
 -- a Position has its count in the second word; what a command doesn't use is not looked at
-unfoldable pub packetOf : List ℕ → ℕ → ℕ → Packet
-packetOf m at code =
-    pick (hasPointer code)
+unfoldable pub packet_of : List ℕ → ℕ → ℕ → Packet
+packet_of m at code =
+    pick (has_pointer code)
     (record { pointer = word_at m (at + 2) + 65536 * (word_at m (at + 4) % 4); high = nat_le 4 (word_at m (at + 4)); count = word_at m (at + 6) })
     (pick (code == 8)
     (record { pointer = 0; high = false; count = word_at m (at + 2) })

@@ -3,9 +3,9 @@ use Rattle.std.specs.Prelude.{ℕ}
 use Rattle.signals.specs.Bits.{bit}
 
 -- "all 18 pointer bits"; "Pointer bits above A17"
-abbrev pub pointerLimit : ℕ
-pointerLimit = bit 18
+abbrev pub pointer_limit : ℕ
+pointer_limit = bit 18
 
 -- "step 7 of document 01 reads all eight bytes for every command" (02, [2])
-abbrev pub packetBytes : ℕ
-packetBytes = 8
+abbrev pub packet_bytes : ℕ
+packet_bytes = 8

@@ -4,8 +4,8 @@ use Rattle.std.specs.Prelude.{ℕ}
 use Rattle.signals.specs.declared.counts.Residual.{Residual}
 use Rattle.signals.specs.declared.counts.Residual.TheVariants as residual
 
-abbrev pub residualWord : Residual → ℕ
-residualWord (residual.Bytes b) = b.0
-residualWord (residual.Records n) = n.0
-residualWord (residual.Marks m) = m.0
-residualWord residual.Nothing = 0
+abbrev pub residual_word : Residual → ℕ
+residual_word (residual.Bytes b) = b.0
+residual_word (residual.Records n) = n.0
+residual_word (residual.Marks m) = m.0
+residual_word residual.Nothing = 0

@@ -1,6 +1,6 @@
 // Command codes and modes.
 ghost use Rattle.std.specs.Prelude.{◌≡◌};
-ghost use Rattle.signals.specs.Codes.{commandOf, controlMode, formatMode, positionMode, readMode, singleMode, writeMode};
+ghost use Rattle.signals.specs.Codes.{command_of, control_mode, format_mode, position_mode, read_mode, single_mode, write_mode};
 
 #[derive(Drop)]
 pub enum Command {
@@ -28,7 +28,7 @@ pub enum Command {
 }
 
 fn decode_read(mode: usize) -> Command
-    ensures { result ≡ readMode mode }
+    ensures { result ≡ read_mode mode }
 {
     match mode {
         0 => Command::ReadNext,
@@ -40,7 +40,7 @@ fn decode_read(mode: usize) -> Command
 }
 
 fn decode_position(mode: usize) -> Command
-    ensures { result ≡ positionMode mode }
+    ensures { result ≡ position_mode mode }
 {
     match mode {
         0 => Command::RecordsForward,
@@ -53,7 +53,7 @@ fn decode_position(mode: usize) -> Command
 }
 
 fn decode_format(mode: usize) -> Command
-    ensures { result ≡ formatMode mode }
+    ensures { result ≡ format_mode mode }
 {
     match mode {
         0 => Command::WriteMark,
@@ -64,7 +64,7 @@ fn decode_format(mode: usize) -> Command
 }
 
 fn decode_control(mode: usize) -> Command
-    ensures { result ≡ controlMode mode }
+    ensures { result ≡ control_mode mode }
 {
     match mode {
         0 => Command::Release,
@@ -75,7 +75,7 @@ fn decode_control(mode: usize) -> Command
 }
 
 fn decode_write(mode: usize) -> Command
-    ensures { result ≡ writeMode mode }
+    ensures { result ≡ write_mode mode }
 {
     match mode {
         0 => Command::Write,
@@ -86,7 +86,7 @@ fn decode_write(mode: usize) -> Command
 
 // A command that has mode 0 alone.
 fn decode_single(mode: usize, c: Command) -> Command
-    ensures { result ≡ singleMode c mode }
+    ensures { result ≡ single_mode c mode }
 {
     match mode {
         0 => c,
@@ -96,7 +96,7 @@ fn decode_single(mode: usize, c: Command) -> Command
 
 // The command of a code and a mode; all else is illegal.
 pub fn decode(code: usize, mode: usize) -> Command
-    ensures { result ≡ commandOf code mode }
+    ensures { result ≡ command_of code mode }
 {
     match code {
         1 => decode_read(mode),

@@ -1,6 +1,6 @@
 // Three counters that the manuals keep apart, and so do we.
 ghost use Rattle.std.specs.Prelude.{◌≡◌};
-ghost use Rattle.signals.specs.Residuals.{residualWord};
+ghost use Rattle.signals.specs.Residuals.{residual_word};
 
 #[derive(Drop)]
 pub struct ByteCount(pub u16);
@@ -21,7 +21,7 @@ pub enum Residual {
 
 // Only here do the three become a word.
 pub fn residual_word(r: Residual) -> u16
-    ensures { result ≡ residualWord r }
+    ensures { result ≡ residual_word r }
 {
     match r {
         Residual::Bytes(b) => b.0,

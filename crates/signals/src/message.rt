@@ -1,6 +1,6 @@
 // The message packet: header, 10, residual, XST0, XST1 0, XST2 0, XST3.
 ghost use Rattle.std.specs.Prelude.{◌≡◌, ◌+◌, ◌≤◌, length};
-ghost use Rattle.signals.specs.Message.{flagOf, headerWord, messageOf, messaged, statusByte};
+ghost use Rattle.signals.specs.Message.{flag_of, header_word, message_of, messaged, status_byte};
 
 use crate::counts::{Residual, residual_word};
 use lists::put_word;
@@ -29,14 +29,14 @@ pub struct Status {
 }
 
 pub fn flag(b: bool, w: u16) -> u16
-    ensures is { result ≡ flagOf b w }
+    ensures is { result ≡ flag_of b w }
     ensures low { result ≤ w }
 {
     if b { w } else { 0 }
 }
 
 fn status_byte(s: Status) -> u16
-    ensures { result ≡ statusByte s }
+    ensures { result ≡ status_byte s }
 {
     flag(s.mot, crate::MOT)
         + flag(s.onl, crate::ONL)
@@ -50,7 +50,7 @@ fn status_byte(s: Status) -> u16
 
 // The header word, by the class; 3 goes by NEF.
 fn header_word(class: usize, nef: bool) -> u16
-    ensures { result ≡ headerWord class nef }
+    ensures { result ≡ header_word class nef }
 {
     match class {
         0 => 0x8010,
@@ -62,7 +62,7 @@ fn header_word(class: usize, nef: bool) -> u16
 }
 
 pub fn message_of(e: End, s: Status) -> [u16; 7]
-    ensures { result ≡ messageOf e s }
+    ensures { result ≡ message_of e s }
 {
     let residual = e.residual;
     let nef = e.found / crate::NEF % 2 == 1;

@@ -1,7 +1,7 @@
 // The command packet in memory.
 ghost use Rattle.std.specs.Prelude.{◌≡◌, ◌+◌, ◌<◌, ◌≤◌, length};
-ghost use Rattle.signals.specs.Header.{hasPointer, headerOf, packetOf};
-ghost use Rattle.signals.specs.Numbers.{packetBytes, pointerLimit};
+ghost use Rattle.signals.specs.Header.{has_pointer, header_of, packet_of};
+ghost use Rattle.signals.specs.Numbers.{packet_bytes, pointer_limit};
 
 use lists::word;
 
@@ -20,7 +20,7 @@ pub struct Header {
 }
 
 pub fn header_of(w: usize) -> Header
-    ensures { result ≡ headerOf w }
+    ensures { result ≡ header_of w }
 {
     Header {
         ack: w / 32768 % 2 == 1,
@@ -36,7 +36,7 @@ pub fn header_of(w: usize) -> Header
 
 // Does the packet name data in memory?
 pub fn has_pointer(code: usize) -> bool
-    ensures { result ≡ hasPointer code }
+    ensures { result ≡ has_pointer code }
 {
     (code == 1) | (code == 4) | (code == 5)
 }
@@ -51,9 +51,9 @@ pub struct Packet {
 }
 
 pub fn fetch(mem: &[u8], at: usize, code: usize) -> Packet
-    requires { (at + packetBytes ≤ length mem.now) × (at < pointerLimit) }
-    ensures is { result ≡ packetOf mem.now at code }
-    ensures low { result.pointer < pointerLimit }
+    requires { (at + packet_bytes ≤ length mem.now) × (at < pointer_limit) }
+    ensures is { result ≡ packet_of mem.now at code }
+    ensures low { result.pointer < pointer_limit }
 {
     if has_pointer(code) {
         let high = word(mem, at + 4);

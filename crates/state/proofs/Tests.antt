@@ -6,7 +6,7 @@ use native.Mathlib.Omega.{arith}
 use borrow.Author.Tests.{eqb-true, eq-eqb}
 use lib.Dec.{eqb}
 use Rattle.lists.specs.Pick.{pick}
-use Rattle.tape.specs.Numbers.{blockBytes}
+use Rattle.tape.specs.Numbers.{block_bytes}
 
 -- a test of two parts that did not hold
 pub neither : (a b : Bool) → (a || b) ≡ false → (a ≡ false) × (b ≡ false)
@@ -18,9 +18,9 @@ pub unless : (a b : Bool) → (not a && b) ≡ false → a ≡ false → b ≡ f
 unless true b h e = absurd (true≢false e)
 unless false b h e = h
 
-pub none-unless : (a b : Bool) → (a ≡ false → b ≡ false) → (not a && b) ≡ false
-none-unless true b h = refl
-none-unless false b h = h refl
+pub none_unless : (a b : Bool) → (a ≡ false → b ≡ false) → (not a && b) ≡ false
+none_unless true b h = refl
+none_unless false b h = h refl
 
 -- what holds of both ways of a choice holds of the choice
 pub either : {A : Type 0} (P : A → Type 0) (t : Bool) (a o : A) → P a → P o → P (pick t a o)
@@ -35,11 +35,11 @@ same false true f g = g refl
 same false false f g = refl
 
 -- a length in whole blocks, by its rest and quotient and by a product
-pub whole-blocks : (n blocks : ℕ) → (eqb (n % blockBytes) 0 && eqb (n / blockBytes) blocks) ≡ eqb n (blockBytes * blocks)
-whole-blocks n blocks =
-    let parts = and-eq-true_iff (eqb (n % blockBytes) 0) (eqb (n / blockBytes) blocks) in
-    same (eqb (n % blockBytes) 0 && eqb (n / blockBytes) blocks) (eqb n (blockBytes * blocks))
-    (λ p. eq-eqb n (blockBytes * blocks) (omega (arith, eqb-true (n % blockBytes) 0 (parts.0 p).0, eqb-true (n / blockBytes) blocks (parts.0 p).1)))
+pub whole_blocks : (n blocks : ℕ) → (eqb (n % block_bytes) 0 && eqb (n / block_bytes) blocks) ≡ eqb n (block_bytes * blocks)
+whole_blocks n blocks =
+    let parts = and-eq-true_iff (eqb (n % block_bytes) 0) (eqb (n / block_bytes) blocks) in
+    same (eqb (n % block_bytes) 0 && eqb (n / block_bytes) blocks) (eqb n (block_bytes * blocks))
+    (λ p. eq-eqb n (block_bytes * blocks) (omega (arith, eqb-true (n % block_bytes) 0 (parts.0 p).0, eqb-true (n / block_bytes) blocks (parts.0 p).1)))
     (λ p.
-    let e : n ≡ blockBytes * blocks = eqb-true n (blockBytes * blocks) p in
-    parts.1 (eq-eqb (n % blockBytes) 0 (omega arith), eq-eqb (n / blockBytes) blocks (omega arith)))
+    let e : n ≡ block_bytes * blocks = eqb-true n (block_bytes * blocks) p in
+    parts.1 (eq-eqb (n % block_bytes) 0 (omega arith), eq-eqb (n / block_bytes) blocks (omega arith)))

@@ -10,24 +10,24 @@ use Rattle.state.specs.declared.act.Act.{Act}
 use Rattle.state.specs.declared.act.Act.TheVariants as act
 
 -- "TSDB word: address bits 15:2 in place; bits 1:0 are A17, A16."
-abbrev pub pointerOf : ℕ → ℕ
-pointerOf w = w / 4 * 4 + 65536 * (w % 4)
+abbrev pub pointer_of : ℕ → ℕ
+pointer_of w = w / 4 * 4 + 65536 * (w % 4)
 
 -- "characteristics .. cleared"
-abbrev pub noCharacteristics : Characteristics
-noCharacteristics = record { address = 0; length = 0; eai = false; ess = false; enb = false }
+abbrev pub no_characteristics : Characteristics
+no_characteristics = record { address = 0; length = 0; eai = false; ess = false; enb = false }
 
 -- "RMR, NXM and class cleared, NBA, SSR .. set, .. all 18 pointer bits 0"
-abbrev pub initialRegisters : Registers
-initialRegisters = record { pointer = 0; class = 0; rmr = false; nxm = false; nba = true; ssr = true }
+abbrev pub initial_registers : Registers
+initial_registers = record { pointer = 0; class = 0; rmr = false; nxm = false; nba = true; ssr = true }
 
 -- "attention, .. the release's IE .. cleared, .. both buffers the CPU's"
-abbrev pub noAttention : Attention
-noAttention = record { unit_owns = false; pending = false; release_ie = false }
+abbrev pub no_attention : Attention
+no_attention = record { unit_owns = false; pending = false; release_ie = false }
 
 -- the state with other registers
-abbrev pub withRegisters : Unit → Registers → Unit
-withRegisters u g =
+abbrev pub with_registers : Unit → Registers → Unit
+with_registers u g =
     record {
       tape = u.tape;
       registers = g;
@@ -38,46 +38,46 @@ withRegisters u g =
     }
 
 -- "A TSDB write with SSR clear sets RMR and SC, nothing else."
-abbrev pub rejectedWrite : Registers → Registers
-rejectedWrite g =
+abbrev pub rejected_write : Registers → Registers
+rejected_write g =
     record { pointer = g.pointer; class = g.class; rmr = true; nxm = g.nxm; nba = g.nba; ssr = g.ssr }
 
 -- "Accepted, it clears SC, RMR, NXM, class and SSR."
-abbrev pub acceptedWrite : Registers → ℕ → Registers
-acceptedWrite g w =
-    record { pointer = pointerOf w; class = 0; rmr = false; nxm = false; nba = g.nba; ssr = false }
+abbrev pub accepted_write : Registers → ℕ → Registers
+accepted_write g w =
+    record { pointer = pointer_of w; class = 0; rmr = false; nxm = false; nba = g.nba; ssr = false }
 
-unfoldable pub tsdbWritten : Unit → ℕ → Unit
-tsdbWritten u w =
-    withRegisters u (pick u.registers.ssr (acceptedWrite u.registers w) (rejectedWrite u.registers))
+unfoldable pub tsdb_written : Unit → ℕ → Unit
+tsdb_written u w =
+    with_registers u (pick u.registers.ssr (accepted_write u.registers w) (rejected_write u.registers))
 
 -- "A TSSR write initializes: .. VCK set, .. position 0 if on line"
 unfoldable pub initialized : Unit → Unit
 initialized u =
     record {
       tape = record { position = pick u.panel.online 0 u.tape.position; end = u.tape.end };
-      registers = initialRegisters;
+      registers = initial_registers;
       panel = record { online = u.panel.online; locked = u.panel.locked; vck = true };
-      attention = noAttention;
-      characteristics = noCharacteristics;
+      attention = no_attention;
+      characteristics = no_characteristics;
       lengths = u.lengths;
     }
 
 -- "Mount .. takes that end and both switches, .. and sets position 0 and the rest as an initialize does."
-unfoldable pub mountedAs : ℕ → Bool → Bool → Lengths → Unit
-mountedAs e online locked lengths =
+unfoldable pub mounted_as : ℕ → Bool → Bool → Lengths → Unit
+mounted_as e online locked lengths =
     record {
       tape = record { position = 0; end = e };
-      registers = initialRegisters;
+      registers = initial_registers;
       panel = record { online = online; locked = locked; vck = true };
-      attention = noAttention;
-      characteristics = noCharacteristics;
+      attention = no_attention;
+      characteristics = no_characteristics;
       lengths = lengths;
     }
 
 -- "Going on or off line makes it pending if EAI is set; several make one." "Going on line sets [VCK]."
-unfoldable pub switchedLine : Unit → Bool → Unit
-switchedLine u on =
+unfoldable pub switched_line : Unit → Bool → Unit
+switched_line u on =
     record {
       tape = u.tape;
       registers = u.registers;
@@ -92,8 +92,8 @@ switchedLine u on =
       lengths = u.lengths;
     }
 
-unfoldable pub switchedLock : Unit → Bool → Unit
-switchedLock u on =
+unfoldable pub switched_lock : Unit → Bool → Unit
+switched_lock u on =
     record {
       tape = u.tape;
       registers = u.registers;
@@ -105,7 +105,7 @@ switchedLock u on =
 
 -- "An act that finds its switch already so raises and sets nothing."
 unfoldable pub operated : Unit → Act → Unit
-operated u act.OnLine = pick u.panel.online u (switchedLine u true)
-operated u act.OffLine = pick u.panel.online (switchedLine u false) u
-operated u act.Lock = switchedLock u true
-operated u act.Unlock = switchedLock u false
+operated u act.OnLine = pick u.panel.online u (switched_line u true)
+operated u act.OffLine = pick u.panel.online (switched_line u false) u
+operated u act.Lock = switched_lock u true
+operated u act.Unlock = switched_lock u false

@@ -1,9 +1,9 @@
 -- Refusals 1, 2 and 3 (01, the table): which states, and which lengths of memory and reel.
 use Rattle.std.specs.Prelude.{Bool, ◌||◌, ◌&&◌, not, ℕ, ◌+◌, ◌*◌, ◌%◌, eqb, leb, ltb}
 use Rattle.lists.specs.Pick.{pick}
-use Rattle.tape.specs.Numbers.{blockBytes, capacityLimit}
-use Rattle.signals.specs.Message.{messageBytes}
-use Rattle.signals.specs.Numbers.{pointerLimit}
+use Rattle.tape.specs.Numbers.{block_bytes, capacity_limit}
+use Rattle.signals.specs.Message.{message_bytes}
+use Rattle.signals.specs.Numbers.{pointer_limit}
 use Rattle.state.specs.declared.Unit.{Unit}
 use Rattle.state.specs.declared.Tape.{Tape}
 use Rattle.state.specs.declared.Registers.{Registers}
@@ -11,45 +11,45 @@ use Rattle.state.specs.declared.Characteristics.{Characteristics}
 use Rattle.state.specs.declared.Lengths.{Lengths}
 
 -- "Memory: even length, 2 to 262,144 bytes."
-abbrev pub memoryLimit : ℕ
-memoryLimit = 262144
+abbrev pub memory_limit : ℕ
+memory_limit = 262144
 
-abbrev pub memoryRight : ℕ → Bool
-memoryRight n = (eqb (n % 2) 0 && leb 2 n) && leb n memoryLimit
+abbrev pub memory_right : ℕ → Bool
+memory_right n = (eqb (n % 2) 0 && leb 2 n) && leb n memory_limit
 
 -- "Reel slice: 1 to 65,536 blocks"
-abbrev pub blocksRight : ℕ → Bool
-blocksRight b = leb 1 b && leb b capacityLimit
+abbrev pub blocks_right : ℕ → Bool
+blocks_right b = leb 1 b && leb b capacity_limit
 
-abbrev pub lastClass : ℕ
-lastClass = 6
+abbrev pub last_class : ℕ
+last_class = 6
 
 -- "position beyond the recorded end, end beyond capacity"
-unfoldable pub tapeWrong : Tape → ℕ → Bool
-tapeWrong t blocks = ltb t.end t.position || ltb blocks t.end
+unfoldable pub tape_wrong : Tape → ℕ → Bool
+tape_wrong t blocks = ltb t.end t.position || ltb blocks t.end
 
 -- "pointer past 18 bits, class past 6"
-unfoldable pub registersWrong : Registers → Bool
-registersWrong g = leb pointerLimit g.pointer || ltb lastClass g.class
+unfoldable pub registers_wrong : Registers → Bool
+registers_wrong g = leb pointer_limit g.pointer || ltb last_class g.class
 
 -- "message buffer .. odd, under 14 bytes or outside the mount's memory"
-unfoldable pub bufferWrong : Characteristics → ℕ → Bool
-bufferWrong c memory =
-    (eqb (c.address % 2) 1 || ltb c.length messageBytes) || ltb memory (c.address + c.length)
+unfoldable pub buffer_wrong : Characteristics → ℕ → Bool
+buffer_wrong c memory =
+    (eqb (c.address % 2) 1 || ltb c.length message_bytes) || ltb memory (c.address + c.length)
 
-unfoldable pub lengthsWrong : Lengths → Bool
-lengthsWrong l = not (memoryRight l.memory) || not (blocksRight l.blocks)
+unfoldable pub lengths_wrong : Lengths → Bool
+lengths_wrong l = not (memory_right l.memory) || not (blocks_right l.blocks)
 
 -- refusal 1, but for the journal's numbers; "(NBA clear)"
-unfoldable pub stateWrong : Unit → Bool
-stateWrong u =
-    tapeWrong u.tape u.lengths.blocks
-    || (registersWrong u.registers
-    || ((not u.registers.nba && bufferWrong u.characteristics u.lengths.memory) || lengthsWrong u.lengths))
+unfoldable pub state_wrong : Unit → Bool
+state_wrong u =
+    tape_wrong u.tape u.lengths.blocks
+    || (registers_wrong u.registers
+    || ((not u.registers.nba && buffer_wrong u.characteristics u.lengths.memory) || lengths_wrong u.lengths))
 
 -- the first of refusals 1, 2, 3 that holds, for lengths in bytes; 0 where none does
-unfoldable pub refusalOf : Unit → ℕ → ℕ → ℕ
-refusalOf u memory reel =
-    pick (stateWrong u) 1
+unfoldable pub refusal_of : Unit → ℕ → ℕ → ℕ
+refusal_of u memory reel =
+    pick (state_wrong u) 1
     (pick (not (eqb memory u.lengths.memory)) 2
-    (pick (not (eqb reel (blockBytes * u.lengths.blocks))) 3 0))
+    (pick (not (eqb reel (block_bytes * u.lengths.blocks))) 3 0))

@@ -1,6 +1,6 @@
 // Register writes and operator acts: each hands back the next state.
 ghost use Rattle.std.specs.Prelude.{◌≡◌, ◌<◌};
-ghost use Rattle.state.specs.Changes.{initialRegisters, initialized, mountedAs, noAttention, noCharacteristics, operated, pointerOf, switchedLine, switchedLock, tsdbWritten};
+ghost use Rattle.state.specs.Changes.{initial_registers, initialized, mounted_as, no_attention, no_characteristics, operated, pointer_of, switched_line, switched_lock, tsdb_written};
 
 use crate::{Attention, Characteristics, Lengths, Panel, Registers, Tape, Unit};
 
@@ -13,7 +13,7 @@ pub enum Act {
 }
 
 fn pointer_of(word: u16) -> usize
-    ensures { result ≡ pointerOf word }
+    ensures { result ≡ pointer_of word }
 {
     let w = word as usize;
     w / 4 * 4 + 65536 * (w % 4)
@@ -21,7 +21,7 @@ fn pointer_of(word: u16) -> usize
 
 // The characteristics that an initialize leaves.
 fn no_characteristics() -> Characteristics
-    ensures { result ≡ noCharacteristics }
+    ensures { result ≡ no_characteristics }
 {
     Characteristics {
         address: 0,
@@ -33,7 +33,7 @@ fn no_characteristics() -> Characteristics
 }
 
 fn initial_registers() -> Registers
-    ensures { result ≡ initialRegisters }
+    ensures { result ≡ initial_registers }
 {
     Registers {
         pointer: 0,
@@ -46,7 +46,7 @@ fn initial_registers() -> Registers
 }
 
 fn no_attention() -> Attention
-    ensures { result ≡ noAttention }
+    ensures { result ≡ no_attention }
 {
     Attention {
         unit_owns: false,
@@ -57,7 +57,7 @@ fn no_attention() -> Attention
 
 // A mounted unit: position 0 and the rest as an initialize leaves it.
 pub fn mounted(end: usize, online: bool, locked: bool, lengths: Lengths) -> Unit
-    ensures { result ≡ mountedAs end online locked lengths }
+    ensures { result ≡ mounted_as end online locked lengths }
 {
     let tape = Tape { position: 0, end };
     let registers = initial_registers();
@@ -81,7 +81,7 @@ pub fn mounted(end: usize, online: bool, locked: bool, lengths: Lengths) -> Unit
 impl Unit {
     // A TSDB write: with SSR clear it sets RMR and nothing else.
     pub fn write_tsdb(mut self, word: u16) -> Unit
-        ensures { result ≡ tsdbWritten self word }
+        ensures { result ≡ tsdb_written self word }
     {
         if !self.registers.ssr {
             self.registers.rmr = true;
@@ -121,7 +121,7 @@ impl Unit {
 
     // Going on or off line makes an attention pending if EAI is set; going on line sets VCK.
     fn switch_line(mut self, online: bool) -> Unit
-        ensures { result ≡ switchedLine self online }
+        ensures { result ≡ switched_line self online }
     {
         let vck = self.panel.vck | online;
         let pending = self.attention.pending | self.characteristics.eai;
@@ -132,7 +132,7 @@ impl Unit {
     }
 
     fn lock(mut self, on: bool) -> Unit
-        ensures { result ≡ switchedLock self on }
+        ensures { result ≡ switched_lock self on }
     {
         self.panel.locked = on;
         self

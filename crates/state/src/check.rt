@@ -1,6 +1,6 @@
 // Refusals 1, 2 and 3 of a step: the state's own numbers, then the lengths of what is lent.
 ghost use Rattle.std.specs.Prelude.{◌≡◌};
-ghost use Rattle.state.specs.Checks.{blocksRight, bufferWrong, lengthsWrong, memoryRight, refusalOf, registersWrong, stateWrong, tapeWrong};
+ghost use Rattle.state.specs.Checks.{blocks_right, buffer_wrong, lengths_wrong, memory_right, refusal_of, registers_wrong, state_wrong, tape_wrong};
 
 use crate::{Characteristics, Lengths, Registers, Tape, Unit};
 use tape::Geometry;
@@ -10,32 +10,32 @@ pub const MEMORY_LIMIT: usize = 262144;
 pub const LAST_CLASS: usize = 6;
 
 pub fn memory_right(n: usize) -> bool
-    ensures { result ≡ memoryRight n }
+    ensures { result ≡ memory_right n }
 {
     (n % 2 == 0) & (2 <= n) & (n <= MEMORY_LIMIT)
 }
 
 pub fn blocks_right(b: usize) -> bool
-    ensures { result ≡ blocksRight b }
+    ensures { result ≡ blocks_right b }
 {
     (1 <= b) & (b <= Geometry::CAPACITY_LIMIT)
 }
 
 fn tape_wrong(t: Tape, blocks: usize) -> bool
-    ensures { result ≡ tapeWrong t blocks }
+    ensures { result ≡ tape_wrong t blocks }
 {
     (t.end < t.position) | (blocks < t.end)
 }
 
 fn registers_wrong(g: Registers) -> bool
-    ensures { result ≡ registersWrong g }
+    ensures { result ≡ registers_wrong g }
 {
     (signals::POINTER_LIMIT <= g.pointer) | (LAST_CLASS < g.class)
 }
 
 // Both numbers may be made up, but their sum doesn't wrap: they have 32 bits.
 pub fn buffer_wrong(c: Characteristics, memory: usize) -> bool
-    ensures { result ≡ bufferWrong c memory }
+    ensures { result ≡ buffer_wrong c memory }
 {
     let address = c.address as usize;
     let length = c.length as usize;
@@ -43,14 +43,14 @@ pub fn buffer_wrong(c: Characteristics, memory: usize) -> bool
 }
 
 fn lengths_wrong(l: Lengths) -> bool
-    ensures { result ≡ lengthsWrong l }
+    ensures { result ≡ lengths_wrong l }
 {
     (!memory_right(l.memory)) | (!blocks_right(l.blocks))
 }
 
 // Refusal 1, but for the journal's numbers.
 pub fn state_wrong(u: Unit) -> bool
-    ensures { result ≡ stateWrong u }
+    ensures { result ≡ state_wrong u }
 {
     let t = u.tape;
     let g = u.registers;
@@ -62,7 +62,7 @@ pub fn state_wrong(u: Unit) -> bool
 
 // The first of refusals 1, 2, 3 that holds, or 0. The lengths are in bytes.
 pub fn refusal(u: Unit, memory: usize, reel: usize) -> usize
-    ensures { result ≡ refusalOf u memory reel }
+    ensures { result ≡ refusal_of u memory reel }
 {
     if state_wrong(u) {
         return 1;

@@ -1,7 +1,7 @@
 // TSBA and TSSR as they read.
 ghost use Rattle.std.specs.Prelude.{◌≡◌, ◌≤◌};
-ghost use Rattle.signals.specs.Message.{flagOf};
-ghost use Rattle.state.specs.Readings.{scOf, tsbaOf, tssrOf};
+ghost use Rattle.signals.specs.Message.{flag_of};
+ghost use Rattle.state.specs.Readings.{sc_of, tsba_of, tssr_of};
 
 use crate::Unit;
 
@@ -30,7 +30,7 @@ const BIT_17: usize = 0x20000;
 const BIT_16: usize = 0x10000;
 
 fn flag_word(b: bool, w: u16) -> u16
-    ensures is { result ≡ flagOf b w }
+    ensures is { result ≡ flag_of b w }
     ensures low { result ≤ w }
 {
     if b { w } else { 0 }
@@ -39,20 +39,20 @@ fn flag_word(b: bool, w: u16) -> u16
 impl Unit {
     // The low 16 bits of the pointer last accepted.
     pub fn tsba(self) -> u16
-        ensures { result ≡ tsbaOf self }
+        ensures { result ≡ tsba_of self }
     {
         (self.registers.pointer % BIT_16) as u16
     }
 
     // SC is set if the class isn't 0 or RMR or NXM is set.
     fn sc(self) -> bool
-        ensures { result ≡ scOf self }
+        ensures { result ≡ sc_of self }
     {
         (self.registers.class != 0) | self.registers.rmr | self.registers.nxm
     }
 
     pub fn tssr(self) -> u16
-        ensures { result ≡ tssrOf self }
+        ensures { result ≡ tssr_of self }
     {
         let g = self.registers;
         let a17 = g.pointer / BIT_17 % 2 == 1;

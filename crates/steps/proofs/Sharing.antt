@@ -8,124 +8,124 @@ use native.Mathlib.Omega.{arith}
 use lib.ListN.{length}
 use lib.Seq.{sets}
 use Rattle.state.specs.declared.Lengths.{Lengths}
-use Rattle.commands.specs.Answers.{isStep}
+use Rattle.commands.specs.Answers.{is_step}
 use Rattle.commands.specs.declared.plans.Answer.TheVariants as answer
 use Rattle.touched.specs.Touches.{PlacesIn, Restored, Sizes}
 use Rattle.touched.specs.declared.Touched.{Touched}
 use Rattle.unit.specs.Cores.{Core}
-use Rattle.unit.specs.Steps.{Step, storeWrong, stored, tooSmall}
-use Rattle.unit.specs.Touching.{hostTouched}
-use Rattle.unit.proofs.Touches.{host-run}
-use Rattle.entries.specs.Entries.{entryBare, entryBytes, entryLength, newestEntry, savedIn, transports, usedIn}
+use Rattle.unit.specs.Steps.{Step, store_wrong, stored, too_small}
+use Rattle.unit.specs.Touching.{host_touched}
+use Rattle.unit.proofs.Touches.{host_run}
+use Rattle.entries.specs.Entries.{entry_bare, entry_bytes, entry_length, newest_entry, saved_in, transports, used_in}
 use Rattle.entries.specs.declared.Entry.{Entry}
 use Rattle.entries.proofs.Fitting.{Fitting}
-use Rattle.entries.proofs.Joined.{run-whole}
-use Rattle.entries.proofs.Used.{newest-inside, used-less}
+use Rattle.entries.proofs.Joined.{run_whole}
+use Rattle.entries.proofs.Used.{newest_inside, used_less}
 use Rattle.worlds.specs.Worlds.{Leaves}
-use Rattle.worlds.specs.Calls.{outcome, takenAs, without}
-use Rattle.worlds.specs.Coupled.{undoNone, undoneNone, worldOfNone}
-use Rattle.worlds.specs.Rows.{couplerChecked, noTransport, sessionOver}
+use Rattle.worlds.specs.Calls.{outcome, taken_as, without}
+use Rattle.worlds.specs.Coupled.{undo_none, undone_none, world_of_none}
+use Rattle.worlds.specs.Rows.{coupler_checked, no_transport, session_over}
 use Rattle.worlds.specs.declared.Coupler.{Coupler}
 use Rattle.worlds.specs.declared.Outcome.{Outcome}
 use Rattle.worlds.specs.declared.Session.{Session}
 use Rattle.worlds.specs.declared.Shared.{Shared}
 use Rattle.worlds.specs.declared.Transport.{Transport}
-use Rattle.worlds.proofs.Coupling.{coupler-passed}
-use Rattle.steps.specs.Readiness.{NoneUndoable, StoreReady, undoRefusal}
-use Rattle.steps.proofs.Backs.{none_done, none-refused, unrefused-fits}
-use Rattle.steps.proofs.Outs.{left_alone, taken-goes, taken-stops}
-use Rattle.steps.proofs.Entered.{store-after, store_entry, store-right}
+use Rattle.worlds.proofs.Coupling.{coupler_passed}
+use Rattle.steps.specs.Readiness.{NoneUndoable, StoreReady, undo_refusal}
+use Rattle.steps.proofs.Backs.{none_done, none_refused, unrefused_fits}
+use Rattle.steps.proofs.Outs.{left_alone, taken_goes, taken_stops}
+use Rattle.steps.proofs.Entered.{store_after, store_entry, store_right}
 
 -- what a call of no transport hands back, as an outcome in the world of none
 abbrev pub handed : Shared → Outcome
-handed r = outcome r.answer (sessionOver r.coupler noTransport)
+handed r = outcome r.answer (session_over r.coupler no_transport)
 
-pub none-sizes : (c : Coupler) (memory journal : ℕ) → couplerChecked c memory journal ≡ 0 → Sizes memory 0
-none-sizes c memory journal h =
-    let p = coupler-passed c memory journal h in
-    record { even = rw p.memory-is p.even; even-reel = refl; memory-small = omega (arith, p.memory-is, p.memory-most); reel-small = omega arith }
+pub none_sizes : (c : Coupler) (memory journal : ℕ) → coupler_checked c memory journal ≡ 0 → Sizes memory 0
+none_sizes c memory journal h =
+    let p = coupler_passed c memory journal h in
+    record { even = rw p.memory_is p.even; even_reel = refl; memory_small = omega (arith, p.memory_is, p.memory_most); reel_small = omega arith }
 
 -- the host's bytes, in n bytes of an entry
-module _ (c : Coupler) (m j : List ℕ) (place : ℕ) (bytes : List ℕ) (k : StoreReady c (length m) (length j) place (length bytes)) (n : ℕ) (dn : n ≡ entryBare + length bytes) where
+module _ (c : Coupler) (m j : List ℕ) (place : ℕ) (bytes : List ℕ) (k : StoreReady c (length m) (length j) place (length bytes)) (n : ℕ) (dn : n ≡ entry_bare + length bytes) where
   abbrev core : Core
-  core = (worldOfNone c m j).core
+  core = (world_of_none c m j).core
 
   abbrev step : Step
   step = stored core place bytes
 
-  right : storeWrong (length m) place (length bytes) ≡ false
-  right = store-right (length m) place (length bytes) k.short k.inside
+  right : store_wrong (length m) place (length bytes) ≡ false
+  right = store_right (length m) place (length bytes) k.short k.inside
 
-  abbrev entryOn : Touched → Entry
-  entryOn t = record { unit = core.unit; objects = 0; touched = t; transport = transports }
+  abbrev entry_on : Touched → Entry
+  entry_on t = record { unit = core.unit; objects = 0; touched = t; transport = transports }
 
-  long : (t : Touched) → t ≡ hostTouched place (length bytes) → n ≡ entryLength (entryOn t)
-  long t h = dn ∙ sym (run-whole (entryOn t) place (length bytes) (h ∙ host-run place (length bytes)))
+  long : (t : Touched) → t ≡ host_touched place (length bytes) → n ≡ entry_length (entry_on t)
+  long t h = dn ∙ sym (run_whole (entry_on t) place (length bytes) (h ∙ host_run place (length bytes)))
 
-  no-objects : 0 ≡ step.after.objects
-  no-objects = ap (λ (d : Core). d.objects) (store-after core place bytes right (sets m place bytes) refl)
+  no_objects : 0 ≡ step.after.objects
+  no_objects = ap (λ (d : Core). d.objects) (store_after core place bytes right (sets m place bytes) refl)
 
-  none-small : tooSmall 0 0 0 ≡ false
-  unfolding tooSmall
-  none-small = refl
+  none_small : too_small 0 0 0 ≡ false
+  unfolding too_small
+  none_small = refl
 
-  pub store-full : (r : Shared) → c.journal - c.used < n → r.answer ≡ answer.Refused 9 → r.coupler ≡ c → Leaves (takenAs (worldOfNone c m j) step (answer.Done false)) j (handed r) m [] [] j
-  store-full r h p q =
-      let t : Touched = hostTouched place (length bytes) in
-      taken-stops transports (sessionOver c noTransport) m [] [] j step (entryOn t) n 0 (store_entry core place bytes right transports t refl) (long t refl) no-objects none-small (answer.Done false) (handed r) h p
-      (ap (λ (d : Coupler). sessionOver d noTransport) q)
+  pub store_full : (r : Shared) → c.journal - c.used < n → r.answer ≡ answer.Refused 9 → r.coupler ≡ c → Leaves (taken_as (world_of_none c m j) step (answer.Done false)) j (handed r) m [] [] j
+  store_full r h p q =
+      let t : Touched = host_touched place (length bytes) in
+      taken_stops transports (session_over c no_transport) m [] [] j step (entry_on t) n 0 (store_entry core place bytes right transports t refl) (long t refl) no_objects none_small (answer.Done false) (handed r) h p
+      (ap (λ (d : Coupler). session_over d no_transport) q)
 
   -- what the entry needs, and that it fits the lent journal
-  pub store-room : n ≤ c.journal - c.used → c.used + entryBare + length bytes ≤ length j
-  store-room h =
-      let p = coupler-passed c (length m) (length j) k.right in
-      omega (arith, p.used, p.journal-is)
+  pub store_room : n ≤ c.journal - c.used → c.used + entry_bare + length bytes ≤ length j
+  store_room h =
+      let p = coupler_passed c (length m) (length j) k.right in
+      omega (arith, p.used, p.journal_is)
 
   -- the session of none, as the code makes it
-  module _ (t : Transport) (s : Session) (dt : t ≡ noTransport) (ds : s ≡ sessionOver c t) where
-    pub store_goes : (x : Touched) (m' j' : List ℕ) → x ≡ hostTouched place (length bytes) → n ≤ c.journal - c.used
-        → j' ≡ sets j c.used (entryBytes (record { unit = s.unit; objects = s.objects; touched = x; transport = transports }) m [] [])
+  module _ (t : Transport) (s : Session) (dt : t ≡ no_transport) (ds : s ≡ session_over c t) where
+    pub store_goes : (x : Touched) (m' j' : List ℕ) → x ≡ host_touched place (length bytes) → n ≤ c.journal - c.used
+        → j' ≡ sets j c.used (entry_bytes (record { unit = s.unit; objects = s.objects; touched = x; transport = transports }) m [] [])
         → m' ≡ sets m place bytes
-        → Leaves (takenAs (worldOfNone c m j) step (answer.Done false)) j (outcome (answer.Done false) (sessionOver (record { used = c.used + n; memory = c.memory; journal = c.journal }) noTransport)) m' [] [] j'
-    unfolding isStep
+        → Leaves (taken_as (world_of_none c m j) step (answer.Done false)) j (outcome (answer.Done false) (session_over (record { used = c.used + n; memory = c.memory; journal = c.journal }) no_transport)) m' [] [] j'
+    unfolding is_step
     store_goes x m' j' dx h pj pm =
-        let same : s ≡ sessionOver c noTransport = ds ∙ ap (sessionOver c) dt in
-        let entered : j' ≡ sets j c.used (entryBytes (entryOn x) m [] []) = pj ∙ ap (λ (y : Session). sets j c.used (entryBytes (record { unit = y.unit; objects = y.objects; touched = x; transport = transports }) m [] [])) same in
+        let same : s ≡ session_over c no_transport = ds ∙ ap (session_over c) dt in
+        let entered : j' ≡ sets j c.used (entry_bytes (entry_on x) m [] []) = pj ∙ ap (λ (y : Session). sets j c.used (entry_bytes (record { unit = y.unit; objects = y.objects; touched = x; transport = transports }) m [] [])) same in
         let whole = long x dx in
-        taken-goes transports (sessionOver c noTransport) m [] [] j step (entryOn x) n 0 (store_entry core place bytes right transports x dx) whole no-objects none-small (answer.Done false) core.unit m' [] [] j' refl h
-        (omega (arith, whole, dn, store-room h))
+        taken_goes transports (session_over c no_transport) m [] [] j step (entry_on x) n 0 (store_entry core place bytes right transports x dx) whole no_objects none_small (answer.Done false) core.unit m' [] [] j' refl h
+        (omega (arith, whole, dn, store_room h))
         entered
-        (store-after core place bytes right m' pm)
+        (store_after core place bytes right m' pm)
 
 -- the number of its refusal, by the session of none as the code makes it
-pub none_number : (c : Coupler) (t : Transport) (s : Session) (e : Entry) (memory n : ℕ) → t ≡ noTransport → s ≡ sessionOver c t → n ≡ undoRefusal true s e memory 0 0 → n ≡ undoRefusal true (sessionOver c noTransport) e memory 0 0
-none_number c t s e memory n dt ds dn = dn ∙ ap (λ (x : Session). undoRefusal true x e memory 0 0) (ds ∙ ap (sessionOver c) dt)
+pub none_number : (c : Coupler) (t : Transport) (s : Session) (e : Entry) (memory n : ℕ) → t ≡ no_transport → s ≡ session_over c t → n ≡ undo_refusal true s e memory 0 0 → n ≡ undo_refusal true (session_over c no_transport) e memory 0 0
+none_number c t s e memory n dt ds dn = dn ∙ ap (λ (x : Session). undo_refusal true x e memory 0 0) (ds ∙ ap (session_over c) dt)
 
 -- the newest entry e, with the number n of its refusal: refused, or brought back
-module _ (c : Coupler) (m j : List ℕ) (k : NoneUndoable c (length m) (length j)) (e : Entry) (n : ℕ) (de : e ≡ newestEntry 0 (usedIn c.used j)) (dn : n ≡ undoRefusal true (sessionOver c noTransport) e (length m) 0 0) where
+module _ (c : Coupler) (m j : List ℕ) (k : NoneUndoable c (length m) (length j)) (e : Entry) (n : ℕ) (de : e ≡ newest_entry 0 (used_in c.used j)) (dn : n ≡ undo_refusal true (session_over c no_transport) e (length m) 0 0) where
   abbrev lengths : Lengths
   lengths = record { memory = c.memory; blocks = 0 }
 
-  pub none-stops : (r : Shared) → (n ≡ 0 → ⊥) → r.answer ≡ answer.Refused n → r.coupler ≡ c → Leaves (undoNone (worldOfNone c m j)) j (handed r) m [] [] j
-  unfolding undoNone
-  none-stops r h p q =
-      rw (← de, none-refused c m j e n dn h)
-      (left_alone transports (sessionOver c noTransport) m [] [] j (answer.Refused n) (handed r) p (ap (λ (d : Coupler). sessionOver d noTransport) q))
+  pub none_stops : (r : Shared) → (n ≡ 0 → ⊥) → r.answer ≡ answer.Refused n → r.coupler ≡ c → Leaves (undo_none (world_of_none c m j)) j (handed r) m [] [] j
+  unfolding undo_none
+  none_stops r h p q =
+      rw (← de, none_refused c m j e n dn h)
+      (left_alone transports (session_over c no_transport) m [] [] j (answer.Refused n) (handed r) p (ap (λ (d : Coupler). session_over d no_transport) q))
 
   module _ (h : n ≡ 0) where
-    pub none-fits : Fitting e c.used lengths (length m) 0 0
-    none-fits = unrefused-fits true (sessionOver c noTransport) e (length m) 0 0 (none-sizes c (length m) (length j) k.right) (sym dn ∙ h)
+    pub none_fits : Fitting e c.used lengths (length m) 0 0
+    none_fits = unrefused_fits true (session_over c no_transport) e (length m) 0 0 (none_sizes c (length m) (length j) k.right) (sym dn ∙ h)
 
     -- it filled no place
-    pub none-places : PlacesIn e.touched 0
-    none-places =
-        let top = none-fits.filled in
-        rw de (newest-inside 0 0 (usedIn c.used j) (rw de at top) (omega arith))
+    pub none_places : PlacesIn e.touched 0
+    none_places =
+        let top = none_fits.filled in
+        rw de (newest_inside 0 0 (used_in c.used j) (rw de at top) (omega arith))
 
-    pub none-goes : (i : ℕ) (m' r tb r' tb' : List ℕ) → i ≡ entryLength e → Restored e.touched (savedIn e (usedIn c.used j)) m r tb m' r' tb'
-        → Leaves (undoNone (worldOfNone c m j)) j (outcome (answer.Done false) (sessionOver (record { used = c.used - i; memory = c.memory; journal = c.journal }) noTransport)) m' [] [] j
-    unfolding undoNone undoneNone without
-    none-goes i m' r tb r' tb' di b =
-        let less : usedIn (c.used - i) (usedIn c.used j) ≡ usedIn (c.used - i) j = used-less (c.used - i) c.used j (omega arith) in
+    pub none_goes : (i : ℕ) (m' r tb r' tb' : List ℕ) → i ≡ entry_length e → Restored e.touched (saved_in e (used_in c.used j)) m r tb m' r' tb'
+        → Leaves (undo_none (world_of_none c m j)) j (outcome (answer.Done false) (session_over (record { used = c.used - i; memory = c.memory; journal = c.journal }) no_transport)) m' [] [] j
+    unfolding undo_none undone_none without
+    none_goes i m' r tb r' tb' di b =
+        let less : used_in (c.used - i) (used_in c.used j) ≡ used_in (c.used - i) j = used_less (c.used - i) c.used j (omega arith) in
         rw (← de, none_done c m j e n dn h, ← di)
-        (record { answer = refl; world = rw (b.memory, less); unless-step = λ t. refl })
+        (record { answer = refl; world = rw (b.memory, less); unless_step = λ t. refl })

@@ -1,19 +1,19 @@
 -- What the checks have shown before a step is entered or undone. Lengths are in bytes.
 use Rattle.std.specs.Prelude.{Bool, true, false, not, List, ◌≡◌, ℕ, ◌+◌, ◌-◌, ◌≤◌, eqb, ltb, length}
 use Rattle.lists.specs.Pick.{pick}
-use Rattle.state.specs.Checks.{stateWrong}
-use Rattle.commands.specs.Answers.{isStep}
+use Rattle.state.specs.Checks.{state_wrong}
+use Rattle.commands.specs.Answers.{is_step}
 use Rattle.commands.specs.declared.plans.Plan.{Plan}
 use Rattle.storing.specs.Stored.{Storable}
 use Rattle.index.specs.declared.Cut.{Cut}
-use Rattle.unit.specs.Steps.{cutFor, hostLimit, objectsAfter, tooSmall}
-use Rattle.entries.specs.Entries.{entryBare, entryFits}
+use Rattle.unit.specs.Steps.{cut_for, host_limit, objects_after, too_small}
+use Rattle.entries.specs.Entries.{entry_bare, entry_fits}
 use Rattle.entries.specs.declared.Entry.{Entry}
-use Rattle.worlds.specs.Calls.{undoOn}
+use Rattle.worlds.specs.Calls.{undo_on}
 use Rattle.worlds.specs.Refusals.{checked}
-use Rattle.worlds.specs.Rows.{couplerChecked}
+use Rattle.worlds.specs.Rows.{coupler_checked}
 use Rattle.worlds.specs.declared.Coupler.{Coupler}
-use Rattle.worlds.specs.Worlds.{Leaves, worldOf}
+use Rattle.worlds.specs.Worlds.{Leaves, world_of}
 use Rattle.worlds.specs.declared.Outcome.{Outcome}
 use Rattle.worlds.specs.declared.Session.{Session}
 
@@ -23,42 +23,42 @@ pub record Unrefused (s : Session) (memory reel journal : ℕ) : Type 0 where
 pub record Ready (s : Session) (p : Plan) (memory reel journal : ℕ) : Type 0 where
   pub sound : Unrefused s memory reel journal
   pub storable : Storable p memory reel
-  pub done : isStep p.answer ≡ true
+  pub done : is_step p.answer ≡ true
 
 -- a step whose table is large enough: it cuts the table tb at c, and leaves `top` places used
 pub record CutReady (s : Session) (p : Plan) (c : Cut) (top : ℕ) (r tb : List ℕ) (memory journal : ℕ) : Type 0 where
   pub ready : Ready s p memory (length r) journal
-  pub cut : c ≡ cutFor p.laid tb s.objects r
-  pub after : top ≡ objectsAfter p.laid c s.objects
-  pub large : tooSmall (length tb) s.objects top ≡ false
+  pub cut : c ≡ cut_for p.laid tb s.objects r
+  pub after : top ≡ objects_after p.laid c s.objects
+  pub large : too_small (length tb) s.objects top ≡ false
 
 pub record Undoable (s : Session) (memory reel journal : ℕ) : Type 0 where
   pub sound : Unrefused s memory reel journal
-  pub bare : entryBare ≤ s.used
+  pub bare : entry_bare ≤ s.used
 
 -- the first of refusals 1 to 4, 11 and 9 of a step that changes the state alone, or 0: its entry saves no bytes, and the objects stay
-unfoldable pub changeRefusal : Session → ℕ → ℕ → ℕ → ℕ → ℕ
-changeRefusal s memory reel table journal =
+unfoldable pub change_refusal : Session → ℕ → ℕ → ℕ → ℕ → ℕ
+change_refusal s memory reel table journal =
     pick (eqb (checked s memory reel journal) 0)
-    (pick (tooSmall table s.objects s.objects) 11 (pick (ltb (s.journal - s.used) entryBare) 9 0))
+    (pick (too_small table s.objects s.objects) 11 (pick (ltb (s.journal - s.used) entry_bare) 9 0))
     (checked s memory reel journal)
 
 -- 8, and of a transport's entry 11, of a step back over the entry e, or 0: an entry of none restores no state and fills no place
-unfoldable pub undoRefusal : Bool → Session → Entry → ℕ → ℕ → ℕ → ℕ
-undoRefusal none s e memory reel table =
-    pick (not (entryFits e s.used s.unit.lengths memory reel s.objects)) 8
-    (pick none 0 (pick (stateWrong e.unit) 8 (pick (tooSmall table s.objects e.objects) 11 0)))
+unfoldable pub undo_refusal : Bool → Session → Entry → ℕ → ℕ → ℕ → ℕ
+undo_refusal none s e memory reel table =
+    pick (not (entry_fits e s.used s.unit.lengths memory reel s.objects)) 8
+    (pick none 0 (pick (state_wrong e.unit) 8 (pick (too_small table s.objects e.objects) 11 0)))
 
 -- a host store that 1, 2, 4 and 5 let pass, and a step back over one that 1 to 4 and 6 do
 pub record StoreReady (c : Coupler) (memory journal place n : ℕ) : Type 0 where
-  pub right : couplerChecked c memory journal ≡ 0
-  pub short : n ≤ hostLimit
+  pub right : coupler_checked c memory journal ≡ 0
+  pub short : n ≤ host_limit
   pub inside : place + n ≤ memory
 
 pub record NoneUndoable (c : Coupler) (memory journal : ℕ) : Type 0 where
-  pub right : couplerChecked c memory journal ≡ 0
-  pub long : entryBare ≤ c.used
+  pub right : coupler_checked c memory journal ≡ 0
+  pub long : entry_bare ≤ c.used
 
 -- the newest entry brought back, whichever transport's it is
 abbrev pub Undoes : Session → List ℕ → List ℕ → List ℕ → List ℕ → Outcome → List ℕ → List ℕ → List ℕ → Type 0
-Undoes s m r tb j o m' r' tb' = (k : ℕ) → Leaves (undoOn (worldOf k s m r tb j)) j o m' r' tb' j
+Undoes s m r tb j o m' r' tb' = (k : ℕ) → Leaves (undo_on (world_of k s m r tb j)) j o m' r' tb' j

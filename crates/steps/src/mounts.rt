@@ -1,9 +1,9 @@
 // A mount whose reel is whole: its table.
 ghost use Rattle.std.specs.Prelude.{◌≡◌, ◌≤◌, length};
-ghost use Rattle.tape.specs.Afresh.{objectsIn};
-ghost use Rattle.tape.specs.Numbers.{capacityLimit};
+ghost use Rattle.tape.specs.Afresh.{objects_in};
+ghost use Rattle.tape.specs.Numbers.{capacity_limit};
 ghost use Rattle.tape.specs.Objects.{Holds};
-ghost use Rattle.worlds.specs.Calls.{mountedBy, tableMounted};
+ghost use Rattle.worlds.specs.Calls.{mounted_by, table_mounted};
 
 use crate::steps::refused;
 use commands::Answer;
@@ -22,9 +22,9 @@ pub fn mount_table(
     journal: usize,
     e: usize,
 ) -> Outcome
-    requires { Holds reel.now e (objectsIn reel.now e) × (e ≤ capacityLimit) }
-    ensures outcome { result ≡ mountedBy old (length table.old) journal (objectsIn reel.now e) unit (Answer.Done interrupts) }
-    ensures table { table.new ≡ tableMounted table.old (objectsIn reel.now e) result.answer }
+    requires { Holds reel.now e (objects_in reel.now e) × (e ≤ capacity_limit) }
+    ensures outcome { result ≡ mounted_by old (length table.old) journal (objects_in reel.now e) unit (Answer.Done interrupts) }
+    ensures table { table.new ≡ table_mounted table.old (objects_in reel.now e) result.answer }
 {
     let n = count_objects(reel, e);
     if places(table.len()) < n {

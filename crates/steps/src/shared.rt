@@ -2,9 +2,9 @@
 ghost use Rattle.std.specs.Prelude.{false, [], ◌≡◌, length};
 ghost use Rattle.unit.specs.Steps.{stored};
 ghost use Rattle.worlds.specs.Worlds.{Leaves};
-ghost use Rattle.worlds.specs.Calls.{outcome, takenAs};
-ghost use Rattle.worlds.specs.Coupled.{undoNone, worldOfNone};
-ghost use Rattle.worlds.specs.Rows.{noTransport, sessionOver};
+ghost use Rattle.worlds.specs.Calls.{outcome, taken_as};
+ghost use Rattle.worlds.specs.Coupled.{undo_none, world_of_none};
+ghost use Rattle.worlds.specs.Rows.{no_transport, session_over};
 ghost use Rattle.steps.specs.Readiness.{NoneUndoable, StoreReady};
 
 use crate::steps::undo_refusal;
@@ -26,7 +26,7 @@ pub fn refused_shared(c: Coupler, n: usize) -> Shared
 // The host's bytes are entered and stored, unless the entry doesn't fit: 9.
 pub fn store_step(c: Coupler, mem: &mut [u8], jrnl: &mut [u8], place: usize, bytes: &[u8]) -> Shared
     requires { StoreReady c (length mem.old) (length jrnl.old) place (length bytes.now) }
-    ensures { Leaves (takenAs (worldOfNone c mem.old jrnl.old) (stored (worldOfNone c mem.old jrnl.old).core place bytes.now) (Answer.Done false)) jrnl.old (outcome result.answer (sessionOver result.coupler noTransport)) mem.new [] [] jrnl.new }
+    ensures { Leaves (taken_as (world_of_none c mem.old jrnl.old) (stored (world_of_none c mem.old jrnl.old).core place bytes.now) (Answer.Done false)) jrnl.old (outcome result.answer (session_over result.coupler no_transport)) mem.new [] [] jrnl.new }
 {
     let n = BARE + bytes.len();
     if c.journal - c.used < n {
@@ -57,7 +57,7 @@ pub fn store_step(c: Coupler, mem: &mut [u8], jrnl: &mut [u8], place: usize, byt
 // The newest entry, which names no transport, brought back: memory alone. 8 if its numbers don't fit.
 pub fn undo_none(c: Coupler, mem: &mut [u8], jrnl: &[u8]) -> Shared
     requires { NoneUndoable c (length mem.old) (length jrnl.now) }
-    ensures { Leaves (undoNone (worldOfNone c mem.old jrnl.now)) jrnl.now (outcome result.answer (sessionOver result.coupler noTransport)) mem.new [] [] jrnl.now }
+    ensures { Leaves (undo_none (world_of_none c mem.old jrnl.now)) jrnl.now (outcome result.answer (session_over result.coupler no_transport)) mem.new [] [] jrnl.now }
 {
     let s = session_over(no_transport(), c);
     let e = newest_entry(jrnl, c.used, 0);

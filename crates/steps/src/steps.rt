@@ -2,9 +2,9 @@
 ghost use Rattle.std.specs.Prelude.{false, ◌≡◌, length};
 ghost use Rattle.touched.specs.Touches.{Sizes};
 ghost use Rattle.unit.specs.Steps.{carried, changed};
-ghost use Rattle.worlds.specs.Worlds.{Leaves, worldOf};
-ghost use Rattle.worlds.specs.Calls.{takenAs};
-ghost use Rattle.steps.specs.Readiness.{CutReady, Ready, Undoable, Undoes, changeRefusal, undoRefusal};
+ghost use Rattle.worlds.specs.Worlds.{Leaves, world_of};
+ghost use Rattle.worlds.specs.Calls.{taken_as};
+ghost use Rattle.steps.specs.Readiness.{CutReady, Ready, Undoable, Undoes, change_refusal, undo_refusal};
 
 use commands::{Answer, Plan};
 use entries::{
@@ -40,7 +40,7 @@ fn take_step(
     jrnl: &mut [u8],
 ) -> Outcome
     requires { CutReady s p c top reel.old table.old (length mem.old) (length jrnl.old) }
-    ensures { Leaves (takenAs (worldOf k s mem.old reel.old table.old jrnl.old) (carried (record { unit = s.unit; objects = s.objects; memory = mem.old; reel = reel.old; table = table.old }) p) p.answer) jrnl.old result mem.new reel.new table.new jrnl.new }
+    ensures { Leaves (taken_as (world_of k s mem.old reel.old table.old jrnl.old) (carried (record { unit = s.unit; objects = s.objects; memory = mem.old; reel = reel.old; table = table.old }) p) p.answer) jrnl.old result mem.new reel.new table.new jrnl.new }
 {
     let unit = s.unit;
     let touched = touched_by(p, c.place);
@@ -82,7 +82,7 @@ pub fn step(
     jrnl: &mut [u8],
 ) -> Outcome
     requires { Ready s p (length mem.old) (length reel.old) (length jrnl.old) }
-    ensures { Leaves (takenAs (worldOf k s mem.old reel.old table.old jrnl.old) (carried (record { unit = s.unit; objects = s.objects; memory = mem.old; reel = reel.old; table = table.old }) p) p.answer) jrnl.old result mem.new reel.new table.new jrnl.new }
+    ensures { Leaves (taken_as (world_of k s mem.old reel.old table.old jrnl.old) (carried (record { unit = s.unit; objects = s.objects; memory = mem.old; reel = reel.old; table = table.old }) p) p.answer) jrnl.old result mem.new reel.new table.new jrnl.new }
 {
     if too_small(table.len(), s.objects, s.objects) {
         return refused(s, 11);
@@ -98,7 +98,7 @@ pub fn step(
 
 // The first of refusals 1 to 4, 11 and 9 of a step that changes the state alone, or 0.
 pub fn change_refusal(s: Session, memory: usize, reel: usize, table: usize, journal: usize) -> usize
-    ensures { result ≡ changeRefusal s memory reel table journal }
+    ensures { result ≡ change_refusal s memory reel table journal }
 {
     let n = check(s, memory, reel, journal);
     if n != 0 {
@@ -123,8 +123,8 @@ pub fn change(
     table: &[u8],
     jrnl: &mut [u8],
 ) -> Outcome
-    requires { changeRefusal s (length mem.old) (length reel.old) (length table.now) (length jrnl.old) ≡ 0 }
-    ensures { Leaves (takenAs (worldOf k s mem.old reel.old table.now jrnl.old) (carried (record { unit = s.unit; objects = s.objects; memory = mem.old; reel = reel.old; table = table.now }) (changed next)) (Answer.Done false)) jrnl.old result mem.new reel.new table.now jrnl.new }
+    requires { change_refusal s (length mem.old) (length reel.old) (length table.now) (length jrnl.old) ≡ 0 }
+    ensures { Leaves (taken_as (world_of k s mem.old reel.old table.now jrnl.old) (carried (record { unit = s.unit; objects = s.objects; memory = mem.old; reel = reel.old; table = table.now }) (changed next)) (Answer.Done false)) jrnl.old result mem.new reel.new table.now jrnl.new }
 {
     let unit = s.unit;
     let touched = nothing();
@@ -157,7 +157,7 @@ pub fn undo_refusal(
     table: usize,
 ) -> usize
     requires { Sizes memory reel }
-    ensures { result ≡ undoRefusal none s e memory reel table }
+    ensures { result ≡ undo_refusal none s e memory reel table }
 {
     let unit = e.unit;
     let mounted = s.unit.lengths;

@@ -6,44 +6,44 @@ use Prim.Native.Nat.{ℕ, ◌+◌, ◌≤◌, min}
 use native.Mathlib.Omega.{arith}
 use lib.ListN.{length, get_or, length-drop, length-take}
 use Rattle.lists.specs.Places.{placed}
-use Rattle.lists.proofs.Placed.{placed-other}
-use Rattle.tape.specs.Bytes.{movedBytes, moved_to, readInto, recordBytes}
-use Rattle.tape.proofs.Recorded.{record-length}
-use Rattle.motions.specs.Parts.{movedLength}
+use Rattle.lists.proofs.Placed.{placed_other}
+use Rattle.tape.specs.Bytes.{moved_bytes, moved_to, read_into, record_bytes}
+use Rattle.tape.proofs.Recorded.{record_length}
+use Rattle.motions.specs.Parts.{moved_length}
 use Rattle.motions.specs.declared.parts.Moved.{Moved}
-use Rattle.storing.specs.Outside.{OffData, dataTo}
-use Rattle.storing.specs.Stored.{MovedFits, movedOn}
+use Rattle.storing.specs.Outside.{OffData, data_to}
+use Rattle.storing.specs.Stored.{MovedFits, moved_on}
 
 -- the data bytes
-abbrev pub dataFrom : List ℕ → Moved → List ℕ
-dataFrom s x = movedBytes x.reverse x.count (recordBytes s x.first x.length)
+abbrev pub data_from : List ℕ → Moved → List ℕ
+data_from s x = moved_bytes x.reverse x.count (record_bytes s x.first x.length)
 
 -- how many bytes of a record are moved, and that the buffer holds them, either way
-length-chosen : (reverse : Bool) (count n : ℕ) (d : List ℕ) → length d ≡ n → length (movedBytes reverse count d) ≡ min n count
-unfolding movedBytes
-length-chosen true count n d e = rw length-drop (omega arith)
-length-chosen false count n d e = rw length-take (omega arith)
+length_chosen : (reverse : Bool) (count n : ℕ) (d : List ℕ) → length d ≡ n → length (moved_bytes reverse count d) ≡ min n count
+unfolding moved_bytes
+length_chosen true count n d e = rw length-drop (omega arith)
+length_chosen false count n d e = rw length-take (omega arith)
 
-chosen-inside : (reverse : Bool) (pointer count n room : ℕ) → pointer + count ≤ room → moved_to reverse pointer count n + min n count ≤ room
+chosen_inside : (reverse : Bool) (pointer count n room : ℕ) → pointer + count ≤ room → moved_to reverse pointer count n + min n count ≤ room
 unfolding moved_to
-chosen-inside true pointer count n room h = omega arith
-chosen-inside false pointer count n room h = omega arith
+chosen_inside true pointer count n room h = omega arith
+chosen_inside false pointer count n room h = omega arith
 
 module _ (s : List ℕ) (x : Moved) (m : List ℕ) (fits : MovedFits x (length m) (length s)) where
-  record-whole : length (recordBytes s x.first x.length) ≡ x.length
-  record-whole = record-length s x.first x.length fits.room
+  record_whole : length (record_bytes s x.first x.length) ≡ x.length
+  record_whole = record_length s x.first x.length fits.room
 
-  pub moved-places : movedOn s x m ≡ placed x.swb m (dataTo x) (dataFrom s x)
-  unfolding movedOn readInto
-  moved-places = rw record-whole
+  pub moved_places : moved_on s x m ≡ placed x.swb m (data_to x) (data_from s x)
+  unfolding moved_on read_into
+  moved_places = rw record_whole
 
-  pub length-data : length (dataFrom s x) ≡ movedLength x
-  unfolding movedLength
-  length-data = length-chosen x.reverse x.count x.length (recordBytes s x.first x.length) record-whole
+  pub length_data : length (data_from s x) ≡ moved_length x
+  unfolding moved_length
+  length_data = length_chosen x.reverse x.count x.length (record_bytes s x.first x.length) record_whole
 
-  pub data-inside : dataTo x + movedLength x ≤ length m
-  unfolding movedLength
-  data-inside = chosen-inside x.reverse x.pointer x.count x.length (length m) fits.target
+  pub data_inside : data_to x + moved_length x ≤ length m
+  unfolding moved_length
+  data_inside = chosen_inside x.reverse x.pointer x.count x.length (length m) fits.target
 
-  pub data-kept : (j : ℕ) → OffData x j → get_or (movedOn s x m) j 0 ≡ get_or m j 0
-  data-kept j f = rw moved-places (placed-other x.swb m (dataTo x) j (dataFrom s x) (λ i h. f i (omega (arith, length-data))))
+  pub data_kept : (j : ℕ) → OffData x j → get_or (moved_on s x m) j 0 ≡ get_or m j 0
+  data_kept j f = rw moved_places (placed_other x.swb m (data_to x) j (data_from s x) (λ i h. f i (omega (arith, length_data))))

@@ -1,17 +1,17 @@
 // Storing a plan: the reel's blocks, then the data, and the message over it.
 ghost use Rattle.std.specs.Prelude.{◌≡◌, ◌+◌, ◌*◌, ◌≤◌, ◌%◌, length};
 ghost use Rattle.std.proofs.lemmas.List.Edits.{sets};
-ghost use Rattle.tape.specs.Numbers.{blockBytes};
-ghost use Rattle.tape.specs.Objects.{imagesOf};
-ghost use Rattle.motions.specs.Parts.{objectBlocks};
-ghost use Rattle.storing.specs.Stored.{Storable, StoredPlan, LaidFits, MovedFits, laidObject, laidOn, movedOn};
+ghost use Rattle.tape.specs.Numbers.{block_bytes};
+ghost use Rattle.tape.specs.Objects.{images_of};
+ghost use Rattle.motions.specs.Parts.{object_blocks};
+ghost use Rattle.storing.specs.Stored.{Storable, StoredPlan, LaidFits, MovedFits, laid_object, laid_on, moved_on};
 
 use commands::Plan;
 use motions::{Laid, Moved, ObjectKind};
 
 fn lay_object(reel: &mut [u8], at: usize, l: Laid, mem: &[u8])
-    requires { (blockBytes * (at + objectBlocks l.object l.length) ≤ length reel.old) × (l.pointer + l.length ≤ length mem.now) × (length mem.now % 2 ≡ 0) }
-    ensures { reel.new ≡ sets reel.old (blockBytes * at) (imagesOf (laidObject mem.now l l.object)) }
+    requires { (block_bytes * (at + object_blocks l.object l.length) ≤ length reel.old) × (l.pointer + l.length ≤ length mem.now) × (length mem.now % 2 ≡ 0) }
+    ensures { reel.new ≡ sets reel.old (block_bytes * at) (images_of (laid_object mem.now l l.object)) }
 {
     let o = l.object;
     match o {
@@ -24,7 +24,7 @@ fn lay_object(reel: &mut [u8], at: usize, l: Laid, mem: &[u8])
 
 pub fn lay(reel: &mut [u8], l: Laid, mem: &[u8])
     requires { LaidFits l (length mem.now) (length reel.old) }
-    ensures { reel.new ≡ laidOn reel.old mem.now l }
+    ensures { reel.new ≡ laid_on reel.old mem.now l }
 {
     if l.gap_first {
         reel::lay_gap(reel, l.at);
@@ -36,7 +36,7 @@ pub fn lay(reel: &mut [u8], l: Laid, mem: &[u8])
 
 pub fn move_data(reel: &[u8], m: Moved, mem: &mut [u8])
     requires { MovedFits m (length mem.old) (length reel.now) }
-    ensures { mem.new ≡ movedOn reel.now m mem.old }
+    ensures { mem.new ≡ moved_on reel.now m mem.old }
 {
     reel::read_record(
         reel,

@@ -5,15 +5,15 @@ use mathlib.Core.Path.{◌≡◌}
 use Prim.Native.Nat.{ℕ, zero, suc}
 use Rattle.lists.specs.Pick.{Always}
 use Rattle.tape.specs.Pass.{passed}
-use Rattle.tape.specs.Sweep.{sweptBelow, sweptBelowUnder, sweptFrom, sweptFromUnder, sweptOn}
+use Rattle.tape.specs.Sweep.{swept_below, swept_below_under, swept_from, swept_from_under, swept_on}
 use Rattle.tape.specs.Wrong.{WrongAt}
 use Rattle.tape.specs.declared.BlockFault.{BlockFault}
 use Rattle.tape.specs.declared.Met.{Met}
 use Rattle.tape.specs.declared.Met.TheVariants as met
 use Rattle.tape.specs.declared.Swept.{Swept}
 use Rattle.tape.specs.declared.Swept.TheVariants as swept
-use Rattle.tape.proofs.Faulted.{wrong-at}
-use Rattle.tape.proofs.Outcomes.{Outcome, at-end, at-fault, outcome, over-gap, over-mark, over-record}
+use Rattle.tape.proofs.Faulted.{wrong_at}
+use Rattle.tape.proofs.Outcomes.{Outcome, at_end, at_fault, outcome, over_gap, over_mark, over_record}
 
 module _ (s : List ℕ) where
   abbrev Wrongly : Met → Type 0
@@ -25,34 +25,34 @@ module _ (s : List ℕ) where
 
   module _ (reverse : Bool) (q e : ℕ) where
     wrongly : (x : Met) → Outcome s reverse q e x → Wrongly x
-    wrongly x (at-end z y) = rw y tt
-    wrongly x (over-record n some most fits all y) = rw y tt
-    wrongly x (over-mark f c y) = rw y tt
-    wrongly x (over-gap f c y) = rw y tt
-    wrongly x (at-fault k y) = rw y (wrong-at s k)
+    wrongly x (at_end z y) = rw y tt
+    wrongly x (over_record n some most fits all y) = rw y tt
+    wrongly x (over_mark f c y) = rw y tt
+    wrongly x (over_gap f c y) = rw y tt
+    wrongly x (at_fault k y) = rw y (wrong_at s k)
 
-    pub bad-wrong : {why : BlockFault} {k : ℕ} → passed s reverse q e ≡ met.Bad why k → WrongAt s k why
-    bad-wrong y = rw y at (wrongly (passed s reverse q e) (outcome s reverse q e))
+    pub bad_wrong : {why : BlockFault} {k : ℕ} → passed s reverse q e ≡ met.Bad why k → WrongAt s k why
+    bad_wrong y = rw y at (wrongly (passed s reverse q e) (outcome s reverse q e))
 
   module _ (e : ℕ) where
     abbrev SweptWrong : Swept → Type 0
     SweptWrong swept.Whole = Always
     SweptWrong (swept.Bad why k) = WrongAt s k why
 
-    on-wrong : (m : Met) (onward : ℕ → Swept) → Wrongly m → ((q : ℕ) → SweptWrong (onward q)) → SweptWrong (sweptOn m onward)
-    unfolding sweptOn
-    on-wrong (met.Record n q) onward w on = on q
-    on-wrong (met.Mark q) onward w on = on q
-    on-wrong (met.Gap q) onward w on = on q
-    on-wrong met.Nothing onward w on = tt
-    on-wrong (met.Bad why k) onward w on = w
+    on_wrong : (m : Met) (onward : ℕ → Swept) → Wrongly m → ((q : ℕ) → SweptWrong (onward q)) → SweptWrong (swept_on m onward)
+    unfolding swept_on
+    on_wrong (met.Record n q) onward w on = on q
+    on_wrong (met.Mark q) onward w on = on q
+    on_wrong (met.Gap q) onward w on = on q
+    on_wrong met.Nothing onward w on = tt
+    on_wrong (met.Bad why k) onward w on = w
 
-    from_wrong : (turns p : ℕ) → SweptWrong (sweptFrom turns s p e)
-    unfolding sweptFromUnder
+    from_wrong : (turns p : ℕ) → SweptWrong (swept_from turns s p e)
+    unfolding swept_from_under
     from_wrong zero p = tt
     from_wrong (suc turns) p =
-        on-wrong (passed s false p e) (λ q. sweptFrom turns s q e) (wrongly false p e (passed s false p e) (outcome s false p e)) (λ q. from_wrong turns q)
+        on_wrong (passed s false p e) (λ q. swept_from turns s q e) (wrongly false p e (passed s false p e) (outcome s false p e)) (λ q. from_wrong turns q)
 
-    pub swept-wrong : {why : BlockFault} {k : ℕ} → sweptBelow s e ≡ swept.Bad why k → WrongAt s k why
-    unfolding sweptBelowUnder
-    swept-wrong y = rw y at (from_wrong e 0)
+    pub swept_wrong : {why : BlockFault} {k : ℕ} → swept_below s e ≡ swept.Bad why k → WrongAt s k why
+    unfolding swept_below_under
+    swept_wrong y = rw y at (from_wrong e 0)

@@ -9,50 +9,50 @@ use lib.ListN.{length, take, drop}
 use lib.Seq.{drop_at, get_or-drop, get_or-take, take_all, take-append-le}
 use Rattle.lists.specs.Pick.{pick}
 use Rattle.lists.specs.Words.{word_at}
-use Rattle.tape.specs.Layout.{block_of, gapKind, markKind, pieceKind}
-use Rattle.tape.specs.Numbers.{blockBytes, dataBytes, pieces_of}
-use Rattle.tape.specs.Objects.{Allowed, Holds, Object, blocksIn, blocksOf, gap, image_of, imagesOf, mark, piece_of, record_of}
-use Rattle.tape.proofs.Blocks.{block-kind, block-length}
-use Rattle.tape.proofs.Images.{length-image, length-images, one-or-more, piece-in-image}
-use Rattle.tape.proofs.Standing.{holds-split}
+use Rattle.tape.specs.Layout.{block_of, gap_kind, mark_kind, piece_kind}
+use Rattle.tape.specs.Numbers.{block_bytes, data_bytes, pieces_of}
+use Rattle.tape.specs.Objects.{Allowed, Holds, Object, blocks_in, blocks_of, gap, image_of, images_of, mark, piece_of, record_of}
+use Rattle.tape.proofs.Blocks.{block_kind, block_length}
+use Rattle.tape.proofs.Images.{length_image, length_images, one_or_more, piece_in_image}
+use Rattle.tape.proofs.Standing.{holds_split}
 
-abbrev pub kindIn : Object → ℕ
-kindIn (record_of d) = pieceKind
-kindIn mark = markKind
-kindIn gap = gapKind
+abbrev pub kind_in : Object → ℕ
+kind_in (record_of d) = piece_kind
+kind_in mark = mark_kind
+kind_in gap = gap_kind
 
-abbrev pub lengthIn : Object → ℕ
-lengthIn (record_of d) = length d
-lengthIn mark = 0
-lengthIn gap = 0
+abbrev pub length_in : Object → ℕ
+length_in (record_of d) = length d
+length_in mark = 0
+length_in gap = 0
 
-abbrev dataIn : Object → List ℕ
-dataIn (record_of d) = take dataBytes (drop (dataBytes * 0) d)
-dataIn mark = []
-dataIn gap = []
+abbrev data_in : Object → List ℕ
+data_in (record_of d) = take data_bytes (drop (data_bytes * 0) d)
+data_in mark = []
+data_in gap = []
 
-image-first : (o : Object) → Allowed o → take blockBytes (image_of o) ≡ block_of (kindIn o) (lengthIn o) 0 (dataIn o)
-unfolding image_of piece_of blocksIn
-image-first (record_of d) a = piece-in-image d 0 (one-or-more (record_of d) a)
-image-first mark a = take_all blockBytes (image_of mark) (omega (arith, length-image mark))
-image-first gap a = take_all blockBytes (image_of gap) (omega (arith, length-image gap))
+image_first : (o : Object) → Allowed o → take block_bytes (image_of o) ≡ block_of (kind_in o) (length_in o) 0 (data_in o)
+unfolding image_of piece_of blocks_in
+image_first (record_of d) a = piece_in_image d 0 (one_or_more (record_of d) a)
+image_first mark a = take_all block_bytes (image_of mark) (omega (arith, length_image mark))
+image_first gap a = take_all block_bytes (image_of gap) (omega (arith, length_image gap))
 
 -- also where anything follows the object
 module _ (o : Object) (xs : List ℕ) (a : Allowed o) where
-  first_block : take blockBytes (image_of o ++ xs) ≡ block_of (kindIn o) (lengthIn o) 0 (dataIn o)
-  first_block = take-append-le blockBytes (image_of o) xs (omega (arith, length-image o, one-or-more o a)) ∙ image-first o a
+  first_block : take block_bytes (image_of o ++ xs) ≡ block_of (kind_in o) (length_in o) 0 (data_in o)
+  first_block = take-append-le block_bytes (image_of o) xs (omega (arith, length_image o, one_or_more o a)) ∙ image_first o a
 
-  pub image-kind : word_at (take blockBytes (image_of o ++ xs)) 0 ≡ kindIn o
-  image-kind = rw first_block (block-kind (kindIn o) (lengthIn o) 0 (dataIn o))
+  pub image_kind : word_at (take block_bytes (image_of o ++ xs)) 0 ≡ kind_in o
+  image_kind = rw first_block (block_kind (kind_in o) (length_in o) 0 (data_in o))
 
-  pub image-length : word_at (take blockBytes (image_of o ++ xs)) 2 ≡ lengthIn o
-  image-length = rw first_block (block-length (kindIn o) (lengthIn o) 0 (dataIn o))
+  pub image_length : word_at (take block_bytes (image_of o ++ xs)) 2 ≡ length_in o
+  image_length = rw first_block (block_length (kind_in o) (length_in o) 0 (data_in o))
 
-pub blocks-by-head : (o : Object) → blocksIn o ≡ pick (eqb (kindIn o) pieceKind) (pieces_of (lengthIn o)) 1
-unfolding blocksIn
-blocks-by-head (record_of d) = refl
-blocks-by-head mark = refl
-blocks-by-head gap = refl
+pub blocks_by_head : (o : Object) → blocks_in o ≡ pick (eqb (kind_in o) piece_kind) (pieces_of (length_in o)) 1
+unfolding blocks_in
+blocks_by_head (record_of d) = refl
+blocks_by_head mark = refl
+blocks_by_head gap = refl
 
 -- a word of a part
 word_in : (s : List ℕ) (n p i : ℕ) → i + 1 < n → word_at (take n (drop p s)) i ≡ word_at s (p + i)
@@ -63,20 +63,20 @@ word_in s n p i h =
 -- the words of an object of a well formed reel, at its first block
 module _ {s : List ℕ} {e : ℕ} (before : List Object) (o : Object) (after : List Object) (h : Holds s e (before ++ o ∷ after)) (a : Allowed o) where
   abbrev behind : List ℕ
-  behind = imagesOf after ++ drop (blockBytes * e) s
+  behind = images_of after ++ drop (block_bytes * e) s
 
-  head_in : take blockBytes (drop (blockBytes * blocksOf before) s) ≡ take blockBytes (image_of o ++ behind)
-  unfolding imagesOf
+  head_in : take block_bytes (drop (block_bytes * blocks_of before) s) ≡ take block_bytes (image_of o ++ behind)
+  unfolding images_of
   head_in =
-      ap (λ (l : List ℕ). take blockBytes (drop (blockBytes * blocksOf before) l)) (holds-split before (o ∷ after) h)
-      ∙ ap (take blockBytes) (drop_at (imagesOf before) (imagesOf (o ∷ after) ++ drop (blockBytes * e) s) (blockBytes * blocksOf before) (length-images before) ∙ append_assoc (image_of o) (imagesOf after) (drop (blockBytes * e) s))
+      ap (λ (l : List ℕ). take block_bytes (drop (block_bytes * blocks_of before) l)) (holds_split before (o ∷ after) h)
+      ∙ ap (take block_bytes) (drop_at (images_of before) (images_of (o ∷ after) ++ drop (block_bytes * e) s) (block_bytes * blocks_of before) (length_images before) ∙ append_assoc (image_of o) (images_of after) (drop (block_bytes * e) s))
 
-  pub kind-stands : word_at s (blockBytes * blocksOf before) ≡ kindIn o
-  kind-stands =
-      ap (word_at s) (sym (add-zero (blockBytes * blocksOf before)))
-      ∙ sym (word_in s blockBytes (blockBytes * blocksOf before) 0 (omega arith))
+  pub kind_stands : word_at s (block_bytes * blocks_of before) ≡ kind_in o
+  kind_stands =
+      ap (word_at s) (sym (add-zero (block_bytes * blocks_of before)))
+      ∙ sym (word_in s block_bytes (block_bytes * blocks_of before) 0 (omega arith))
       ∙ ap (λ (b : List ℕ). word_at b 0) head_in
-      ∙ image-kind o behind a
+      ∙ image_kind o behind a
 
-  pub length-stands : word_at s (blockBytes * blocksOf before + 2) ≡ lengthIn o
-  length-stands = sym (word_in s blockBytes (blockBytes * blocksOf before) 2 (omega arith)) ∙ ap (λ (b : List ℕ). word_at b 2) head_in ∙ image-length o behind a
+  pub length_stands : word_at s (block_bytes * blocks_of before + 2) ≡ length_in o
+  length_stands = sym (word_in s block_bytes (block_bytes * blocks_of before) 2 (omega arith)) ∙ ap (λ (b : List ℕ). word_at b 2) head_in ∙ image_length o behind a

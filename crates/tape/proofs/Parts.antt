@@ -7,10 +7,10 @@ use native.Mathlib.Omega.{arith}
 use lib.ListN.{length, take, drop}
 use Rattle.lists.specs.Words.{Bytes}
 
-pub take-there : (m : ℕ) (l : List ℕ) → take m l ≡ take (min m (length l)) l
-take-there zero l = rw (zero-min (length l))
-take-there (suc m) [] = rw (min-zero (suc m))
-take-there (suc m) (x ∷ l) = rw (suc-min-suc m (length l)) (ap (λ (t : List ℕ). x ∷ t) (take-there m l))
+pub take_there : (m : ℕ) (l : List ℕ) → take m l ≡ take (min m (length l)) l
+take_there zero l = rw (zero-min (length l))
+take_there (suc m) [] = rw (min-zero (suc m))
+take_there (suc m) (x ∷ l) = rw (suc-min-suc m (length l)) (ap (λ (t : List ℕ). x ∷ t) (take_there m l))
 
 bytes_take : (n : ℕ) (l : List ℕ) → Bytes l → Bytes (take n l)
 bytes_take zero l h i = omega arith
@@ -23,5 +23,5 @@ bytes_drop zero l h = h
 bytes_drop (suc n) [] h = h
 bytes_drop (suc n) (x ∷ l) h = bytes_drop n l (λ j. h (suc j))
 
-pub bytes-part : (n a : ℕ) (l : List ℕ) → Bytes l → Bytes (take n (drop a l))
-bytes-part n a l h = bytes_take n (drop a l) (bytes_drop a l h)
+pub bytes_part : (n a : ℕ) (l : List ℕ) → Bytes l → Bytes (take n (drop a l))
+bytes_part n a l h = bytes_take n (drop a l) (bytes_drop a l h)

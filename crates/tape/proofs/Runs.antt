@@ -10,17 +10,17 @@ use lib.ListN.{length, take, drop, length-append, length-drop}
 use lib.Seq.{take-take, take-append-le, drop-append-le, drop-append-add}
 
 -- a part of a list is a part of its front, if it ends there
-pub part-of-front : (c r t : ℕ) (l : List ℕ) → r + c ≤ t → take c (drop r (take t l)) ≡ take c (drop r l)
-part-of-front c zero t l h = take-take c t l (omega arith)
-part-of-front c (suc r) zero l h = absurd (omega arith)
-part-of-front c (suc r) (suc t) [] h = refl
-part-of-front c (suc r) (suc t) (x ∷ l) h = part-of-front c r t l (omega arith)
+pub part_of_front : (c r t : ℕ) (l : List ℕ) → r + c ≤ t → take c (drop r (take t l)) ≡ take c (drop r l)
+part_of_front c zero t l h = take-take c t l (omega arith)
+part_of_front c (suc r) zero l h = absurd (omega arith)
+part_of_front c (suc r) (suc t) [] h = refl
+part_of_front c (suc r) (suc t) (x ∷ l) h = part_of_front c r t l (omega arith)
 
-part-of-first : (c r : ℕ) (l l' : List ℕ) → r + c ≤ length l → take c (drop r (l ++ l')) ≡ take c (drop r l)
-part-of-first c r l l' h = rw (drop-append-le r l l' (omega arith)) (take-append-le c (drop r l) l' (rw length-drop (omega arith)))
+part_of_first : (c r : ℕ) (l l' : List ℕ) → r + c ≤ length l → take c (drop r (l ++ l')) ≡ take c (drop r l)
+part_of_first c r l l' h = rw (drop-append-le r l l' (omega arith)) (take-append-le c (drop r l) l' (rw length-drop (omega arith)))
 
-drop-behind : (l l' : List ℕ) (a r : ℕ) → length l ≡ a → drop (a + r) (l ++ l') ≡ drop r l'
-drop-behind l l' a r e = rw (← e) (drop-append-add l l' r)
+drop_behind : (l l' : List ℕ) (a r : ℕ) → length l ≡ a → drop (a + r) (l ++ l') ≡ drop r l'
+drop_behind l l' a r e = rw (← e) (drop-append-add l l' r)
 
 -- the first m pieces
 unfoldable pub run : (ℕ → List ℕ) → ℕ → List ℕ
@@ -33,13 +33,13 @@ module _ (f : ℕ → List ℕ) (w : ℕ) where
   length_run zero e = omega arith
   length_run (suc m) e = rw (length-append, length_run m (λ j h. e j (omega arith)), e m (omega arith)) (omega arith)
 
-  pub part-of-run : (m q r c : ℕ) → ((j : ℕ) → j < m → length (f j) ≡ w) → q < m → r + c ≤ w → take c (drop (w * q + r) (run f m)) ≡ take c (drop r (f q))
+  pub part_of_run : (m q r c : ℕ) → ((j : ℕ) → j < m → length (f j) ≡ w) → q < m → r + c ≤ w → take c (drop (w * q + r) (run f m)) ≡ take c (drop r (f q))
   unfolding run
-  part-of-run zero q r c e h k = absurd (omega arith)
-  part-of-run (suc m) q r c e h k =
+  part_of_run zero q r c e h k = absurd (omega arith)
+  part_of_run (suc m) q r c e h k =
       let below : (j : ℕ) → j < m → length (f j) ≡ w = λ j l. e j (omega arith) in
       let n = length_run m below in
       ⊎_elim
-      (λ (same : q ≡ m). rw (same, drop-behind (run f m) (f m) (w * m) r n))
-      (λ (l : q < m). part-of-first c (w * q + r) (run f m) (f m) (omega (arith, mul-le-mul_left w l)) ∙ part-of-run m q r c below l k)
+      (λ (same : q ≡ m). rw (same, drop_behind (run f m) (f m) (w * m) r n))
+      (λ (l : q < m). part_of_first c (w * q + r) (run f m) (f m) (omega (arith, mul-le-mul_left w l)) ∙ part_of_run m q r c below l k)
       (eq-or-lt_of_le (le_of_suc-le-suc h))

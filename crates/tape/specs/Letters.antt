@@ -3,9 +3,9 @@ use Rattle.std.specs.Prelude.{ℕ}
 use Rattle.tape.specs.declared.BlockFault.{BlockFault}
 use Rattle.tape.specs.declared.BlockFault.TheVariants as fault
 
-unfoldable pub letterOf : BlockFault → ℕ
-letterOf fault.Kind = 75
-letterOf fault.Length = 78
-letterOf fault.Index = 73
-letterOf fault.Padding = 80
-letterOf fault.Check = 67
+unfoldable pub letter_of : BlockFault → ℕ
+letter_of fault.Kind = 75
+letter_of fault.Length = 78
+letter_of fault.Index = 73
+letter_of fault.Padding = 80
+letter_of fault.Check = 67

@@ -4,7 +4,7 @@ use Rattle.tape.specs.Objects.{Object, record_of, mark, gap}
 use Rattle.tape.specs.declared.Met.{Met}
 use Rattle.tape.specs.declared.Met.TheVariants as met
 
-unfoldable pub metAs : Object → ℕ → Met
-metAs (record_of d) q = met.Record (length d) q
-metAs mark q = met.Mark q
-metAs gap q = met.Gap q
+unfoldable pub met_as : Object → ℕ → Met
+met_as (record_of d) q = met.Record (length d) q
+met_as mark q = met.Mark q
+met_as gap q = met.Gap q

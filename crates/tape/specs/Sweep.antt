@@ -1,34 +1,34 @@
 -- "Mount reads every block below the end it is given" (01, Calls): object after object from block 0, the first fault named.
 use Rattle.std.specs.Prelude.{List, Bool, false, ℕ, suc}
-use Rattle.tape.specs.Numbers.{recordLimit}
-use Rattle.tape.specs.Pass.{passedUnder}
+use Rattle.tape.specs.Numbers.{record_limit}
+use Rattle.tape.specs.Pass.{passed_under}
 use Rattle.tape.specs.declared.Met.{Met}
 use Rattle.tape.specs.declared.Met.TheVariants as met
 use Rattle.tape.specs.declared.Swept.{Swept}
 use Rattle.tape.specs.declared.Swept.TheVariants as swept
 
 -- what one object says of the sweep; `onward` goes on from the position beyond it
-unfoldable pub sweptOn : Met → (ℕ → Swept) → Swept
-sweptOn (met.Record n q) onward = onward q
-sweptOn (met.Mark q) onward = onward q
-sweptOn (met.Gap q) onward = onward q
-sweptOn met.Nothing onward = swept.Whole
-sweptOn (met.Bad why k) onward = swept.Bad why k
+unfoldable pub swept_on : Met → (ℕ → Swept) → Swept
+swept_on (met.Record n q) onward = onward q
+swept_on (met.Mark q) onward = onward q
+swept_on (met.Gap q) onward = onward q
+swept_on met.Nothing onward = swept.Whole
+swept_on (met.Bad why k) onward = swept.Bad why k
 
 -- under any record limit
 module _ (limit : ℕ) where
   -- at most `turns` objects from position p on
-  unfoldable pub sweptFromUnder : ℕ → List ℕ → ℕ → ℕ → Swept
-  sweptFromUnder ℕ.zero s p e = swept.Whole
-  sweptFromUnder (suc turns) s p e = sweptOn (passedUnder limit s false p e) (λ q. sweptFromUnder turns s q e)
+  unfoldable pub swept_from_under : ℕ → List ℕ → ℕ → ℕ → Swept
+  swept_from_under ℕ.zero s p e = swept.Whole
+  swept_from_under (suc turns) s p e = swept_on (passed_under limit s false p e) (λ q. swept_from_under turns s q e)
 
-  -- each object takes a block or more, so e objects are enough (law `swept-under`)
-  unfoldable pub sweptBelowUnder : List ℕ → ℕ → Swept
-  sweptBelowUnder s e = sweptFromUnder e s 0 e
+  -- each object takes a block or more, so e objects are enough (law `swept_under`)
+  unfoldable pub swept_below_under : List ℕ → ℕ → Swept
+  swept_below_under s e = swept_from_under e s 0 e
 
 -- and under this unit's own
-abbrev pub sweptFrom : ℕ → List ℕ → ℕ → ℕ → Swept
-sweptFrom = sweptFromUnder recordLimit
+abbrev pub swept_from : ℕ → List ℕ → ℕ → ℕ → Swept
+swept_from = swept_from_under record_limit
 
-abbrev pub sweptBelow : List ℕ → ℕ → Swept
-sweptBelow = sweptBelowUnder recordLimit
+abbrev pub swept_below : List ℕ → ℕ → Swept
+swept_below = swept_below_under record_limit

@@ -1,7 +1,7 @@
 // What a reel is: its geometry, and the answers that reading it can give. The meaning stands in specs/.
 ghost use Rattle.std.specs.Prelude.{◌≡◌};
-ghost use Rattle.tape.specs.Letters.{letterOf};
-ghost use Rattle.tape.specs.Numbers.{eotMarker, pieces_of};
+ghost use Rattle.tape.specs.Letters.{letter_of};
+ghost use Rattle.tape.specs.Numbers.{eot_marker, pieces_of};
 
 // The kinds of a block, as its word 0 has them.
 pub const PIECE_KIND: usize = 1;
@@ -44,7 +44,7 @@ impl Geometry {
 
     // The block that the EOT marker stands at.
     pub fn marker(self) -> usize
-        ensures { result ≡ eotMarker self.capacity }
+        ensures { result ≡ eot_marker self.capacity }
     {
         if self.capacity < Geometry::MARGIN {
             0
@@ -77,7 +77,7 @@ pub enum BlockFault {
 
 // The letter that stands for a fault, as a number of ASCII.
 pub fn letter(f: BlockFault) -> u8
-    ensures { result ≡ letterOf f }
+    ensures { result ≡ letter_of f }
 {
     match f {
         BlockFault::Kind => b'K',

@@ -11,10 +11,10 @@ empty : (l : List ℕ) → length l ≡ 0 → l ≡ []
 empty [] h = refl
 empty (x ∷ l) h = absurd (omega (arith, h))
 
-pub none-gathered : (swb : Bool) (b m : List ℕ) (a : ℕ) → length b ≡ 0 → b ≡ gathered swb m a (length b)
+pub none_gathered : (swb : Bool) (b m : List ℕ) (a : ℕ) → length b ≡ 0 → b ≡ gathered swb m a (length b)
 unfolding gathered
-none-gathered swb b m a t = rw (empty b t)
+none_gathered swb b m a t = rw (empty b t)
 
-pub none-placed : (swb : Bool) (d m : List ℕ) (a : ℕ) → length d ≡ 0 → m ≡ placed swb m a d
+pub none_placed : (swb : Bool) (d m : List ℕ) (a : ℕ) → length d ≡ 0 → m ≡ placed swb m a d
 unfolding placed
-none-placed swb d m a t = rw (empty d t)
+none_placed swb d m a t = rw (empty d t)

@@ -5,70 +5,70 @@ use Prim.Native.Nat.{ℕ, ◌+◌, ◌-◌, ◌*◌, ◌/◌, ◌≤◌}
 use native.Mathlib.Omega.{arith}
 use borrow.Author.Tests.{le-leb, leb-false, leb-true, lt-leb, ltb-false, ltb-true}
 use lib.Dec.{eqb, leb, ltb}
-use Rattle.lists.proofs.Cases.{by-test}
-use Rattle.tape.specs.Numbers.{blockBytes}
-use Rattle.index.specs.Table.{placeLength}
+use Rattle.lists.proofs.Cases.{by_test}
+use Rattle.tape.specs.Numbers.{block_bytes}
+use Rattle.index.specs.Table.{place_length}
 use Rattle.touched.specs.declared.Touched.{Touched}
-use Rattle.touched.specs.Touches.{PlacesIn, Sizes, TouchedIn, placeBelow, touchedFits}
+use Rattle.touched.specs.Touches.{PlacesIn, Sizes, TouchedIn, place_below, touched_fits}
 
 -- a run below a limit, by a difference and by a sum
-pub run-difference : (a n limit : ℕ) → n ≤ limit → leb a (limit - n) ≡ leb (a + n) limit
-run-difference a n limit h =
-    by-test (leb a (limit - n))
+pub run_difference : (a n limit : ℕ) → n ≤ limit → leb a (limit - n) ≡ leb (a + n) limit
+run_difference a n limit h =
+    by_test (leb a (limit - n))
     (λ t. t ∙ sym (le-leb (a + n) limit (omega (arith, leb-true a (limit - n) t))))
     (λ t. t ∙ sym (lt-leb (a + n) limit (omega (arith, leb-false a (limit - n) t))))
 
 -- places that end below the place `top` lie below it, and so inside a table that has so many
-pub places-below : (top f : ℕ) → f ≤ top → placeBelow top f + f ≤ top
-places-below top f h =
-    by-test (eqb f 0)
+pub places_below : (top f : ℕ) → f ≤ top → place_below top f + f ≤ top
+places_below top f h =
+    by_test (eqb f 0)
     (λ t. rw t (omega arith))
     (λ t. rw t (omega arith))
 
 -- a test that also asks whether there are so many places: either part of it means place 0
-pub below_none : (top f : ℕ) → (eqb f 0 || ltb top f) ≡ true → 0 ≡ placeBelow top f
+pub below_none : (top f : ℕ) → (eqb f 0 || ltb top f) ≡ true → 0 ≡ place_below top f
 below_none top f h =
-    by-test (eqb f 0)
+    by_test (eqb f 0)
     (λ t. rw t)
     (λ t. rw t (omega (arith, ltb-true top f (rw t at h))))
 
-pub below-some : (top f : ℕ) → (eqb f 0 || ltb top f) ≡ false → (f ≤ top) × (top - f ≡ placeBelow top f)
-below-some top f h =
-    by-test (eqb f 0)
+pub below_some : (top f : ℕ) → (eqb f 0 || ltb top f) ≡ false → (f ≤ top) × (top - f ≡ place_below top f)
+below_some top f h =
+    by_test (eqb f 0)
     (λ t. absurd (true≢false (rw t at h)))
     (λ t. (ltb-false top f (rw t at h), rw t))
 
-pub places-inside : (t : Touched) (top table : ℕ) → t.place_at ≡ placeBelow top t.places → t.places ≤ top → placeLength * top ≤ table → PlacesIn t table
-places-inside t top table e h k = rw e (omega (arith, places-below top t.places h))
+pub places_inside : (t : Touched) (top table : ℕ) → t.place_at ≡ place_below top t.places → t.places ≤ top → place_length * top ≤ table → PlacesIn t table
+places_inside t top table e h k = rw e (omega (arith, places_below top t.places h))
 
 module _ (t : Touched) (memory reel : ℕ) where
-  abbrev dataRun : Bool
-  dataRun = leb (t.data_at + t.data_length) memory
+  abbrev data_run : Bool
+  data_run = leb (t.data_at + t.data_length) memory
 
-  abbrev messageRun : Bool
-  messageRun = leb (t.message_at + t.message_length) memory
+  abbrev message_run : Bool
+  message_run = leb (t.message_at + t.message_length) memory
 
-  abbrev blocksRun : Bool
-  blocksRun = leb (t.reel_at + t.reel_blocks) (reel / blockBytes)
+  abbrev blocks_run : Bool
+  blocks_run = leb (t.reel_at + t.reel_blocks) (reel / block_bytes)
 
-  pub fits_in : Sizes memory reel → touchedFits t memory reel ≡ true → TouchedIn t memory reel
-  unfolding touchedFits
+  pub fits_in : Sizes memory reel → touched_fits t memory reel ≡ true → TouchedIn t memory reel
+  unfolding touched_fits
   fits_in z h =
-      let p = (and-eq-true_iff dataRun (messageRun && blocksRun)).0 h in
-      let q = (and-eq-true_iff messageRun blocksRun).0 p.1 in
-      let blocks = leb-true (t.reel_at + t.reel_blocks) (reel / blockBytes) q.1 in
+      let p = (and-eq-true_iff data_run (message_run && blocks_run)).0 h in
+      let q = (and-eq-true_iff message_run blocks_run).0 p.1 in
+      let blocks = leb-true (t.reel_at + t.reel_blocks) (reel / block_bytes) q.1 in
       record {
         in_memory = leb-true (t.data_at + t.data_length) memory p.0;
-        message-in-memory = leb-true (t.message_at + t.message_length) memory q.0;
-        in-reel = omega (arith, blocks);
+        message_in_memory = leb-true (t.message_at + t.message_length) memory q.0;
+        in_reel = omega (arith, blocks);
         sizes = z;
       }
 
-  pub in-fits : TouchedIn t memory reel → touchedFits t memory reel ≡ true
-  unfolding touchedFits
-  in-fits h =
+  pub in_fits : TouchedIn t memory reel → touched_fits t memory reel ≡ true
+  unfolding touched_fits
+  in_fits h =
       rw (
         le-leb (t.data_at + t.data_length) memory h.in_memory,
-        le-leb (t.message_at + t.message_length) memory h.message-in-memory,
-        le-leb (t.reel_at + t.reel_blocks) (reel / blockBytes) (omega (arith, h.in-reel)),
+        le-leb (t.message_at + t.message_length) memory h.message_in_memory,
+        le-leb (t.reel_at + t.reel_blocks) (reel / block_bytes) (omega (arith, h.in_reel)),
       )

@@ -7,60 +7,60 @@ use native.Mathlib.Omega.{arith}
 use lib.ListN.{drop, length, length-append}
 use lib.Seq.{drop_at, drop-drop, take_at}
 use Rattle.lists.specs.Places.{gathered}
-use Rattle.lists.proofs.Placed.{length-gathered}
-use Rattle.tape.specs.Numbers.{blockBytes}
-use Rattle.index.specs.Table.{placeLength}
+use Rattle.lists.proofs.Placed.{length_gathered}
+use Rattle.tape.specs.Numbers.{block_bytes}
+use Rattle.index.specs.Table.{place_length}
 use Rattle.touched.specs.declared.Touched.{Touched}
-use Rattle.touched.specs.Touches.{savedBlocks, savedBytes, savedData, savedLength, savedMessage, savedPlaces}
+use Rattle.touched.specs.Touches.{saved_blocks, saved_bytes, saved_data, saved_length, saved_message, saved_places}
 
 module _ (t : Touched) (m r tb : List ℕ) where
-  abbrev pub oldData : List ℕ
-  oldData = gathered t.swb m t.data_at t.data_length
+  abbrev pub old_data : List ℕ
+  old_data = gathered t.swb m t.data_at t.data_length
 
-  abbrev pub oldMessage : List ℕ
-  oldMessage = gathered false m t.message_at t.message_length
+  abbrev pub old_message : List ℕ
+  old_message = gathered false m t.message_at t.message_length
 
-  abbrev pub oldBlocks : List ℕ
-  oldBlocks = gathered false r (blockBytes * t.reel_at) (blockBytes * t.reel_blocks)
+  abbrev pub old_blocks : List ℕ
+  old_blocks = gathered false r (block_bytes * t.reel_at) (block_bytes * t.reel_blocks)
 
-  abbrev pub oldPlaces : List ℕ
-  oldPlaces = gathered false tb (placeLength * t.place_at) (placeLength * t.places)
+  abbrev pub old_places : List ℕ
+  old_places = gathered false tb (place_length * t.place_at) (place_length * t.places)
 
-  long-data : length oldData ≡ t.data_length
-  long-data = length-gathered t.swb m t.data_at t.data_length
+  long_data : length old_data ≡ t.data_length
+  long_data = length_gathered t.swb m t.data_at t.data_length
 
-  long-message : length oldMessage ≡ t.message_length
-  long-message = length-gathered false m t.message_at t.message_length
+  long_message : length old_message ≡ t.message_length
+  long_message = length_gathered false m t.message_at t.message_length
 
-  long-blocks : length oldBlocks ≡ blockBytes * t.reel_blocks
-  long-blocks = length-gathered false r (blockBytes * t.reel_at) (blockBytes * t.reel_blocks)
+  long_blocks : length old_blocks ≡ block_bytes * t.reel_blocks
+  long_blocks = length_gathered false r (block_bytes * t.reel_at) (block_bytes * t.reel_blocks)
 
-  pub length-saved : length (savedBytes t m r tb) ≡ savedLength t
-  unfolding savedBytes
-  length-saved = rw (length-append, length-append, length-append, length-gathered, length-gathered, length-gathered, length-gathered) (omega arith)
+  pub length_saved : length (saved_bytes t m r tb) ≡ saved_length t
+  unfolding saved_bytes
+  length_saved = rw (length-append, length-append, length-append, length_gathered, length_gathered, length_gathered, length_gathered) (omega arith)
 
-  pub saved-data : savedData t (savedBytes t m r tb) ≡ oldData
-  unfolding savedBytes
-  saved-data = take_at oldData (oldMessage ++ (oldBlocks ++ oldPlaces)) t.data_length long-data
+  pub saved_data_lem : saved_data t (saved_bytes t m r tb) ≡ old_data
+  unfolding saved_bytes
+  saved_data_lem = take_at old_data (old_message ++ (old_blocks ++ old_places)) t.data_length long_data
 
-  after-data : drop t.data_length (savedBytes t m r tb) ≡ oldMessage ++ (oldBlocks ++ oldPlaces)
-  unfolding savedBytes
-  after-data = drop_at oldData (oldMessage ++ (oldBlocks ++ oldPlaces)) t.data_length long-data
+  after_data : drop t.data_length (saved_bytes t m r tb) ≡ old_message ++ (old_blocks ++ old_places)
+  unfolding saved_bytes
+  after_data = drop_at old_data (old_message ++ (old_blocks ++ old_places)) t.data_length long_data
 
-  after-message : drop (t.data_length + t.message_length) (savedBytes t m r tb) ≡ oldBlocks ++ oldPlaces
-  after-message =
-      sym (drop-drop t.message_length t.data_length (savedBytes t m r tb))
-      ∙ ap (drop t.message_length) after-data
-      ∙ drop_at oldMessage (oldBlocks ++ oldPlaces) t.message_length long-message
+  after_message : drop (t.data_length + t.message_length) (saved_bytes t m r tb) ≡ old_blocks ++ old_places
+  after_message =
+      sym (drop-drop t.message_length t.data_length (saved_bytes t m r tb))
+      ∙ ap (drop t.message_length) after_data
+      ∙ drop_at old_message (old_blocks ++ old_places) t.message_length long_message
 
-  pub saved-message : savedMessage t (savedBytes t m r tb) ≡ oldMessage
-  saved-message = rw after-data (take_at oldMessage (oldBlocks ++ oldPlaces) t.message_length long-message)
+  pub saved_message_lem : saved_message t (saved_bytes t m r tb) ≡ old_message
+  saved_message_lem = rw after_data (take_at old_message (old_blocks ++ old_places) t.message_length long_message)
 
-  pub saved-blocks : savedBlocks t (savedBytes t m r tb) ≡ oldBlocks
-  saved-blocks = rw after-message (take_at oldBlocks oldPlaces (blockBytes * t.reel_blocks) long-blocks)
+  pub saved_blocks_lem : saved_blocks t (saved_bytes t m r tb) ≡ old_blocks
+  saved_blocks_lem = rw after_message (take_at old_blocks old_places (block_bytes * t.reel_blocks) long_blocks)
 
-  pub saved-places : savedPlaces t (savedBytes t m r tb) ≡ oldPlaces
-  saved-places =
-      sym (drop-drop (blockBytes * t.reel_blocks) (t.data_length + t.message_length) (savedBytes t m r tb))
-      ∙ ap (drop (blockBytes * t.reel_blocks)) after-message
-      ∙ drop_at oldBlocks oldPlaces (blockBytes * t.reel_blocks) long-blocks
+  pub saved_places_lem : saved_places t (saved_bytes t m r tb) ≡ old_places
+  saved_places_lem =
+      sym (drop-drop (block_bytes * t.reel_blocks) (t.data_length + t.message_length) (saved_bytes t m r tb))
+      ∙ ap (drop (block_bytes * t.reel_blocks)) after_message
+      ∙ drop_at old_blocks old_places (block_bytes * t.reel_blocks) long_blocks

@@ -3,8 +3,8 @@
 use Rattle.std.specs.Prelude.{Bool, false, ◌&&◌, List, ◌++◌, ◌≡◌, ℕ, ◌+◌, ◌-◌, ◌*◌, ◌/◌, ◌%◌, ◌≤◌, ◌<◌, eqb, leb, drop, get_or, length, take}
 use Rattle.lists.specs.Pick.{pick}
 use Rattle.lists.specs.Places.{gathered, place, placed}
-use Rattle.tape.specs.Numbers.{blockBytes}
-use Rattle.index.specs.Table.{placeLength}
+use Rattle.tape.specs.Numbers.{block_bytes}
+use Rattle.index.specs.Table.{place_length}
 use Rattle.touched.specs.declared.Touched.{Touched}
 
 -- n bytes of memory at a place, and no more
@@ -25,72 +25,72 @@ run_of at n =
 abbrev pub none : Touched
 none = run_of 0 0
 
-abbrev pub savedLength : Touched → ℕ
-savedLength t = t.data_length + t.message_length + blockBytes * t.reel_blocks + placeLength * t.places
+abbrev pub saved_length : Touched → ℕ
+saved_length t = t.data_length + t.message_length + block_bytes * t.reel_blocks + place_length * t.places
 
 -- lengths of memory and reel in bytes: even, and so small that what is saved can be counted in four bytes
 pub record Sizes (memory reel : ℕ) : Type 0 where
   pub even : memory % 2 ≡ 0
-  pub even-reel : reel % 2 ≡ 0
-  pub memory-small : memory ≤ 1073741824
-  pub reel-small : reel ≤ 1073741824
+  pub even_reel : reel % 2 ≡ 0
+  pub memory_small : memory ≤ 1073741824
+  pub reel_small : reel ≤ 1073741824
 
 -- the places lie inside memory and reel
 pub record TouchedIn (t : Touched) (memory reel : ℕ) : Type 0 where
   pub in_memory : t.data_at + t.data_length ≤ memory
-  pub message-in-memory : t.message_at + t.message_length ≤ memory
-  pub in-reel : blockBytes * (t.reel_at + t.reel_blocks) ≤ reel
+  pub message_in_memory : t.message_at + t.message_length ≤ memory
+  pub in_reel : block_bytes * (t.reel_at + t.reel_blocks) ≤ reel
   pub sizes : Sizes memory reel
 
 -- and so do those that are filled, inside a table of so many bytes
 abbrev pub PlacesIn : Touched → ℕ → Type 0
-PlacesIn t table = placeLength * (t.place_at + t.places) ≤ table
+PlacesIn t table = place_length * (t.place_at + t.places) ≤ table
 
 -- the first of f places that end below the place `top`
-abbrev pub placeBelow : ℕ → ℕ → ℕ
-placeBelow top f = pick (eqb f 0) 0 (top - f)
+abbrev pub place_below : ℕ → ℕ → ℕ
+place_below top f = pick (eqb f 0) 0 (top - f)
 
 -- the same as a test (lengths in bytes), of memory and reel
-unfoldable pub touchedFits : Touched → ℕ → ℕ → Bool
-touchedFits t memory reel =
+unfoldable pub touched_fits : Touched → ℕ → ℕ → Bool
+touched_fits t memory reel =
     leb (t.data_at + t.data_length) memory
-    && (leb (t.message_at + t.message_length) memory && leb (t.reel_at + t.reel_blocks) (reel / blockBytes))
+    && (leb (t.message_at + t.message_length) memory && leb (t.reel_at + t.reel_blocks) (reel / block_bytes))
 
 -- the old bytes of the places, in memory m, reel r and table tb: data, message, blocks, places
-unfoldable pub savedBytes : Touched → List ℕ → List ℕ → List ℕ → List ℕ
-savedBytes t m r tb =
+unfoldable pub saved_bytes : Touched → List ℕ → List ℕ → List ℕ → List ℕ
+saved_bytes t m r tb =
     gathered t.swb m t.data_at t.data_length
     ++ (gathered false m t.message_at t.message_length
-    ++ (gathered false r (blockBytes * t.reel_at) (blockBytes * t.reel_blocks)
-    ++ gathered false tb (placeLength * t.place_at) (placeLength * t.places)))
+    ++ (gathered false r (block_bytes * t.reel_at) (block_bytes * t.reel_blocks)
+    ++ gathered false tb (place_length * t.place_at) (place_length * t.places)))
 
 -- each of them in what was saved
-abbrev pub savedData : Touched → List ℕ → List ℕ
-savedData t b = take t.data_length b
+abbrev pub saved_data : Touched → List ℕ → List ℕ
+saved_data t b = take t.data_length b
 
-abbrev pub savedMessage : Touched → List ℕ → List ℕ
-savedMessage t b = take t.message_length (drop t.data_length b)
+abbrev pub saved_message : Touched → List ℕ → List ℕ
+saved_message t b = take t.message_length (drop t.data_length b)
 
-abbrev pub savedBlocks : Touched → List ℕ → List ℕ
-savedBlocks t b = take (blockBytes * t.reel_blocks) (drop (t.data_length + t.message_length) b)
+abbrev pub saved_blocks : Touched → List ℕ → List ℕ
+saved_blocks t b = take (block_bytes * t.reel_blocks) (drop (t.data_length + t.message_length) b)
 
-abbrev pub savedPlaces : Touched → List ℕ → List ℕ
-savedPlaces t b = drop (t.data_length + t.message_length + blockBytes * t.reel_blocks) b
+abbrev pub saved_places : Touched → List ℕ → List ℕ
+saved_places t b = drop (t.data_length + t.message_length + block_bytes * t.reel_blocks) b
 
 -- memory m, reel r and table tb after the saved bytes b went back to their places: the message's first, since it went over the data
-unfoldable pub memoryBack : Touched → List ℕ → List ℕ → List ℕ
-memoryBack t b m = placed t.swb (placed false m t.message_at (savedMessage t b)) t.data_at (savedData t b)
+unfoldable pub memory_back : Touched → List ℕ → List ℕ → List ℕ
+memory_back t b m = placed t.swb (placed false m t.message_at (saved_message t b)) t.data_at (saved_data t b)
 
-unfoldable pub reelBack : Touched → List ℕ → List ℕ → List ℕ
-reelBack t b r = placed false r (blockBytes * t.reel_at) (savedBlocks t b)
+unfoldable pub reel_back : Touched → List ℕ → List ℕ → List ℕ
+reel_back t b r = placed false r (block_bytes * t.reel_at) (saved_blocks t b)
 
-unfoldable pub tableBack : Touched → List ℕ → List ℕ → List ℕ
-tableBack t b tb = placed false tb (placeLength * t.place_at) (savedPlaces t b)
+unfoldable pub table_back : Touched → List ℕ → List ℕ → List ℕ
+table_back t b tb = placed false tb (place_length * t.place_at) (saved_places t b)
 
 pub record Restored (t : Touched) (b m r tb m' r' tb' : List ℕ) : Type 0 where
-  pub memory : m' ≡ memoryBack t b m
-  pub reel : r' ≡ reelBack t b r
-  pub table : tb' ≡ tableBack t b tb
+  pub memory : m' ≡ memory_back t b m
+  pub reel : r' ≡ reel_back t b r
+  pub table : tb' ≡ table_back t b tb
 
 -- j is no place of a run of n bytes from a on
 abbrev pub OffRun : Bool → ℕ → ℕ → ℕ → Type 0
@@ -98,9 +98,9 @@ OffRun swb a n j = (i : ℕ) → i < n → j ≡ place swb (a + i) → ⊥
 
 -- "Memory outside the named bytes stays": m', r' and tb' differ from m, r and tb at the places touched alone
 pub record Only (t : Touched) (m r tb m' r' tb' : List ℕ) : Type 0 where
-  pub long-memory : length m' ≡ length m
-  pub long-reel : length r' ≡ length r
-  pub long-table : length tb' ≡ length tb
+  pub long_memory : length m' ≡ length m
+  pub long_reel : length r' ≡ length r
+  pub long_table : length tb' ≡ length tb
   pub memory : (j : ℕ) → OffRun t.swb t.data_at t.data_length j → OffRun false t.message_at t.message_length j → get_or m' j 0 ≡ get_or m j 0
-  pub reel : (j : ℕ) → OffRun false (blockBytes * t.reel_at) (blockBytes * t.reel_blocks) j → get_or r' j 0 ≡ get_or r j 0
-  pub table : (j : ℕ) → OffRun false (placeLength * t.place_at) (placeLength * t.places) j → get_or tb' j 0 ≡ get_or tb j 0
+  pub reel : (j : ℕ) → OffRun false (block_bytes * t.reel_at) (block_bytes * t.reel_blocks) j → get_or r' j 0 ≡ get_or r j 0
+  pub table : (j : ℕ) → OffRun false (place_length * t.place_at) (place_length * t.places) j → get_or tb' j 0 ≡ get_or tb j 0

@@ -1,7 +1,7 @@
 // Saving the bytes that a step is about to store over, and bringing them back.
 ghost use Rattle.std.specs.Prelude.{◌≡◌, ◌+◌, ◌≤◌, ◌%◌, leb, length};
 ghost use Rattle.lists.specs.Places.{gathered, placed};
-ghost use Rattle.touched.specs.Touches.{PlacesIn, Restored, TouchedIn, none, savedBytes, savedLength, touchedFits};
+ghost use Rattle.touched.specs.Touches.{PlacesIn, Restored, TouchedIn, none, saved_bytes, saved_length, touched_fits};
 
 use crate::Touched;
 use index::PLACE;
@@ -28,7 +28,7 @@ pub fn nothing() -> Touched
 // How many bytes are saved, "data and message counted separately even if they overlap".
 pub fn saved_length(t: Touched, memory: usize, reel: usize) -> usize
     requires { TouchedIn t memory reel }
-    ensures { result ≡ savedLength t }
+    ensures { result ≡ saved_length t }
 {
     t.data_length + t.message_length + Geometry::BLOCK * t.reel_blocks + PLACE * t.places as usize
 }
@@ -45,7 +45,7 @@ fn run_fits(a: usize, n: usize, limit: usize) -> bool
 
 // Do these places lie inside memory and reel, whose lengths in bytes these are?
 pub fn touched_fits(t: Touched, memory: usize, reel: usize) -> bool
-    ensures { result ≡ touchedFits t memory reel }
+    ensures { result ≡ touched_fits t memory reel }
 {
     let data = run_fits(t.data_at, t.data_length, memory);
     let message = run_fits(t.message_at, t.message_length, memory);
@@ -77,8 +77,8 @@ fn bring_data(d: &[u8], mem: &mut [u8], a: usize, swb: bool)
 
 // The bytes at these places fill b: the data's, the message's, the reel's, the table's.
 pub fn save(b: &mut [u8], t: Touched, mem: &[u8], reel: &[u8], table: &[u8])
-    requires { (length b.old ≡ savedLength t) × TouchedIn t (length mem.now) (length reel.now) × PlacesIn t (length table.now) }
-    ensures { b.new ≡ savedBytes t mem.now reel.now table.now }
+    requires { (length b.old ≡ saved_length t) × TouchedIn t (length mem.now) (length reel.now) × PlacesIn t (length table.now) }
+    ensures { b.new ≡ saved_bytes t mem.now reel.now table.now }
 {
     let message = t.data_length;
     let blocks = message + t.message_length;
@@ -102,7 +102,7 @@ pub fn save(b: &mut [u8], t: Touched, mem: &[u8], reel: &[u8], table: &[u8])
 
 // The bytes that were saved go back to their places; the data last, since the message went over it.
 pub fn bring_back(b: &[u8], t: Touched, mem: &mut [u8], reel: &mut [u8], table: &mut [u8])
-    requires { (length b.now ≡ savedLength t) × TouchedIn t (length mem.old) (length reel.old) × PlacesIn t (length table.old) }
+    requires { (length b.now ≡ saved_length t) × TouchedIn t (length mem.old) (length reel.old) × PlacesIn t (length table.old) }
     ensures { Restored t b.now mem.old reel.old table.old mem.new reel.new table.new }
 {
     let message = t.data_length;

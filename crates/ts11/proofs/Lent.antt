@@ -2,13 +2,13 @@
 --     locals E vs      all of a function's locals as ONE formula: the blocks E, with the values vs (`none`, or the end of the list: not yet written)
 --     at_local, sets   a local is read (a `Part`, so that `look_in` and `sub` of `types.Part` go on from it), and written, whether or not it had a value
 --     starts, frees_all    a function's locals are made and its arguments stored; they are all freed
---     elem_at, elem-same, elem-set    `denote.Index`'s `elem_out`, `elem_back`, `elem_put` at the offset that MIR computes, i * size + o
+--     elem_at, elem_same, elem_set    `denote.Index`'s `elem_out`, `elem_back`, `elem_put` at the offset that MIR computes, i * size + o
 --     known            a call's result, by an equation
---     calls-fn         the call rule for a function with clauses: what comes back is taken apart
+--     calls_fn         the call rule for a function with clauses: what comes back is taken apart
 --     Keeps, keep-…    of a parameter that is not lent on: its last value is the one passed
---     lets, go-lets    at exit a walk has of each parameter just what the contract says of its last value
+--     lets, go_lets    at exit a walk has of each parameter just what the contract says of its last value
 --     Choices, sort, unsort    of a list of parameters, those that a callee is given (`none`) and those that are kept (`some`)
---     toks-sort, toks-unsort   the same of the lifetimes' tokens
+--     toks_sort, toks_unsort   the same of the lifetimes' tokens
 -- Assumes `Logic`.
 use mathlib.Core.Path.{◌≡◌, refl, sym, ◌∙◌, ap, subst}
 use Prim.Native.Nat.{ℕ, zero, suc, ◌+◌, ◌*◌, ◌<◌, ◌≤◌, ◌^◌}
@@ -66,9 +66,9 @@ pub left_false : (s t : Bool) → (s || t) ≡ false → s ≡ false
 left_false true t h = h
 left_false false t h = refl
 
-pub right-false : (s t : Bool) → (s || t) ≡ false → t ≡ false
-right-false true t h = absurd (true≢false h)
-right-false false t h = h
+pub right_false : (s t : Bool) → (s || t) ≡ false → t ≡ false
+right_false true t h = absurd (true≢false h)
+right_false false t h = h
 
 pub positive : (n : ℕ) → eqb n 0 ≡ false → 0 < n
 positive n h = let k : n ≡ 0 → ⊥ = eqb-false n 0 h in omega (arith, k)
@@ -85,13 +85,13 @@ abbrev tl : List (Option Val) → List (Option Val)
 tl [] = []
 tl (v ∷ vs) = vs
 
-abbrev pub get-val : ℕ → List (Option Val) → Option Val
-get-val zero vs = hd vs
-get-val (suc k) vs = get-val k (tl vs)
+abbrev pub get_val : ℕ → List (Option Val) → Option Val
+get_val zero vs = hd vs
+get_val (suc k) vs = get_val k (tl vs)
 
-abbrev pub put-val : ℕ → Val → List (Option Val) → List (Option Val)
-put-val zero v vs = some v ∷ tl vs
-put-val (suc k) v vs = hd vs ∷ put-val k v (tl vs)
+abbrev pub put_val : ℕ → Val → List (Option Val) → List (Option Val)
+put_val zero v vs = some v ∷ tl vs
+put_val (suc k) v vs = hd vs ∷ put_val k v (tl vs)
 
 abbrev cell : Ty → ℕ → Option Val → Fml
 cell τ b none = froom τ b zero
@@ -122,22 +122,22 @@ abbrev pub somes : List Val → List (Option Val)
 somes [] = []
 somes (v ∷ vs) = some v ∷ somes vs
 
-get-nil : (k : ℕ) → get-val k [] ≡ none
-get-nil zero = refl
-get-nil (suc k) = get-nil k
+get_nil : (k : ℕ) → get_val k [] ≡ none
+get_nil zero = refl
+get_nil (suc k) = get_nil k
 
-put-get : (k : ℕ) (vs : List (Option Val)) (v : Val) → get-val k vs ≡ some v → put-val k v vs ≡ vs
-put-get zero [] v e = absurd (none-ne-some v e)
-put-get zero (x ∷ vs) v e = ap (λ (y : Option Val). y ∷ vs) (sym e)
-put-get (suc k) [] v e = absurd (none-ne-some v (sym (get-nil k) ∙ e))
-put-get (suc k) (x ∷ vs) v e = ap (λ (ys : List (Option Val)). x ∷ ys) (put-get k vs v e)
+put_get : (k : ℕ) (vs : List (Option Val)) (v : Val) → get_val k vs ≡ some v → put_val k v vs ≡ vs
+put_get zero [] v e = absurd (none-ne-some v e)
+put_get zero (x ∷ vs) v e = ap (λ (y : Option Val). y ∷ vs) (sym e)
+put_get (suc k) [] v e = absurd (none-ne-some v (sym (get_nil k) ∙ e))
+put_get (suc k) (x ∷ vs) v e = ap (λ (ys : List (Option Val)). x ∷ ys) (put_get k vs v e)
 
 module _ {M : Type 1} {𝓤 : Ura M} (𝓛 : Logic 𝓤) where
   open 𝓛 use {H}
 
-  abbrev pub envOf : (ls : List Local) → Blocks ls → Env 𝓤 H
-  envOf [] bs = []
-  envOf (l ∷ ls) bs = (ty_of 𝓤 H l, bs.0) ∷ envOf ls bs.1
+  abbrev pub env_of : (ls : List Local) → Blocks ls → Env 𝓤 H
+  env_of [] bs = []
+  env_of (l ∷ ls) bs = (ty_of 𝓤 H l, bs.0) ∷ env_of ls bs.1
 
   -- each argument is a value of its local's type
   abbrev pub Fitted : List Local → List Val → Type 0
@@ -151,24 +151,24 @@ module _ {M : Type 1} {𝓤 : Ura M} (𝓛 : Logic 𝓤) where
 
   -- a local's cell is taken out, and any value is put back
   abbrev Way : Env 𝓤 H → ℕ → List (Option Val) → SProp 𝓤
-  Way E k vs = all 𝓤 (λ (u : Val). wand 𝓤 (H.at full_share (spot_of 𝓤 H E k).0 (spot_of 𝓤 H E k).1 zero u) (sem 𝓛 (locals E (put-val k u vs))))
+  Way E k vs = all 𝓤 (λ (u : Val). wand 𝓤 (H.at full_share (spot_of 𝓤 H E k).0 (spot_of 𝓤 H E k).1 zero u) (sem 𝓛 (locals E (put_val k u vs))))
 
 module _ {M : Type 1} {𝓤 : Ura M} (𝓛 : Logic 𝓤) where
   open 𝓛 use {H}
 
   local_out : (E : Env 𝓤 H) (k : ℕ) (vs : List (Option Val)) → Has k E
-      → ent 𝓤 (sem 𝓛 (locals E vs)) (sep 𝓤 (sem 𝓛 (cell (spot_of 𝓤 H E k).0 (spot_of 𝓤 H E k).1 (get-val k vs))) (Way 𝓛 E k vs))
+      → ent 𝓤 (sem 𝓛 (locals E vs)) (sep 𝓤 (sem 𝓛 (cell (spot_of 𝓤 H E k).0 (spot_of 𝓤 H E k).1 (get_val k vs))) (Way 𝓛 E k vs))
   unfolding locals
   local_out [] k vs h = absurd h
   local_out (e ∷ E) zero vs h =
       qed 𝓛 (‵ (fsep (fsep (cell e.0 e.1 (hd vs)) (fdies e.0 e.1)) (locals E (tl vs))) ∷ []) ∵ fsplit ! $ fsplit ! $ frame ! $
-      each ! (λ (u : Val). wand 𝓤 (H.at full_share e.0 e.1 zero u) (sem 𝓛 (locals (e ∷ E) (put-val zero u vs)))) (λ u. assume {P = sem 𝓛 (locals (e ∷ E) (put-val zero u vs))} ! (‵ (fat full_share e.0 e.1 zero u)) $ fjoin ! $ fjoin ! $ done !)
+      each ! (λ (u : Val). wand 𝓤 (H.at full_share e.0 e.1 zero u) (sem 𝓛 (locals (e ∷ E) (put_val zero u vs)))) (λ u. assume {P = sem 𝓛 (locals (e ∷ E) (put_val zero u vs))} ! (‵ (fat full_share e.0 e.1 zero u)) $ fjoin ! $ fjoin ! $ done !)
   local_out (e ∷ E) (suc k) vs h =
       qed 𝓛 (‵ (fsep (fsep (cell e.0 e.1 (hd vs)) (fdies e.0 e.1)) (locals E (tl vs))) ∷ []) ∵ fsplit ! $ move ! (1 ∷ []) $
-      use1 𝓛 (‵ (cell (spot_of 𝓤 H E k).0 (spot_of 𝓤 H E k).1 (get-val k (tl vs))) ⊛ raw (Way 𝓛 E k (tl vs))) (local_out E k (tl vs) h) $ split ! $ frame ! $
-      each ! (λ (u : Val). wand 𝓤 (H.at full_share (spot_of 𝓤 H E k).0 (spot_of 𝓤 H E k).1 zero u) (sem 𝓛 (locals (e ∷ E) (put-val (suc k) u vs)))) (λ u. assume {P = sem 𝓛 (locals (e ∷ E) (put-val (suc k) u vs))} ! (‵ (fat full_share (spot_of 𝓤 H E k).0 (spot_of 𝓤 H E k).1 zero u)) $
-      move ! (1 ∷ []) $ use1 𝓛 (raw (wand 𝓤 (H.at full_share (spot_of 𝓤 H E k).0 (spot_of 𝓤 H E k).1 zero u) (sem 𝓛 (locals E (put-val k u (tl vs)))))) (all_e 𝓤 (λ (u : Val). wand 𝓤 (H.at full_share (spot_of 𝓤 H E k).0 (spot_of 𝓤 H E k).1 zero u) (sem 𝓛 (locals E (put-val k u (tl vs))))) u) $
-      move ! (1 ∷ 0 ∷ []) $ use2 𝓛 (‵ (locals E (put-val k u (tl vs)))) (apply∗ 𝓤 (H.at full_share (spot_of 𝓤 H E k).0 (spot_of 𝓤 H E k).1 zero u) (sem 𝓛 (locals E (put-val k u (tl vs))))) $
+      use1 𝓛 (‵ (cell (spot_of 𝓤 H E k).0 (spot_of 𝓤 H E k).1 (get_val k (tl vs))) ⊛ raw (Way 𝓛 E k (tl vs))) (local_out E k (tl vs) h) $ split ! $ frame ! $
+      each ! (λ (u : Val). wand 𝓤 (H.at full_share (spot_of 𝓤 H E k).0 (spot_of 𝓤 H E k).1 zero u) (sem 𝓛 (locals (e ∷ E) (put_val (suc k) u vs)))) (λ u. assume {P = sem 𝓛 (locals (e ∷ E) (put_val (suc k) u vs))} ! (‵ (fat full_share (spot_of 𝓤 H E k).0 (spot_of 𝓤 H E k).1 zero u)) $
+      move ! (1 ∷ []) $ use1 𝓛 (raw (wand 𝓤 (H.at full_share (spot_of 𝓤 H E k).0 (spot_of 𝓤 H E k).1 zero u) (sem 𝓛 (locals E (put_val k u (tl vs)))))) (all_e 𝓤 (λ (u : Val). wand 𝓤 (H.at full_share (spot_of 𝓤 H E k).0 (spot_of 𝓤 H E k).1 zero u) (sem 𝓛 (locals E (put_val k u (tl vs))))) u) $
+      move ! (1 ∷ 0 ∷ []) $ use2 𝓛 (‵ (locals E (put_val k u (tl vs)))) (apply∗ 𝓤 (H.at full_share (spot_of 𝓤 H E k).0 (spot_of 𝓤 H E k).1 zero u) (sem 𝓛 (locals E (put_val k u (tl vs))))) $
       move ! (1 ∷ 0 ∷ []) $ fjoin ! $ done !)
 
   roomed : (τ : Ty) (b : ℕ) (o : Option Val) → ent 𝓤 (sem 𝓛 (cell τ b o)) (H.room τ b zero)
@@ -184,37 +184,37 @@ module _ {M : Type 1} {𝓤 : Ura M} (𝓛 : Logic 𝓤) where
       use1 𝓛 (‵ (froom e.0 e.1 zero)) (roomed e.0 e.1 (hd vs)) $ join ! $ frame ! $ by ! (released E (tl vs) P)
 
   -- they are made
-  allocated : (ls : List Local) (Kt : Env 𝓤 H → SProp 𝓤) (P : SProp 𝓤) → ((bs : Blocks ls) → ent 𝓤 (sep 𝓤 (sem 𝓛 (locals (envOf 𝓛 ls bs) [])) P) (Kt (envOf 𝓛 ls bs))) → ent 𝓤 P (alloc 𝓤 H ls Kt)
+  allocated : (ls : List Local) (Kt : Env 𝓤 H → SProp 𝓤) (P : SProp 𝓤) → ((bs : Blocks ls) → ent 𝓤 (sep 𝓤 (sem 𝓛 (locals (env_of 𝓛 ls bs) [])) P) (Kt (env_of 𝓛 ls bs))) → ent 𝓤 P (alloc 𝓤 H ls Kt)
   unfolding locals
   allocated [] Kt P k = via 𝓤 (sep 𝓤 (emp 𝓤) P) (emp∗ 𝓤 P) (k tt)
   allocated (l ∷ ls) Kt P k =
       qed 𝓛 (raw P ∷ []) ∵ each ! (λ (b : ℕ). wand 𝓤 (sep 𝓤 (H.room (ty_of 𝓤 H l) b zero) (H.dies (ty_of 𝓤 H l) b)) (alloc 𝓤 H ls (λ E. Kt ((ty_of 𝓤 H l, b) ∷ E)))) (λ b.
       assume {P = alloc 𝓤 H ls (λ E. Kt ((ty_of 𝓤 H l, b) ∷ E))} ! (‵ (froom (ty_of 𝓤 H l) b zero) ⊛ ‵ (fdies (ty_of 𝓤 H l) b)) $
       by ! (allocated ls (λ E. Kt ((ty_of 𝓤 H l, b) ∷ E)) (sep 𝓤 (sep 𝓤 (H.room (ty_of 𝓤 H l) b zero) (H.dies (ty_of 𝓤 H l) b)) P) (λ bs.
-      qed 𝓛 (‵ (locals (envOf 𝓛 ls bs) []) ∷ ((‵ (froom (ty_of 𝓤 H l) b zero) ⊛ ‵ (fdies (ty_of 𝓤 H l) b)) ⊛ raw P) ∷ []) ∵ move ! (1 ∷ []) $ split ! $ split ! $ fjoin ! $ move ! (0 ∷ 2 ∷ 1 ∷ []) $ fjoin ! $ by ! (k (b, bs)))))
+      qed 𝓛 (‵ (locals (env_of 𝓛 ls bs) []) ∷ ((‵ (froom (ty_of 𝓤 H l) b zero) ⊛ ‵ (fdies (ty_of 𝓤 H l) b)) ⊛ raw P) ∷ []) ∵ move ! (1 ∷ []) $ split ! $ split ! $ fjoin ! $ move ! (0 ∷ 2 ∷ 1 ∷ []) $ fjoin ! $ by ! (k (b, bs)))))
 
   -- the arguments are stored
-  stored : (ls : List Local) (bs : Blocks ls) (us : List Val) (Q P : SProp 𝓤) → Fitted 𝓛 ls us → ent 𝓤 (sep 𝓤 (sem 𝓛 (locals (envOf 𝓛 ls bs) (somes us))) P) Q → ent 𝓤 (sep 𝓤 (sem 𝓛 (locals (envOf 𝓛 ls bs) [])) P) (pass 𝓤 H (envOf 𝓛 ls bs) us Q)
+  stored : (ls : List Local) (bs : Blocks ls) (us : List Val) (Q P : SProp 𝓤) → Fitted 𝓛 ls us → ent 𝓤 (sep 𝓤 (sem 𝓛 (locals (env_of 𝓛 ls bs) (somes us))) P) Q → ent 𝓤 (sep 𝓤 (sem 𝓛 (locals (env_of 𝓛 ls bs) [])) P) (pass 𝓤 H (env_of 𝓛 ls bs) us Q)
   unfolding locals
   stored [] bs [] Q P f k = k
   stored (l ∷ ls) bs [] Q P f k = k
   stored [] bs (u ∷ us) Q P f k = absurd f
   stored (l ∷ ls) bs (u ∷ us) Q P f k =
-      qed 𝓛 (‵ (fsep (fsep (froom (ty_of 𝓤 H l) bs.0 zero) (fdies (ty_of 𝓤 H l) bs.0)) (locals (envOf 𝓛 ls bs.1) [])) ∷ raw P ∷ []) ∵ fsplit ! $ fsplit ! $
-      check ! f.0 $ frame ! $ assume {P = pass 𝓤 H (envOf 𝓛 ls bs.1) us Q} ! (‵ (fat full_share (ty_of 𝓤 H l) bs.0 zero u)) $
+      qed 𝓛 (‵ (fsep (fsep (froom (ty_of 𝓤 H l) bs.0 zero) (fdies (ty_of 𝓤 H l) bs.0)) (locals (env_of 𝓛 ls bs.1) [])) ∷ raw P ∷ []) ∵ fsplit ! $ fsplit ! $
+      check ! f.0 $ frame ! $ assume {P = pass 𝓤 H (env_of 𝓛 ls bs.1) us Q} ! (‵ (fat full_share (ty_of 𝓤 H l) bs.0 zero u)) $
       fjoin ! $ move ! (1 ∷ 0 ∷ 2 ∷ []) $ move ! (0 ∷ 1 ∷ 2 ∷ []) $
       by ! (stored ls bs.1 us Q (sep 𝓤 (sem 𝓛 (fsep (fat full_share (ty_of 𝓤 H l) bs.0 zero u) (fdies (ty_of 𝓤 H l) bs.0))) P) f.1
-      (qed 𝓛 (‵ (locals (envOf 𝓛 ls bs.1) (somes us)) ∷ (‵ (fsep (fat full_share (ty_of 𝓤 H l) bs.0 zero u) (fdies (ty_of 𝓤 H l) bs.0)) ⊛ raw P) ∷ []) ∵ move ! (1 ∷ []) $ split ! $ move ! (0 ∷ 2 ∷ 1 ∷ []) $ fjoin ! $ by ! k))
+      (qed 𝓛 (‵ (locals (env_of 𝓛 ls bs.1) (somes us)) ∷ (‵ (fsep (fat full_share (ty_of 𝓤 H l) bs.0 zero u) (fdies (ty_of 𝓤 H l) bs.0)) ⊛ raw P) ∷ []) ∵ move ! (1 ∷ []) $ split ! $ move ! (0 ∷ 2 ∷ 1 ∷ []) $ fjoin ! $ by ! k))
 
   begun : (C : Calls 𝓤 H) (Λ : Loops 𝓤 H) (ls : List Local) (body : Body) (us : List Val) (Kf : Val → SProp 𝓤) (P : SProp 𝓤) → FittedIn 𝓛 ls us
-      → ((bs : Blocks ls) → ent 𝓤 (sep 𝓤 (sem 𝓛 (locals (envOf 𝓛 ls bs) (none ∷ somes us))) P) (Wp 𝓤 H C Λ (envOf 𝓛 ls bs) body (at_return 𝓤 H (envOf 𝓛 ls bs) Kf)))
+      → ((bs : Blocks ls) → ent 𝓤 (sep 𝓤 (sem 𝓛 (locals (env_of 𝓛 ls bs) (none ∷ somes us))) P) (Wp 𝓤 H C Λ (env_of 𝓛 ls bs) body (at_return 𝓤 H (env_of 𝓛 ls bs) Kf)))
       → ent 𝓤 P (alloc 𝓤 H ls (λ E. params 𝓤 H E us (Wp 𝓤 H C Λ E body (at_return 𝓤 H E Kf))))
   unfolding locals
   begun C Λ [] body us Kf P f k = absurd f
   begun C Λ (l ∷ ls) body us Kf P f k = allocated (l ∷ ls) (λ E. params 𝓤 H E us (Wp 𝓤 H C Λ E body (at_return 𝓤 H E Kf))) P (λ bs.
-      qed 𝓛 (‵ (fsep (fsep (froom (ty_of 𝓤 H l) bs.0 zero) (fdies (ty_of 𝓤 H l) bs.0)) (locals (envOf 𝓛 ls bs.1) [])) ∷ raw P ∷ []) ∵ fsplit ! $ move ! (1 ∷ 0 ∷ 2 ∷ []) $
+      qed 𝓛 (‵ (fsep (fsep (froom (ty_of 𝓤 H l) bs.0 zero) (fdies (ty_of 𝓤 H l) bs.0)) (locals (env_of 𝓛 ls bs.1) [])) ∷ raw P ∷ []) ∵ fsplit ! $ move ! (1 ∷ 0 ∷ 2 ∷ []) $
       by ! (stored ls bs.1 us _ (sep 𝓤 (sem 𝓛 (fsep (froom (ty_of 𝓤 H l) bs.0 zero) (fdies (ty_of 𝓤 H l) bs.0))) P) f
-      (qed 𝓛 (‵ (locals (envOf 𝓛 ls bs.1) (somes us)) ∷ (‵ (fsep (froom (ty_of 𝓤 H l) bs.0 zero) (fdies (ty_of 𝓤 H l) bs.0)) ⊛ raw P) ∷ []) ∵ move ! (1 ∷ []) $ split ! $ move ! (0 ∷ 2 ∷ 1 ∷ []) $ fjoin ! $ by ! (k bs))))
+      (qed 𝓛 (‵ (locals (env_of 𝓛 ls bs.1) (somes us)) ∷ (‵ (fsep (froom (ty_of 𝓤 H l) bs.0 zero) (fdies (ty_of 𝓤 H l) bs.0)) ⊛ raw P) ∷ []) ∵ move ! (1 ∷ []) $ split ! $ move ! (0 ∷ 2 ∷ 1 ∷ []) $ fjoin ! $ by ! (k bs))))
 
   untag : (E : Env 𝓤 H) (vs : List (Option Val)) → ent 𝓤 (sem 𝓛 (Locals E vs)) (sem 𝓛 (locals E vs))
   untag E vs = snd∗ 𝓤 (sem 𝓛 (feq (Tag E vs) tag tag)) (sem 𝓛 (locals E vs))
@@ -223,45 +223,45 @@ module _ {M : Type 1} {𝓤 : Ura M} (𝓛 : Logic 𝓤) where
   retag E vs = qed 𝓛 (‵ (locals E vs) ∷ []) ∵ feq_i ! (Tag E vs) tag tag refl $ done !
 
   abbrev Ways : Env 𝓤 H → ℕ → List (Option Val) → SProp 𝓤
-  Ways E k vs = all 𝓤 (λ (u : Val). wand 𝓤 (H.at full_share (spot_of 𝓤 H E k).0 (spot_of 𝓤 H E k).1 zero u) (sem 𝓛 (Locals E (put-val k u vs))))
+  Ways E k vs = all 𝓤 (λ (u : Val). wand 𝓤 (H.at full_share (spot_of 𝓤 H E k).0 (spot_of 𝓤 H E k).1 zero u) (sem 𝓛 (Locals E (put_val k u vs))))
 
-  way-tagged : (E : Env 𝓤 H) (k : ℕ) (vs : List (Option Val)) → ent 𝓤 (Way 𝓛 E k vs) (Ways E k vs)
-  way-tagged E k vs = qed 𝓛 (raw (Way 𝓛 E k vs) ∷ []) ∵
-      each ! (λ (u : Val). wand 𝓤 (H.at full_share (spot_of 𝓤 H E k).0 (spot_of 𝓤 H E k).1 zero u) (sem 𝓛 (Locals E (put-val k u vs)))) (λ u. assume {P = sem 𝓛 (Locals E (put-val k u vs))} ! (‵ (fat full_share (spot_of 𝓤 H E k).0 (spot_of 𝓤 H E k).1 zero u)) $
-      move ! (1 ∷ []) $ use1 𝓛 (raw (wand 𝓤 (H.at full_share (spot_of 𝓤 H E k).0 (spot_of 𝓤 H E k).1 zero u) (sem 𝓛 (locals E (put-val k u vs))))) (all_e 𝓤 (λ (w : Val). wand 𝓤 (H.at full_share (spot_of 𝓤 H E k).0 (spot_of 𝓤 H E k).1 zero w) (sem 𝓛 (locals E (put-val k w vs)))) u) $
-      move ! (1 ∷ 0 ∷ []) $ use2 𝓛 (‵ (locals E (put-val k u vs))) (apply∗ 𝓤 (H.at full_share (spot_of 𝓤 H E k).0 (spot_of 𝓤 H E k).1 zero u) (sem 𝓛 (locals E (put-val k u vs)))) $ by ! (retag E (put-val k u vs)))
+  way_tagged : (E : Env 𝓤 H) (k : ℕ) (vs : List (Option Val)) → ent 𝓤 (Way 𝓛 E k vs) (Ways E k vs)
+  way_tagged E k vs = qed 𝓛 (raw (Way 𝓛 E k vs) ∷ []) ∵
+      each ! (λ (u : Val). wand 𝓤 (H.at full_share (spot_of 𝓤 H E k).0 (spot_of 𝓤 H E k).1 zero u) (sem 𝓛 (Locals E (put_val k u vs)))) (λ u. assume {P = sem 𝓛 (Locals E (put_val k u vs))} ! (‵ (fat full_share (spot_of 𝓤 H E k).0 (spot_of 𝓤 H E k).1 zero u)) $
+      move ! (1 ∷ []) $ use1 𝓛 (raw (wand 𝓤 (H.at full_share (spot_of 𝓤 H E k).0 (spot_of 𝓤 H E k).1 zero u) (sem 𝓛 (locals E (put_val k u vs))))) (all_e 𝓤 (λ (w : Val). wand 𝓤 (H.at full_share (spot_of 𝓤 H E k).0 (spot_of 𝓤 H E k).1 zero w) (sem 𝓛 (locals E (put_val k w vs)))) u) $
+      move ! (1 ∷ 0 ∷ []) $ use2 𝓛 (‵ (locals E (put_val k u vs))) (apply∗ 𝓤 (H.at full_share (spot_of 𝓤 H E k).0 (spot_of 𝓤 H E k).1 zero u) (sem 𝓛 (locals E (put_val k u vs)))) $ by ! (retag E (put_val k u vs)))
 
   Local-out : (E : Env 𝓤 H) (k : ℕ) (vs : List (Option Val)) → Has k E
-      → ent 𝓤 (sem 𝓛 (Locals E vs)) (sep 𝓤 (sem 𝓛 (cell (spot_of 𝓤 H E k).0 (spot_of 𝓤 H E k).1 (get-val k vs))) (Ways E k vs))
+      → ent 𝓤 (sem 𝓛 (Locals E vs)) (sep 𝓤 (sem 𝓛 (cell (spot_of 𝓤 H E k).0 (spot_of 𝓤 H E k).1 (get_val k vs))) (Ways E k vs))
   Local-out E k vs h =
       via 𝓤 (sem 𝓛 (locals E vs)) (untag E vs)
-      (via 𝓤 (sep 𝓤 (sem 𝓛 (cell (spot_of 𝓤 H E k).0 (spot_of 𝓤 H E k).1 (get-val k vs))) (Way 𝓛 E k vs)) (local_out E k vs h)
-      (mono_r 𝓤 (sem 𝓛 (cell (spot_of 𝓤 H E k).0 (spot_of 𝓤 H E k).1 (get-val k vs))) (way-tagged E k vs)))
+      (via 𝓤 (sep 𝓤 (sem 𝓛 (cell (spot_of 𝓤 H E k).0 (spot_of 𝓤 H E k).1 (get_val k vs))) (Way 𝓛 E k vs)) (local_out E k vs h)
+      (mono_r 𝓤 (sem 𝓛 (cell (spot_of 𝓤 H E k).0 (spot_of 𝓤 H E k).1 (get_val k vs))) (way_tagged E k vs)))
 
 module _ {M : Type 1} {𝓤 : Ura M} {𝓛 : Logic 𝓤} {K : Type 0} where
   open 𝓛 use {H}
 
-  pub at_local : K → (k : ℕ) {E : Env 𝓤 H} {vs : List (Option Val)} {v : Val} → get-val k vs ≡ some v → Has k E
-      → Part K 𝓛 (‵ (Locals E vs)) full_share (spot_of 𝓤 H E k).0 (spot_of 𝓤 H E k).1 zero v (λ u. ‵ (Locals E (put-val k u vs)))
+  pub at_local : K → (k : ℕ) {E : Env 𝓤 H} {vs : List (Option Val)} {v : Val} → get_val k vs ≡ some v → Has k E
+      → Part K 𝓛 (‵ (Locals E vs)) full_share (spot_of 𝓤 H E k).0 (spot_of 𝓤 H E k).1 zero v (λ u. ‵ (Locals E (put_val k u vs)))
   at_local t k {E} {vs} {v} e h = record {
     out = subst (λ (o : Option Val). ent 𝓤 (sem 𝓛 (Locals E vs)) (sep 𝓤 (sem 𝓛 (cell (spot_of 𝓤 H E k).0 (spot_of 𝓤 H E k).1 o)) (Ways 𝓛 E k vs))) e (Local-out 𝓛 E k vs h);
-    same = ap (λ (us : List (Option Val)). ‵ (Locals E us)) (put-get k vs v e);
+    same = ap (λ (us : List (Option Val)). ‵ (Locals E us)) (put_get k vs v e);
   }
 
   module _ {Γ : List (Item 𝓤)} where
     pub sets : K → (n k : ℕ) {E : Env 𝓤 H} {vs : List (Option Val)} {v : Val} → nth 𝓛 n Γ ≡ ‵ (Locals E vs) → Has k E → T (has_ty (spot_of 𝓤 H E k).0 v) × WT v
-        → Writes K 𝓛 Γ (spot_of 𝓤 H E k).0 (spot_of 𝓤 H E k).1 zero v (put 𝓛 n (‵ (Locals E (put-val k v vs))) Γ)
+        → Writes K 𝓛 Γ (spot_of 𝓤 H E k).0 (spot_of 𝓤 H E k).1 zero v (put 𝓛 n (‵ (Locals E (put_val k v vs))) Γ)
     sets t n k {E} {vs} {v} e h wt = record {
       go = λ P p.
           via 𝓤 (sep 𝓤 (sem 𝓛 (Locals E vs)) (⋆ 𝓛 (del 𝓛 n Γ)))
           (subst (λ (j : Item 𝓤). ent 𝓤 (⋆ 𝓛 Γ) (sep 𝓤 (mean 𝓛 j) (⋆ 𝓛 (del 𝓛 n Γ)))) e (pull 𝓛 n Γ))
           (qed 𝓛 (‵ (Locals E vs) ∷ raw (⋆ 𝓛 (del 𝓛 n Γ)) ∷ []) ∵ check ! wt $
-          use1 𝓛 (‵ (cell (spot_of 𝓤 H E k).0 (spot_of 𝓤 H E k).1 (get-val k vs)) ⊛ raw (Ways 𝓛 E k vs)) (Local-out 𝓛 E k vs h) $ split ! $
-          use1 𝓛 (‵ (froom (spot_of 𝓤 H E k).0 (spot_of 𝓤 H E k).1 zero)) (roomed 𝓛 (spot_of 𝓤 H E k).0 (spot_of 𝓤 H E k).1 (get-val k vs)) $ frame ! $
+          use1 𝓛 (‵ (cell (spot_of 𝓤 H E k).0 (spot_of 𝓤 H E k).1 (get_val k vs)) ⊛ raw (Ways 𝓛 E k vs)) (Local-out 𝓛 E k vs h) $ split ! $
+          use1 𝓛 (‵ (froom (spot_of 𝓤 H E k).0 (spot_of 𝓤 H E k).1 zero)) (roomed 𝓛 (spot_of 𝓤 H E k).0 (spot_of 𝓤 H E k).1 (get_val k vs)) $ frame ! $
           assume {P = P} ! (‵ (fat full_share (spot_of 𝓤 H E k).0 (spot_of 𝓤 H E k).1 zero v)) $ move ! (1 ∷ []) $
-          use1 𝓛 (raw (wand 𝓤 (H.at full_share (spot_of 𝓤 H E k).0 (spot_of 𝓤 H E k).1 zero v) (sem 𝓛 (Locals E (put-val k v vs))))) (all_e 𝓤 (λ (u : Val). wand 𝓤 (H.at full_share (spot_of 𝓤 H E k).0 (spot_of 𝓤 H E k).1 zero u) (sem 𝓛 (Locals E (put-val k u vs)))) v) $
-          move ! (1 ∷ 0 ∷ []) $ use2 𝓛 (‵ (Locals E (put-val k v vs))) (apply∗ 𝓤 (H.at full_share (spot_of 𝓤 H E k).0 (spot_of 𝓤 H E k).1 zero v) (sem 𝓛 (Locals E (put-val k v vs)))) $
-          by ! (via 𝓤 (⋆ 𝓛 (put 𝓛 n (‵ (Locals E (put-val k v vs))) Γ)) (fill 𝓛 n (‵ (Locals E (put-val k v vs))) Γ) p));
+          use1 𝓛 (raw (wand 𝓤 (H.at full_share (spot_of 𝓤 H E k).0 (spot_of 𝓤 H E k).1 zero v) (sem 𝓛 (Locals E (put_val k v vs))))) (all_e 𝓤 (λ (u : Val). wand 𝓤 (H.at full_share (spot_of 𝓤 H E k).0 (spot_of 𝓤 H E k).1 zero u) (sem 𝓛 (Locals E (put_val k u vs)))) v) $
+          move ! (1 ∷ 0 ∷ []) $ use2 𝓛 (‵ (Locals E (put_val k v vs))) (apply∗ 𝓤 (H.at full_share (spot_of 𝓤 H E k).0 (spot_of 𝓤 H E k).1 zero v) (sem 𝓛 (Locals E (put_val k v vs)))) $
+          by ! (via 𝓤 (⋆ 𝓛 (put 𝓛 n (‵ (Locals E (put_val k v vs))) Γ)) (fill 𝓛 n (‵ (Locals E (put_val k v vs))) Γ) p));
     }
 
     pub frees_all : K → {E : Env 𝓤 H} {vs : List (Option Val)} {P : SProp 𝓤} → Step K 𝓛 Γ (prop P) (‵ (Locals E vs) ∷ Γ) (frees E (prop P))
@@ -270,18 +270,18 @@ module _ {M : Type 1} {𝓤 : Ura M} {𝓛 : Logic 𝓤} {K : Type 0} where
     })
 
     pub starts : K → (C : Calls 𝓤 H) (Λ : Loops 𝓤 H) (f : Fn) (us : List Val) (Kf : Val → SProp 𝓤) → FittedIn 𝓛 f.locals us
-        → ((bs : Blocks f.locals) → Seq K 𝓛 (‵ (Locals (envOf 𝓛 f.locals bs) (none ∷ somes us)) ∷ Γ) (runs C Λ (envOf 𝓛 f.locals bs) f.body (at_ret (envOf 𝓛 f.locals bs) Kf)))
+        → ((bs : Blocks f.locals) → Seq K 𝓛 (‵ (Locals (env_of 𝓛 f.locals bs) (none ∷ somes us)) ∷ Γ) (runs C Λ (env_of 𝓛 f.locals bs) f.body (at_ret (env_of 𝓛 f.locals bs) Kf)))
         → Seq K 𝓛 Γ (prop (WpFn 𝓤 H C Λ f us Kf))
     unfolding WpFn
     starts t C Λ f us Kf fits k = record {
       prf = begun 𝓛 C Λ f.locals f.body us Kf (⋆ 𝓛 Γ) fits (λ bs.
-          via 𝓤 (sep 𝓤 (sem 𝓛 (Locals (envOf 𝓛 f.locals bs) (none ∷ somes us))) (⋆ 𝓛 Γ)) (mono_l 𝓤 (⋆ 𝓛 Γ) (retag 𝓛 (envOf 𝓛 f.locals bs) (none ∷ somes us)))
-          (via 𝓤 (⋆ 𝓛 (‵ (Locals (envOf 𝓛 f.locals bs) (none ∷ somes us)) ∷ Γ)) (push 𝓛 (‵ (Locals (envOf 𝓛 f.locals bs) (none ∷ somes us))) Γ) (k bs).prf));
+          via 𝓤 (sep 𝓤 (sem 𝓛 (Locals (env_of 𝓛 f.locals bs) (none ∷ somes us))) (⋆ 𝓛 Γ)) (mono_l 𝓤 (⋆ 𝓛 Γ) (retag 𝓛 (env_of 𝓛 f.locals bs) (none ∷ somes us)))
+          (via 𝓤 (⋆ 𝓛 (‵ (Locals (env_of 𝓛 f.locals bs) (none ∷ somes us)) ∷ Γ)) (push 𝓛 (‵ (Locals (env_of 𝓛 f.locals bs) (none ∷ somes us))) Γ) (k bs).prf));
     }
 
     -- of several clauses: each is an entry; each is shown
-    pub clauses-split : K → {P Q : SProp 𝓤} {G : Goal 𝓤 H} → Step K 𝓛 (raw P ∷ raw Q ∷ Γ) G (raw (sep 𝓤 P Q) ∷ Γ) G
-    clauses-split t {P} {Q} = step (λ s. use1 𝓛 (raw P ⊛ raw Q) (id⊢ 𝓤 (sep 𝓤 P Q)) $ split t $ s)
+    pub clauses_split : K → {P Q : SProp 𝓤} {G : Goal 𝓤 H} → Step K 𝓛 (raw P ∷ raw Q ∷ Γ) G (raw (sep 𝓤 P Q) ∷ Γ) G
+    clauses_split t {P} {Q} = step (λ s. use1 𝓛 (raw P ⊛ raw Q) (id⊢ 𝓤 (sep 𝓤 P Q)) $ split t $ s)
 
     pub says2 : K → {φ₁ φ₂ : Type 0} {P : SProp 𝓤} → φ₁ → φ₂ → Step K 𝓛 Γ (prop P) Γ (prop (sep 𝓤 P (sep 𝓤 (fact 𝓤 φ₁) (fact 𝓤 φ₂))))
     says2 t {φ₁} {φ₂} {P} x y = step (λ s. record { prf = via 𝓤 (sep 𝓤 (emp 𝓤) P) (via 𝓤 P s.prf (emp∗ 𝓤 P)) (via 𝓤 (sep 𝓤 (sep 𝓤 (fact 𝓤 φ₁) (fact 𝓤 φ₂)) P) (mono_l 𝓤 P (both_facts 𝓤 φ₁ (fact 𝓤 φ₂) x (fact_i 𝓤 φ₂ (emp 𝓤) y))) (comm∗ 𝓤 (sep 𝓤 (fact 𝓤 φ₁) (fact 𝓤 φ₂)) P)) })
@@ -301,24 +301,24 @@ module _ {M : Type 1} {𝓤 : Ura M} {𝓛 : Logic 𝓤} {K : Type 0} where
           → Seq K 𝓛 (‵ (row R q ys b o) ∷ Γ) G
       elem_at t R P sh vals tl' q ys i d b o l k = elem_out t R P sh vals tl' q ys i d b o l (λ p. rewrite t 0 (λ (m : ℕ). ‵ (cell_at q R.mir (vals (get_or ys i d)) b m)) (place_is (mem R).size o i) refl $ k p)
 
-      pub elem-same : K → (R : RattleType) (q : Share) (ys : List R.Denot) (i : ℕ) (d : R.Denot) (vs : List Val) (b o : ℕ) → i < length ys
+      pub elem_same : K → (R : RattleType) (q : Share) (ys : List R.Denot) (i : ℕ) (d : R.Denot) (vs : List Val) (b o : ℕ) → i < length ys
           → Step K 𝓛 (‵ (row R q ys b o) ∷ Γ) G (‵ (cell_at q R.mir vs b (i * (mem R).size + o)) ∷ ‵ (R.own_val (get_or ys i d) vs) ∷ ‵ (others (shares R) q ys i b o) ∷ Γ) G
-      elem-same t R q ys i d vs b o l = step (λ s. rewrite t 0 (λ (m : ℕ). ‵ (cell_at q R.mir vs b m)) (sym (place_is (mem R).size o i)) refl $ elem_back t R q ys i d vs b o l $ s)
+      elem_same t R q ys i d vs b o l = step (λ s. rewrite t 0 (λ (m : ℕ). ‵ (cell_at q R.mir vs b m)) (sym (place_is (mem R).size o i)) refl $ elem_back t R q ys i d vs b o l $ s)
 
-      pub elem-set : K → (R : RattleType) (q : Share) (ys : List R.Denot) (i : ℕ) (y : R.Denot) (vs : List Val) (b o : ℕ) → i < length ys
+      pub elem_set : K → (R : RattleType) (q : Share) (ys : List R.Denot) (i : ℕ) (y : R.Denot) (vs : List Val) (b o : ℕ) → i < length ys
           → Step K 𝓛 (‵ (row R q (set ys i y) b o) ∷ Γ) G (‵ (cell_at q R.mir vs b (i * (mem R).size + o)) ∷ ‵ (R.own_val y vs) ∷ ‵ (others (shares R) q ys i b o) ∷ Γ) G
-      elem-set t R q ys i y vs b o l = step (λ s. rewrite t 0 (λ (m : ℕ). ‵ (cell_at q R.mir vs b m)) (sym (place_is (mem R).size o i)) refl $ elem_put t R q ys i y vs b o l $ s)
+      elem_set t R q ys i y vs b o l = step (λ s. rewrite t 0 (λ (m : ℕ). ‵ (cell_at q R.mir vs b m)) (sym (place_is (mem R).size o i)) refl $ elem_put t R q ys i y vs b o l $ s)
 
 -- ---- the call rule for a function with clauses: what comes back is the tokens, the result, what is said of the last values, and the `ensures`
 module _ {M : Type 1} {𝓤 : Ura M} {𝓛 : Logic 𝓤} {K : Type 0} {Γ : List (Item 𝓤)} {E : Env 𝓤 𝓛.H} {C : Calls 𝓤 𝓛.H} {f : Name} {xs : List Operand} {Λ : Loops 𝓤 𝓛.H} {q : Post 𝓤 𝓛.H} {d : Place} where
   open 𝓛 use {H}
 
-  pub calls-fn : K → FmC 𝓤 H 𝓛.laws C → {rest : Body} (S : Ended) (c : Clauses 𝓤 S) → Triple 𝓤 (C f) (triple_of 𝓛 S.signature (closing 𝓛 S c)) → (y : (triple_of 𝓛 S.signature (closing 𝓛 S c)).Ghost)
+  pub calls_fn : K → FmC 𝓤 H 𝓛.laws C → {rest : Body} (S : Ended) (c : Clauses 𝓤 S) → Triple 𝓤 (C f) (triple_of 𝓛 S.signature (closing 𝓛 S c)) → (y : (triple_of 𝓛 S.signature (closing 𝓛 S c)).Ghost)
       → Opds K 𝓛 (raw ((triple_of 𝓛 S.signature (closing 𝓛 S c)).pre y) ∷ Γ) E xs ((triple_of 𝓛 S.signature (closing 𝓛 S c)).args y)
       → ((v : Val) (r : Res S.signature y.0.0) (ls : Lasts S y.0.0 y.0.3)
       → Seq K 𝓛 (raw (alive 𝓛 S.signature y.0.0 y.0.1) ∷ ‵ ((type_at S.signature.result y.0.0).own_val r (v ∷ [])) ∷ ‵ (lasts S y.0.0 y.0.3 ls) ∷ raw ((c y.0.0 y.0.3).ensures y.1 r (at_exit S y.0.0 y.0.3 ls)) ∷ Γ) (lands C Λ E d v rest q))
       → Seq K 𝓛 (raw ((triple_of 𝓛 S.signature (closing 𝓛 S c)).pre y) ∷ Γ) (runs C Λ E (seq (call f xs d) rest) q)
-  calls-fn t fm S c met y os k = calls_at t fm (triple_of 𝓛 S.signature (closing 𝓛 S c)) met y os (λ v.
+  calls_fn t fm S c met y os k = calls_at t fm (triple_of 𝓛 S.signature (closing 𝓛 S c)) met y os (λ v.
       use1 𝓛 (later (someᵢ (λ (r : Res S.signature y.0.0). (raw (alive 𝓛 S.signature y.0.0 y.0.1) ⊛ ‵ ((type_at S.signature.result y.0.0).own_val r (v ∷ []))) ⊛ raw (ensured 𝓛 S c y.0.0 y.0.3 y.1 r)))) (id⊢ 𝓤 _) $
       await t tt $ pick t (λ r. split t $ split t $ move t (2 ∷ []) $
       use1 𝓛 (someᵢ (λ (ls : Lasts S y.0.0 y.0.3). ‵ (lasts S y.0.0 y.0.3 ls) ⊛ raw ((c y.0.0 y.0.3).ensures y.1 r (at_exit S y.0.0 y.0.3 ls)))) (id⊢ 𝓤 _) $
@@ -331,9 +331,9 @@ module _ {n : ℕ} where
   lets (s ∷ ss) ks = (record { fit = λ κs x f. Unit {0}; has = λ κs x f vs. left ((s.row κs).exit ks.0) x f }, lets ss ks.1)
 
 module _ {M : Type 1} {𝓤 : Ura M} (𝓛 : Logic 𝓤) (n : ℕ) where
-  pub go-lets : (ss : List (Slot n)) (ks : Kepts ss) → AllGo 𝓛 n ss ks (lets ss ks)
-  go-lets [] ks = tt
-  go-lets (s ∷ ss) ks = ((λ κs x f vs fits. 𝓛.laws.⇛_intro _), go-lets ss ks.1)
+  pub go_lets : (ss : List (Slot n)) (ks : Kepts ss) → AllGo 𝓛 n ss ks (lets ss ks)
+  go_lets [] ks = tt
+  go_lets (s ∷ ss) ks = ((λ κs x f vs fits. 𝓛.laws.⇛_intro _), go_lets ss ks.1)
 
 -- ---- a parameter that no callee is given: its last value is the one passed
 pub record Keeps {M : Type 1} {𝓤 : Ura M} (𝓛 : Logic 𝓤) {n : ℕ} (s : Slot n) (k : Kept) : Type 2 where
@@ -341,34 +341,34 @@ pub record Keeps {M : Type 1} {𝓤 : Ura M} (𝓛 : Logic 𝓤) {n : ℕ} (s : 
   pub ends : (κs : Lfts n) (x : (s.row κs).Denot) (vs : List Val) → ent 𝓤 (sem 𝓛 ((s.row κs).own_val x vs)) (sem 𝓛 (left ((s.row κs).exit k) x (last κs x)))
 
 module _ {M : Type 1} {𝓤 : Ura M} (𝓛 : Logic 𝓤) (n : ℕ) where
-  abbrev pub keep-uint : (w : Width) → Keeps 𝓛 {n = n} (plain (λ _. UInt w)) yes
-  keep-uint w = record { last = λ κs x. tt; ends = λ κs x vs. top 𝓤 _ }
+  abbrev pub keep_uint : (w : Width) → Keeps 𝓛 {n = n} (plain (λ _. UInt w)) yes
+  keep_uint w = record { last = λ κs x. tt; ends = λ κs x vs. top 𝓤 _ }
 
-  abbrev pub keep-bool : Keeps 𝓛 {n = n} (plain (λ _. Boolean)) yes
-  keep-bool = record { last = λ κs x. tt; ends = λ κs x vs. top 𝓤 _ }
+  abbrev pub keep_bool : Keeps 𝓛 {n = n} (plain (λ _. Boolean)) yes
+  keep_bool = record { last = λ κs x. tt; ends = λ κs x vs. top 𝓤 _ }
 
-  abbrev pub keep-shr : (js : List ℕ) (oks : AllWithin n js) (s : Slot n) → Keeps 𝓛 (shr_ref_to js oks s) yes
-  keep-shr js oks s = record { last = λ κs x. tt; ends = λ κs x vs. top 𝓤 _ }
+  abbrev pub keep_shr : (js : List ℕ) (oks : AllWithin n js) (s : Slot n) → Keeps 𝓛 (shr_ref_to js oks s) yes
+  keep_shr js oks s = record { last = λ κs x. tt; ends = λ κs x vs. top 𝓤 _ }
 
-  abbrev pub keep-shr-slice : (js : List ℕ) (oks : AllWithin n js) (s : Slot n) → Keeps 𝓛 (shr_slice_of js oks s) yes
-  keep-shr-slice js oks s = record { last = λ κs x. tt; ends = λ κs x vs. top 𝓤 _ }
+  abbrev pub keep_shr_slice : (js : List ℕ) (oks : AllWithin n js) (s : Slot n) → Keeps 𝓛 (shr_slice_of js oks s) yes
+  keep_shr_slice js oks s = record { last = λ κs x. tt; ends = λ κs x vs. top 𝓤 _ }
 
-  pub ref-ends : (js : List ℕ) (oks : AllWithin n js) (s : Slot n) (κs : Lfts n) (x : MutBor (s.row κs).Denot) (vs : List Val)
+  pub ref_ends : (js : List ℕ) (oks : AllWithin n js) (s : Slot n) (κs : Lfts n) (x : MutBor (s.row κs).Denot) (vs : List Val)
       → ent 𝓤 (sem 𝓛 (((mut_ref_to js oks s).row κs).own_val x vs)) (sem 𝓛 (fres x.ghost_name ((s.row κs).coded.code x.now)))
-  ref-ends js oks s κs x vs = qed 𝓛 (‵ (((mut_ref_to js oks s).row κs).own_val x vs) ∷ []) ∵ fsplit ! $ drop ! $ fsplit ! $ use1 𝓛 (‵ (fres x.ghost_name ((s.row κs).coded.code x.now))) (𝓛.names.obs-res x.ghost_name ((s.row κs).coded.code x.now)) $ keep ! (0 ∷ []) $ done !
+  ref_ends js oks s κs x vs = qed 𝓛 (‵ (((mut_ref_to js oks s).row κs).own_val x vs) ∷ []) ∵ fsplit ! $ drop ! $ fsplit ! $ use1 𝓛 (‵ (fres x.ghost_name ((s.row κs).coded.code x.now))) (𝓛.names.obs-res x.ghost_name ((s.row κs).coded.code x.now)) $ keep ! (0 ∷ []) $ done !
 
-  pub slice-ends : (js : List ℕ) (oks : AllWithin n js) (s : Slot n) (κs : Lfts n) (x : MutBor (List (s.row κs).Denot)) (vs : List Val)
+  pub slice_ends : (js : List ℕ) (oks : AllWithin n js) (s : Slot n) (κs : Lfts n) (x : MutBor (List (s.row κs).Denot)) (vs : List Val)
       → ent 𝓤 (sem 𝓛 (((mut_slice_of js oks s).row κs).own_val x vs)) (sem 𝓛 (fsep (finally (s.row κs) x.ghost_name x.now) (feq ℕ (length x.now) (length x.now))))
-  slice-ends js oks s κs x vs = qed 𝓛 (‵ (((mut_slice_of js oks s).row κs).own_val x vs) ∷ []) ∵ fsplit ! $ drop ! $ fsplit ! $
+  slice_ends js oks s κs x vs = qed 𝓛 (‵ (((mut_slice_of js oks s).row κs).own_val x vs) ∷ []) ∵ fsplit ! $ drop ! $ fsplit ! $
       use1 𝓛 (‵ (fres x.ghost_name ((coded_holeys (s.row κs)).code (heres (s.row κs) x.now)))) (𝓛.names.obs-res x.ghost_name ((coded_holeys (s.row κs)).code (heres (s.row κs) x.now))) $
       use1 𝓛 (‵ (finally (s.row κs) x.ghost_name x.now)) (res-finally 𝓛 (name_of js) (meet_at n js oks κs) (s.row κs) x.ghost_name x.now) $
       keep ! (0 ∷ []) $ feq_i ! ℕ (length x.now) (length x.now) refl $ move ! (1 ∷ 0 ∷ []) $ fjoin ! $ done !
 
-  abbrev pub keep-ref : (js : List ℕ) (oks : AllWithin n js) (s : Slot n) → Keeps 𝓛 (mut_ref_to js oks s) yes
-  keep-ref js oks s = record { last = λ κs x. x.now; ends = ref-ends js oks s }
+  abbrev pub keep_ref : (js : List ℕ) (oks : AllWithin n js) (s : Slot n) → Keeps 𝓛 (mut_ref_to js oks s) yes
+  keep_ref js oks s = record { last = λ κs x. x.now; ends = ref_ends js oks s }
 
-  abbrev pub keep-slice : (js : List ℕ) (oks : AllWithin n js) (s : Slot n) → Keeps 𝓛 (mut_slice_of js oks s) yes
-  keep-slice js oks s = record { last = λ κs x. x.now; ends = slice-ends js oks s }
+  abbrev pub keep_slice : (js : List ℕ) (oks : AllWithin n js) (s : Slot n) → Keeps 𝓛 (mut_slice_of js oks s) yes
+  keep_slice js oks s = record { last = λ κs x. x.now; ends = slice_ends js oks s }
 
 -- ---- of a list of parameters, those that a callee is given (`none`), and those that are kept (`some`)
 module _ {M : Type 1} {𝓤 : Ura M} (𝓛 : Logic 𝓤) {n : ℕ} where
@@ -450,33 +450,33 @@ Flags (suc n) = Bool × Flags n
 module _ {M : Type 1} {𝓤 : Ura M} (𝓛 : Logic 𝓤) where
   open 𝓛 use {A}
 
-  abbrev with-if : Bool → SProp 𝓤 → SProp 𝓤 → SProp 𝓤
-  with-if true P Q = sep 𝓤 P Q
-  with-if false P Q = Q
+  abbrev with_if : Bool → SProp 𝓤 → SProp 𝓤 → SProp 𝓤
+  with_if true P Q = sep 𝓤 P Q
+  with_if false P Q = Q
 
-  abbrev pub toks-given : (n : ℕ) → Flags n → Lfts n → Shares n → SProp 𝓤
-  toks-given zero fs κs qs = emp 𝓤
-  toks-given (suc n) fs κs qs = with-if fs.0 (A.lft κs.0 qs.0) (toks-given n fs.1 κs.1 qs.1)
+  abbrev pub toks_given : (n : ℕ) → Flags n → Lfts n → Shares n → SProp 𝓤
+  toks_given zero fs κs qs = emp 𝓤
+  toks_given (suc n) fs κs qs = with_if fs.0 (A.lft κs.0 qs.0) (toks_given n fs.1 κs.1 qs.1)
 
-  abbrev pub toks-kept : (n : ℕ) → Flags n → Lfts n → Shares n → SProp 𝓤
-  toks-kept zero fs κs qs = emp 𝓤
-  toks-kept (suc n) fs κs qs = with-if (not fs.0) (A.lft κs.0 qs.0) (toks-kept n fs.1 κs.1 qs.1)
+  abbrev pub toks_kept : (n : ℕ) → Flags n → Lfts n → Shares n → SProp 𝓤
+  toks_kept zero fs κs qs = emp 𝓤
+  toks_kept (suc n) fs κs qs = with_if (not fs.0) (A.lft κs.0 qs.0) (toks_kept n fs.1 κs.1 qs.1)
 
-  both1 : (f : Bool) (L P G R : SProp 𝓤) → ent 𝓤 P (sep 𝓤 G R) → ent 𝓤 (sep 𝓤 L P) (sep 𝓤 (with-if f L G) (with-if (not f) L R))
+  both1 : (f : Bool) (L P G R : SProp 𝓤) → ent 𝓤 P (sep 𝓤 G R) → ent 𝓤 (sep 𝓤 L P) (sep 𝓤 (with_if f L G) (with_if (not f) L R))
   both1 true L P G R h = via 𝓤 (sep 𝓤 L (sep 𝓤 G R)) (mono_r 𝓤 L h) (assoc' 𝓤 L G R)
   both1 false L P G R h = via 𝓤 (sep 𝓤 L (sep 𝓤 G R)) (mono_r 𝓤 L h) (via 𝓤 (sep 𝓤 (sep 𝓤 L G) R) (assoc' 𝓤 L G R) (via 𝓤 (sep 𝓤 (sep 𝓤 G L) R) (mono_l 𝓤 R (comm∗ 𝓤 L G)) (assoc∗ 𝓤 G L R)))
 
-  one1 : (f : Bool) (L P G R : SProp 𝓤) → ent 𝓤 (sep 𝓤 G R) P → ent 𝓤 (sep 𝓤 (with-if f L G) (with-if (not f) L R)) (sep 𝓤 L P)
+  one1 : (f : Bool) (L P G R : SProp 𝓤) → ent 𝓤 (sep 𝓤 G R) P → ent 𝓤 (sep 𝓤 (with_if f L G) (with_if (not f) L R)) (sep 𝓤 L P)
   one1 true L P G R h = via 𝓤 (sep 𝓤 L (sep 𝓤 G R)) (assoc∗ 𝓤 L G R) (mono_r 𝓤 L h)
   one1 false L P G R h = via 𝓤 (sep 𝓤 (sep 𝓤 G L) R) (assoc' 𝓤 G L R) (via 𝓤 (sep 𝓤 (sep 𝓤 L G) R) (mono_l 𝓤 R (comm∗ 𝓤 G L)) (via 𝓤 (sep 𝓤 L (sep 𝓤 G R)) (assoc∗ 𝓤 L G R) (mono_r 𝓤 L h)))
 
-  pub toks-sort : (n : ℕ) (fs : Flags n) (κs : Lfts n) (qs : Shares n) → ent 𝓤 (toks 𝓛 n κs qs) (sep 𝓤 (toks-given n fs κs qs) (toks-kept n fs κs qs))
-  toks-sort zero fs κs qs = emp∗ 𝓤 (emp 𝓤)
-  toks-sort (suc n) fs κs qs = both1 fs.0 (A.lft κs.0 qs.0) (toks 𝓛 n κs.1 qs.1) (toks-given n fs.1 κs.1 qs.1) (toks-kept n fs.1 κs.1 qs.1) (toks-sort n fs.1 κs.1 qs.1)
+  pub toks_sort : (n : ℕ) (fs : Flags n) (κs : Lfts n) (qs : Shares n) → ent 𝓤 (toks 𝓛 n κs qs) (sep 𝓤 (toks_given n fs κs qs) (toks_kept n fs κs qs))
+  toks_sort zero fs κs qs = emp∗ 𝓤 (emp 𝓤)
+  toks_sort (suc n) fs κs qs = both1 fs.0 (A.lft κs.0 qs.0) (toks 𝓛 n κs.1 qs.1) (toks_given n fs.1 κs.1 qs.1) (toks_kept n fs.1 κs.1 qs.1) (toks_sort n fs.1 κs.1 qs.1)
 
-  pub toks-unsort : (n : ℕ) (fs : Flags n) (κs : Lfts n) (qs : Shares n) → ent 𝓤 (sep 𝓤 (toks-given n fs κs qs) (toks-kept n fs κs qs)) (toks 𝓛 n κs qs)
-  toks-unsort zero fs κs qs = fst∗ 𝓤 (emp 𝓤) (emp 𝓤)
-  toks-unsort (suc n) fs κs qs = one1 fs.0 (A.lft κs.0 qs.0) (toks 𝓛 n κs.1 qs.1) (toks-given n fs.1 κs.1 qs.1) (toks-kept n fs.1 κs.1 qs.1) (toks-unsort n fs.1 κs.1 qs.1)
+  pub toks_unsort : (n : ℕ) (fs : Flags n) (κs : Lfts n) (qs : Shares n) → ent 𝓤 (sep 𝓤 (toks_given n fs κs qs) (toks_kept n fs κs qs)) (toks 𝓛 n κs qs)
+  toks_unsort zero fs κs qs = fst∗ 𝓤 (emp 𝓤) (emp 𝓤)
+  toks_unsort (suc n) fs κs qs = one1 fs.0 (A.lft κs.0 qs.0) (toks 𝓛 n κs.1 qs.1) (toks_given n fs.1 κs.1 qs.1) (toks_kept n fs.1 κs.1 qs.1) (toks_unsort n fs.1 κs.1 qs.1)
 
 abbrev pub tail_of : {n : ℕ} → List (Slot n) → List (Slot n)
 tail_of [] = []
@@ -519,29 +519,29 @@ place_of (exit n) = place' 0 []
 place_of return = place' 0 []
 place_of (call f xs d) = place' 0 []
 
-abbrev pub rv-of : Body → RValue
-rv-of skip = rv_opd opd_unit
-rv-of (seq a b) = rv_opd opd_unit
-rv-of (assign p r) = r
-rv-of (block a) = rv_opd opd_unit
-rv-of (loop a) = rv_opd opd_unit
-rv-of (cond c a b) = rv_opd opd_unit
-rv-of (switch c arms) = rv_opd opd_unit
-rv-of (exit n) = rv_opd opd_unit
-rv-of return = rv_opd opd_unit
-rv-of (call f xs d) = rv_opd opd_unit
+abbrev pub rv_of : Body → RValue
+rv_of skip = rv_opd opd_unit
+rv_of (seq a b) = rv_opd opd_unit
+rv_of (assign p r) = r
+rv_of (block a) = rv_opd opd_unit
+rv_of (loop a) = rv_opd opd_unit
+rv_of (cond c a b) = rv_opd opd_unit
+rv_of (switch c arms) = rv_opd opd_unit
+rv_of (exit n) = rv_opd opd_unit
+rv_of return = rv_opd opd_unit
+rv_of (call f xs d) = rv_opd opd_unit
 
-abbrev pub name-of : Body → Name
-name-of skip = ""
-name-of (seq a b) = ""
-name-of (assign p r) = ""
-name-of (block a) = ""
-name-of (loop a) = ""
-name-of (cond c a b) = ""
-name-of (switch c arms) = ""
-name-of (exit n) = ""
-name-of return = ""
-name-of (call f xs d) = f
+abbrev pub name_of_lem : Body → Name
+name_of_lem skip = ""
+name_of_lem (seq a b) = ""
+name_of_lem (assign p r) = ""
+name_of_lem (block a) = ""
+name_of_lem (loop a) = ""
+name_of_lem (cond c a b) = ""
+name_of_lem (switch c arms) = ""
+name_of_lem (exit n) = ""
+name_of_lem return = ""
+name_of_lem (call f xs d) = f
 
 abbrev pub args_of : Body → List Operand
 args_of skip = []
@@ -555,17 +555,17 @@ args_of (exit n) = []
 args_of return = []
 args_of (call f xs d) = xs
 
-abbrev pub dest-of : Body → Place
-dest-of skip = place' 0 []
-dest-of (seq a b) = place' 0 []
-dest-of (assign p r) = place' 0 []
-dest-of (block a) = place' 0 []
-dest-of (loop a) = place' 0 []
-dest-of (cond c a b) = place' 0 []
-dest-of (switch c arms) = place' 0 []
-dest-of (exit n) = place' 0 []
-dest-of return = place' 0 []
-dest-of (call f xs d) = d
+abbrev pub dest_of : Body → Place
+dest_of skip = place' 0 []
+dest_of (seq a b) = place' 0 []
+dest_of (assign p r) = place' 0 []
+dest_of (block a) = place' 0 []
+dest_of (loop a) = place' 0 []
+dest_of (cond c a b) = place' 0 []
+dest_of (switch c arms) = place' 0 []
+dest_of (exit n) = place' 0 []
+dest_of return = place' 0 []
+dest_of (call f xs d) = d
 
 abbrev pub test_of : Body → Operand
 test_of skip = opd_unit
@@ -579,29 +579,29 @@ test_of (exit n) = opd_unit
 test_of return = opd_unit
 test_of (call f xs d) = opd_unit
 
-abbrev pub then-of : Body → Body
-then-of skip = skip
-then-of (seq a b) = skip
-then-of (assign p r) = skip
-then-of (block a) = skip
-then-of (loop a) = skip
-then-of (cond c a b) = a
-then-of (switch c arms) = skip
-then-of (exit n) = skip
-then-of return = skip
-then-of (call f xs d) = skip
+abbrev pub then_of : Body → Body
+then_of skip = skip
+then_of (seq a b) = skip
+then_of (assign p r) = skip
+then_of (block a) = skip
+then_of (loop a) = skip
+then_of (cond c a b) = a
+then_of (switch c arms) = skip
+then_of (exit n) = skip
+then_of return = skip
+then_of (call f xs d) = skip
 
-abbrev pub else-of : Body → Body
-else-of skip = skip
-else-of (seq a b) = skip
-else-of (assign p r) = skip
-else-of (block a) = skip
-else-of (loop a) = skip
-else-of (cond c a b) = b
-else-of (switch c arms) = skip
-else-of (exit n) = skip
-else-of return = skip
-else-of (call f xs d) = skip
+abbrev pub else_of : Body → Body
+else_of skip = skip
+else_of (seq a b) = skip
+else_of (assign p r) = skip
+else_of (block a) = skip
+else_of (loop a) = skip
+else_of (cond c a b) = b
+else_of (switch c arms) = skip
+else_of (exit n) = skip
+else_of return = skip
+else_of (call f xs d) = skip
 
 abbrev pub Assigns : Body → Type 0
 Assigns skip = ⊥
@@ -666,7 +666,7 @@ Seqs (call f xs d) X = ⊥
 module _ {M : Type 1} {𝓤 : Ura M} {𝓛 : Logic 𝓤} {K : Type 0} {Γ : List (Item 𝓤)} {E : Env 𝓤 𝓛.H} {C : Calls 𝓤 𝓛.H} {Λ : Loops 𝓤 𝓛.H} {q : Post 𝓤 𝓛.H} where
   open 𝓛 use {H}
 
-  assigned : K → (a rest : Body) → Assigns a → {v : Val} {sp : Spot 𝓤 H} {Γ' : List (Item 𝓤)} → Rv K 𝓛 Γ E (rv-of a) v → Finds K 𝓛 Γ E (place_of a) sp → Writes K 𝓛 Γ sp.0 sp.1 sp.2 v Γ'
+  assigned : K → (a rest : Body) → Assigns a → {v : Val} {sp : Spot 𝓤 H} {Γ' : List (Item 𝓤)} → Rv K 𝓛 Γ E (rv_of a) v → Finds K 𝓛 Γ E (place_of a) sp → Writes K 𝓛 Γ sp.0 sp.1 sp.2 v Γ'
       → Step K 𝓛 Γ' (runs C Λ E rest q) Γ (runs C Λ E (seq a rest) q)
   assigned t skip rest i = absurd i
   assigned t (seq a b) rest i = absurd i
@@ -679,7 +679,7 @@ module _ {M : Type 1} {𝓤 : Ura M} {𝓛 : Logic 𝓤} {K : Type 0} {Γ : List
   assigned t return rest i = absurd i
   assigned t (call f xs d) rest i = absurd i
 
-  does_at : K → (B : Body) → Seqs B Assigns → {v : Val} {sp : Spot 𝓤 H} {Γ' : List (Item 𝓤)} → Rv K 𝓛 Γ E (rv-of (fore B)) v → Finds K 𝓛 Γ E (place_of (fore B)) sp → Writes K 𝓛 Γ sp.0 sp.1 sp.2 v Γ'
+  does_at : K → (B : Body) → Seqs B Assigns → {v : Val} {sp : Spot 𝓤 H} {Γ' : List (Item 𝓤)} → Rv K 𝓛 Γ E (rv_of (fore B)) v → Finds K 𝓛 Γ E (place_of (fore B)) sp → Writes K 𝓛 Γ sp.0 sp.1 sp.2 v Γ'
       → Step K 𝓛 Γ' (runs C Λ E (after B) q) Γ (runs C Λ E B q)
   does_at t skip i = absurd i
   does_at t (seq a b) i = assigned t a b i
@@ -692,7 +692,7 @@ module _ {M : Type 1} {𝓤 : Ura M} {𝓛 : Logic 𝓤} {K : Type 0} {Γ : List
   does_at t return i = absurd i
   does_at t (call f xs d) i = absurd i
 
-  pub does : K → {B : Body} → Seqs B Assigns → {v : Val} {sp : Spot 𝓤 H} {Γ' : List (Item 𝓤)} → Rv K 𝓛 Γ E (rv-of (fore B)) v → Finds K 𝓛 Γ E (place_of (fore B)) sp → Writes K 𝓛 Γ sp.0 sp.1 sp.2 v Γ'
+  pub does : K → {B : Body} → Seqs B Assigns → {v : Val} {sp : Spot 𝓤 H} {Γ' : List (Item 𝓤)} → Rv K 𝓛 Γ E (rv_of (fore B)) v → Finds K 𝓛 Γ E (place_of (fore B)) sp → Writes K 𝓛 Γ sp.0 sp.1 sp.2 v Γ'
       → Step K 𝓛 Γ' (runs C Λ E (after B) q) Γ (runs C Λ E B q)
   does t {B} = does_at t B
 
@@ -711,20 +711,20 @@ module _ {M : Type 1} {𝓤 : Ura M} {𝓛 : Logic 𝓤} {K : Type 0} {Γ : List
   pub firsts : K → {B : Body} → Seqs B (λ _. Unit {0}) → Step K 𝓛 Γ (runs C Λ E (fore B) (any_q (after_seq 𝓤 H (Wp 𝓤 H C Λ E (after B) (post 𝓤 H q)) (post 𝓤 H q)))) Γ (runs C Λ E B q)
   firsts t {B} = firsts_at t B
 
-  forks-at : K → (B : Body) → Branches B → {y : Bool} → Opd K 𝓛 Γ E (test_of B) (vbool y) → (T y → Seq K 𝓛 Γ (runs C Λ E (then-of B) q)) → (T (not y) → Seq K 𝓛 Γ (runs C Λ E (else-of B) q)) → Seq K 𝓛 Γ (runs C Λ E B q)
-  forks-at t skip i = absurd i
-  forks-at t (seq a b) i = absurd i
-  forks-at t (assign p r) i = absurd i
-  forks-at t (block a) i = absurd i
-  forks-at t (loop a) i = absurd i
-  forks-at t (cond c a b) i = λ o h k. branches t o h k
-  forks-at t (switch c arms) i = absurd i
-  forks-at t (exit n) i = absurd i
-  forks-at t return i = absurd i
-  forks-at t (call f xs d) i = absurd i
+  forks_at : K → (B : Body) → Branches B → {y : Bool} → Opd K 𝓛 Γ E (test_of B) (vbool y) → (T y → Seq K 𝓛 Γ (runs C Λ E (then_of B) q)) → (T (not y) → Seq K 𝓛 Γ (runs C Λ E (else_of B) q)) → Seq K 𝓛 Γ (runs C Λ E B q)
+  forks_at t skip i = absurd i
+  forks_at t (seq a b) i = absurd i
+  forks_at t (assign p r) i = absurd i
+  forks_at t (block a) i = absurd i
+  forks_at t (loop a) i = absurd i
+  forks_at t (cond c a b) i = λ o h k. branches t o h k
+  forks_at t (switch c arms) i = absurd i
+  forks_at t (exit n) i = absurd i
+  forks_at t return i = absurd i
+  forks_at t (call f xs d) i = absurd i
 
-  pub forks : K → {B : Body} → Branches B → {y : Bool} → Opd K 𝓛 Γ E (test_of B) (vbool y) → (T y → Seq K 𝓛 Γ (runs C Λ E (then-of B) q)) → (T (not y) → Seq K 𝓛 Γ (runs C Λ E (else-of B) q)) → Seq K 𝓛 Γ (runs C Λ E B q)
-  forks t {B} = forks-at t B
+  pub forks : K → {B : Body} → Branches B → {y : Bool} → Opd K 𝓛 Γ E (test_of B) (vbool y) → (T y → Seq K 𝓛 Γ (runs C Λ E (then_of B) q)) → (T (not y) → Seq K 𝓛 Γ (runs C Λ E (else_of B) q)) → Seq K 𝓛 Γ (runs C Λ E B q)
+  forks t {B} = forks_at t B
 
   leaves_at : K → (B : Body) → Returns B → (Kf : Val → SProp 𝓤) {r : Val} → post 𝓤 H q returnsᴼ ≡ at_return 𝓤 H E Kf returnsᴼ → Reads K 𝓛 Γ (spot_of 𝓤 H E zero).0 (spot_of 𝓤 H E zero).1 zero r → Step K 𝓛 Γ (frees E (prop (Kf r))) Γ (runs C Λ E B q)
   leaves_at t skip i = absurd i
@@ -741,10 +741,10 @@ module _ {M : Type 1} {𝓤 : Ura M} {𝓛 : Logic 𝓤} {K : Type 0} {Γ : List
   pub leaves : K → {B : Body} → Returns B → (Kf : Val → SProp 𝓤) {r : Val} → post 𝓤 H q returnsᴼ ≡ at_return 𝓤 H E Kf returnsᴼ → Reads K 𝓛 Γ (spot_of 𝓤 H E zero).0 (spot_of 𝓤 H E zero).1 zero r → Step K 𝓛 Γ (frees E (prop (Kf r))) Γ (runs C Λ E B q)
   leaves t {B} = leaves_at t B
 
-  called : K → FmC 𝓤 H 𝓛.laws C → (a rest : Body) → CallsOne a → (S : Ended) (c : Clauses 𝓤 S) → Triple 𝓤 (C (name-of a)) (triple_of 𝓛 S.signature (closing 𝓛 S c)) → (y : (triple_of 𝓛 S.signature (closing 𝓛 S c)).Ghost)
+  called : K → FmC 𝓤 H 𝓛.laws C → (a rest : Body) → CallsOne a → (S : Ended) (c : Clauses 𝓤 S) → Triple 𝓤 (C (name_of_lem a)) (triple_of 𝓛 S.signature (closing 𝓛 S c)) → (y : (triple_of 𝓛 S.signature (closing 𝓛 S c)).Ghost)
       → Opds K 𝓛 (raw ((triple_of 𝓛 S.signature (closing 𝓛 S c)).pre y) ∷ Γ) E (args_of a) ((triple_of 𝓛 S.signature (closing 𝓛 S c)).args y)
       → ((v : Val) (r : Res S.signature y.0.0) (ls : Lasts S y.0.0 y.0.3)
-      → Seq K 𝓛 (raw (alive 𝓛 S.signature y.0.0 y.0.1) ∷ ‵ ((type_at S.signature.result y.0.0).own_val r (v ∷ [])) ∷ ‵ (lasts S y.0.0 y.0.3 ls) ∷ raw ((c y.0.0 y.0.3).ensures y.1 r (at_exit S y.0.0 y.0.3 ls)) ∷ Γ) (lands C Λ E (dest-of a) v rest q))
+      → Seq K 𝓛 (raw (alive 𝓛 S.signature y.0.0 y.0.1) ∷ ‵ ((type_at S.signature.result y.0.0).own_val r (v ∷ [])) ∷ ‵ (lasts S y.0.0 y.0.3 ls) ∷ raw ((c y.0.0 y.0.3).ensures y.1 r (at_exit S y.0.0 y.0.3 ls)) ∷ Γ) (lands C Λ E (dest_of a) v rest q))
       → Seq K 𝓛 (raw ((triple_of 𝓛 S.signature (closing 𝓛 S c)).pre y) ∷ Γ) (runs C Λ E (seq a rest) q)
   called t fm skip rest i S c met y os k = absurd i
   called t fm (seq a b) rest i S c met y os k = absurd i
@@ -755,41 +755,41 @@ module _ {M : Type 1} {𝓤 : Ura M} {𝓛 : Logic 𝓤} {K : Type 0} {Γ : List
   called t fm (switch o arms) rest i S c met y os k = absurd i
   called t fm (exit n) rest i S c met y os k = absurd i
   called t fm return rest i S c met y os k = absurd i
-  called t fm (call f xs d) rest i S c met y os k = calls-fn t fm S c met y os k
+  called t fm (call f xs d) rest i S c met y os k = calls_fn t fm S c met y os k
 
-  calls-one-at : K → FmC 𝓤 H 𝓛.laws C → (B : Body) → Seqs B CallsOne → (S : Ended) (c : Clauses 𝓤 S) → Triple 𝓤 (C (name-of (fore B))) (triple_of 𝓛 S.signature (closing 𝓛 S c)) → (y : (triple_of 𝓛 S.signature (closing 𝓛 S c)).Ghost)
+  calls_one_at : K → FmC 𝓤 H 𝓛.laws C → (B : Body) → Seqs B CallsOne → (S : Ended) (c : Clauses 𝓤 S) → Triple 𝓤 (C (name_of_lem (fore B))) (triple_of 𝓛 S.signature (closing 𝓛 S c)) → (y : (triple_of 𝓛 S.signature (closing 𝓛 S c)).Ghost)
       → Opds K 𝓛 (raw ((triple_of 𝓛 S.signature (closing 𝓛 S c)).pre y) ∷ Γ) E (args_of (fore B)) ((triple_of 𝓛 S.signature (closing 𝓛 S c)).args y)
       → ((v : Val) (r : Res S.signature y.0.0) (ls : Lasts S y.0.0 y.0.3)
-      → Seq K 𝓛 (raw (alive 𝓛 S.signature y.0.0 y.0.1) ∷ ‵ ((type_at S.signature.result y.0.0).own_val r (v ∷ [])) ∷ ‵ (lasts S y.0.0 y.0.3 ls) ∷ raw ((c y.0.0 y.0.3).ensures y.1 r (at_exit S y.0.0 y.0.3 ls)) ∷ Γ) (lands C Λ E (dest-of (fore B)) v (after B) q))
+      → Seq K 𝓛 (raw (alive 𝓛 S.signature y.0.0 y.0.1) ∷ ‵ ((type_at S.signature.result y.0.0).own_val r (v ∷ [])) ∷ ‵ (lasts S y.0.0 y.0.3 ls) ∷ raw ((c y.0.0 y.0.3).ensures y.1 r (at_exit S y.0.0 y.0.3 ls)) ∷ Γ) (lands C Λ E (dest_of (fore B)) v (after B) q))
       → Seq K 𝓛 (raw ((triple_of 𝓛 S.signature (closing 𝓛 S c)).pre y) ∷ Γ) (runs C Λ E B q)
-  calls-one-at t fm skip i S c met y os k = absurd i
-  calls-one-at t fm (seq a b) i S c met y os k = called t fm a b i S c met y os k
-  calls-one-at t fm (assign p r) i S c met y os k = absurd i
-  calls-one-at t fm (block a) i S c met y os k = absurd i
-  calls-one-at t fm (loop a) i S c met y os k = absurd i
-  calls-one-at t fm (cond o a b) i S c met y os k = absurd i
-  calls-one-at t fm (switch o arms) i S c met y os k = absurd i
-  calls-one-at t fm (exit n) i S c met y os k = absurd i
-  calls-one-at t fm return i S c met y os k = absurd i
-  calls-one-at t fm (call f xs d) i S c met y os k = absurd i
+  calls_one_at t fm skip i S c met y os k = absurd i
+  calls_one_at t fm (seq a b) i S c met y os k = called t fm a b i S c met y os k
+  calls_one_at t fm (assign p r) i S c met y os k = absurd i
+  calls_one_at t fm (block a) i S c met y os k = absurd i
+  calls_one_at t fm (loop a) i S c met y os k = absurd i
+  calls_one_at t fm (cond o a b) i S c met y os k = absurd i
+  calls_one_at t fm (switch o arms) i S c met y os k = absurd i
+  calls_one_at t fm (exit n) i S c met y os k = absurd i
+  calls_one_at t fm return i S c met y os k = absurd i
+  calls_one_at t fm (call f xs d) i S c met y os k = absurd i
 
-  pub calls-one : K → FmC 𝓤 H 𝓛.laws C → {B : Body} → Seqs B CallsOne → (S : Ended) (c : Clauses 𝓤 S) → Triple 𝓤 (C (name-of (fore B))) (triple_of 𝓛 S.signature (closing 𝓛 S c)) → (y : (triple_of 𝓛 S.signature (closing 𝓛 S c)).Ghost)
+  pub calls_one : K → FmC 𝓤 H 𝓛.laws C → {B : Body} → Seqs B CallsOne → (S : Ended) (c : Clauses 𝓤 S) → Triple 𝓤 (C (name_of_lem (fore B))) (triple_of 𝓛 S.signature (closing 𝓛 S c)) → (y : (triple_of 𝓛 S.signature (closing 𝓛 S c)).Ghost)
       → Opds K 𝓛 (raw ((triple_of 𝓛 S.signature (closing 𝓛 S c)).pre y) ∷ Γ) E (args_of (fore B)) ((triple_of 𝓛 S.signature (closing 𝓛 S c)).args y)
       → ((v : Val) (r : Res S.signature y.0.0) (ls : Lasts S y.0.0 y.0.3)
-      → Seq K 𝓛 (raw (alive 𝓛 S.signature y.0.0 y.0.1) ∷ ‵ ((type_at S.signature.result y.0.0).own_val r (v ∷ [])) ∷ ‵ (lasts S y.0.0 y.0.3 ls) ∷ raw ((c y.0.0 y.0.3).ensures y.1 r (at_exit S y.0.0 y.0.3 ls)) ∷ Γ) (lands C Λ E (dest-of (fore B)) v (after B) q))
+      → Seq K 𝓛 (raw (alive 𝓛 S.signature y.0.0 y.0.1) ∷ ‵ ((type_at S.signature.result y.0.0).own_val r (v ∷ [])) ∷ ‵ (lasts S y.0.0 y.0.3 ls) ∷ raw ((c y.0.0 y.0.3).ensures y.1 r (at_exit S y.0.0 y.0.3 ls)) ∷ Γ) (lands C Λ E (dest_of (fore B)) v (after B) q))
       → Seq K 𝓛 (raw ((triple_of 𝓛 S.signature (closing 𝓛 S c)).pre y) ∷ Γ) (runs C Λ E B q)
-  calls-one t fm {B} = calls-one-at t fm B
+  calls_one t fm {B} = calls_one_at t fm B
 
 -- ---- rules that keep the locals at the head of the context and write each context out as a list: what antt fills in stays short
 module _ {M : Type 1} {𝓤 : Ura M} {𝓛 : Logic 𝓤} {K : Type 0} {Γ : List (Item 𝓤)} where
   -- local k is read; it is written
   open 𝓛 use {H}
 
-  pub gets : K → (k : ℕ) {E : Env 𝓤 H} {vs : List (Option Val)} {v : Val} → get-val k vs ≡ some v → Has k E → Reads K 𝓛 (‵ (Locals E vs) ∷ Γ) (spot_of 𝓤 H E k).0 (spot_of 𝓤 H E k).1 zero v
+  pub gets : K → (k : ℕ) {E : Env 𝓤 H} {vs : List (Option Val)} {v : Val} → get_val k vs ≡ some v → Has k E → Reads K 𝓛 (‵ (Locals E vs) ∷ Γ) (spot_of 𝓤 H E k).0 (spot_of 𝓤 H E k).1 zero v
   gets t k e h = look_in t 0 (at_local t k e h)
 
   pub puts : K → (k : ℕ) {E : Env 𝓤 H} {vs : List (Option Val)} {v : Val} → Has k E → T (has_ty (spot_of 𝓤 H E k).0 v) × WT v
-      → Writes K 𝓛 (‵ (Locals E vs) ∷ Γ) (spot_of 𝓤 H E k).0 (spot_of 𝓤 H E k).1 zero v (‵ (Locals E (put-val k v vs)) ∷ Γ)
+      → Writes K 𝓛 (‵ (Locals E vs) ∷ Γ) (spot_of 𝓤 H E k).0 (spot_of 𝓤 H E k).1 zero v (‵ (Locals E (put_val k v vs)) ∷ Γ)
   puts t k h wt = sets t 0 k refl h wt
 
   module _ {l i j : Item 𝓤} {G : Goal 𝓤 H} where
@@ -800,28 +800,28 @@ module _ {M : Type 1} {𝓤 : Ura M} {𝓛 : Logic 𝓤} {K : Type 0} {Γ : List
         → Seq K 𝓛 (l ∷ i ∷ j ∷ ‵ (fobs γ ((coded_holeys R).code (heres R ys))) ∷ ‵ (fbor κ (Held R (length ys) b o γ)) ∷ ‵ (flft κ q) ∷ Γ) G
     takes_out t z R P sh vals tl' ys n d b o h k = move t (3 ∷ 4 ∷ 5 ∷ []) $ opens_slice t z R ys b o $ elem_at t R P sh vals tl' full_share ys n d b o h (λ p. move t (6 ∷ 0 ∷ 1 ∷ 2 ∷ 7 ∷ 8 ∷ 3 ∷ 4 ∷ 5 ∷ []) $ k p)
 
-    pub puts-same : K → Soaks G → (R : RattleType) {κ : Lft} {q : Share} {γ : GName} (ys : List R.Denot) (n : ℕ) (d : R.Denot) (vs : List Val) (b o : ℕ) → n < length ys
+    pub puts_same : K → Soaks G → (R : RattleType) {κ : Lft} {q : Share} {γ : GName} (ys : List R.Denot) (n : ℕ) (d : R.Denot) (vs : List Val) (b o : ℕ) → n < length ys
         → Step K 𝓛 (l ∷ i ∷ j ∷ ‵ (fobs γ ((coded_holeys R).code (heres R ys))) ∷ ‵ (fbor κ (Held R (length ys) b o γ)) ∷ ‵ (flft κ q) ∷ Γ) G
         (l ∷ ‵ (cell_at full_share R.mir vs b (n * (mem R).size + o)) ∷ ‵ (R.own_val (get_or ys n d) vs) ∷ ‵ (others (shares R) full_share ys n b o) ∷ i ∷ j ∷ ‵ (fobor κ q (Held R (length ys) b o γ)) ∷ ‵ (fobs γ ((coded_holeys R).code (heres R ys))) ∷ ‵ (fauth γ ((coded_holeys R).code (heres R ys))) ∷ Γ) G
-    puts-same t z R ys n d vs b o h = step (λ s. move t (1 ∷ 2 ∷ 3 ∷ 6 ∷ 7 ∷ 8 ∷ []) $ elem-same t R full_share ys n d vs b o h $ closes_slice t z R ys ys refl b o $ move t (3 ∷ 4 ∷ 5 ∷ 0 ∷ 1 ∷ 2 ∷ []) $ s)
+    puts_same t z R ys n d vs b o h = step (λ s. move t (1 ∷ 2 ∷ 3 ∷ 6 ∷ 7 ∷ 8 ∷ []) $ elem_same t R full_share ys n d vs b o h $ closes_slice t z R ys ys refl b o $ move t (3 ∷ 4 ∷ 5 ∷ 0 ∷ 1 ∷ 2 ∷ []) $ s)
 
-    pub puts-new : K → Soaks G → (R : RattleType) (P : Rel R) → Makes 𝓛 R P → {κ : Lft} {q : Share} {γ : GName} {old : Fml} (ys : List R.Denot) (n : ℕ) (y : R.Denot) (vs : List Val) (b o : ℕ) → n < length ys → P y vs
+    pub puts_new : K → Soaks G → (R : RattleType) (P : Rel R) → Makes 𝓛 R P → {κ : Lft} {q : Share} {γ : GName} {old : Fml} (ys : List R.Denot) (n : ℕ) (y : R.Denot) (vs : List Val) (b o : ℕ) → n < length ys → P y vs
         → Step K 𝓛 (l ∷ i ∷ j ∷ ‵ (fobs γ ((coded_holeys R).code (heres R (set ys n y)))) ∷ ‵ (fbor κ (Held R (length (set ys n y)) b o γ)) ∷ ‵ (flft κ q) ∷ Γ) G
         (l ∷ ‵ (cell_at full_share R.mir vs b (n * (mem R).size + o)) ∷ ‵ old ∷ ‵ (others (shares R) full_share ys n b o) ∷ i ∷ j ∷ ‵ (fobor κ q (Held R (length ys) b o γ)) ∷ ‵ (fobs γ ((coded_holeys R).code (heres R ys))) ∷ ‵ (fauth γ ((coded_holeys R).code (heres R ys))) ∷ Γ) G
-    puts-new t z R P mk ys n y vs b o h p = step (λ s. move t (2 ∷ []) $ drop t $ owned t R P mk y vs p $ move t (2 ∷ 0 ∷ 3 ∷ 6 ∷ 7 ∷ 8 ∷ []) $ elem-set t R full_share ys n y vs b o h $
+    puts_new t z R P mk ys n y vs b o h p = step (λ s. move t (2 ∷ []) $ drop t $ owned t R P mk y vs p $ move t (2 ∷ 0 ∷ 3 ∷ 6 ∷ 7 ∷ 8 ∷ []) $ elem_set t R full_share ys n y vs b o h $
         closes_slice t z R ys (set ys n y) (length-set ys n y) b o $ move t (3 ∷ 4 ∷ 5 ∷ 0 ∷ 1 ∷ 2 ∷ []) $ s)
 
     -- the same of a `&` row
-    pub looks-at : K → Soaks G → (R : RattleType) (P : Rel R) → Shows 𝓛 R P → (vals : R.Denot → List Val) → Tells R P vals → Copy 𝓛 R → {κ : Lft} {q : Share} (ys : List R.Denot) (n : ℕ) (d : R.Denot) (b o : ℕ) → n < length ys
+    pub looks_at : K → Soaks G → (R : RattleType) (P : Rel R) → Shows 𝓛 R P → (vals : R.Denot → List Val) → Tells R P vals → Copy 𝓛 R → {κ : Lft} {q : Share} (ys : List R.Denot) (n : ℕ) (d : R.Denot) (b o : ℕ) → n < length ys
         → ((q' : Share) → P (get_or ys n d) (vals (get_or ys n d))
         → Seq K 𝓛 (l ∷ ‵ (cell_at q' R.mir (vals (get_or ys n d)) b (n * (mem R).size + o)) ∷ ‵ (R.own_val (get_or ys n d) (vals (get_or ys n d))) ∷ ‵ (others (shares R) q' ys n b o) ∷ i ∷ j ∷ ‵ (fobor κ q ((arr_parts (shares R) (length ys)).part q' ys b o)) ∷ ‵ (fshr_bor κ (λ s. (arr_parts (shares R) (length ys)).part s ys b o)) ∷ Γ) G)
         → Seq K 𝓛 (l ∷ i ∷ j ∷ ‵ (fshr_bor κ (λ s. (arr_parts (shares R) (length ys)).part s ys b o)) ∷ ‵ (flft κ q) ∷ Γ) G
-    looks-at t z R P sh vals tl' cp ys n d b o h k = move t (3 ∷ 4 ∷ []) $ looks_slice t z R P sh vals tl' cp ys b o (λ q'. elem_at t R P sh vals tl' q' ys n d b o h (λ p. move t (5 ∷ 0 ∷ 1 ∷ 2 ∷ 6 ∷ 7 ∷ 3 ∷ 4 ∷ []) $ k q' p))
+    looks_at t z R P sh vals tl' cp ys n d b o h k = move t (3 ∷ 4 ∷ []) $ looks_slice t z R P sh vals tl' cp ys b o (λ q'. elem_at t R P sh vals tl' q' ys n d b o h (λ p. move t (5 ∷ 0 ∷ 1 ∷ 2 ∷ 6 ∷ 7 ∷ 3 ∷ 4 ∷ []) $ k q' p))
 
     pub looked : K → Soaks G → (R : RattleType) {κ : Lft} {q : Share} (q' : Share) (ys : List R.Denot) (n : ℕ) (d : R.Denot) (vs : List Val) (b o : ℕ) → n < length ys
         → Step K 𝓛 (l ∷ i ∷ j ∷ ‵ (fshr_bor κ (λ s. (arr_parts (shares R) (length ys)).part s ys b o)) ∷ ‵ (flft κ q) ∷ Γ) G
         (l ∷ ‵ (cell_at q' R.mir vs b (n * (mem R).size + o)) ∷ ‵ (R.own_val (get_or ys n d) vs) ∷ ‵ (others (shares R) q' ys n b o) ∷ i ∷ j ∷ ‵ (fobor κ q ((arr_parts (shares R) (length ys)).part q' ys b o)) ∷ ‵ (fshr_bor κ (λ s. (arr_parts (shares R) (length ys)).part s ys b o)) ∷ Γ) G
-    looked t z R q' ys n d vs b o h = step (λ s. move t (1 ∷ 2 ∷ 3 ∷ 6 ∷ 7 ∷ []) $ elem-same t R q' ys n d vs b o h $ move t (0 ∷ 1 ∷ []) $ shuts_slice t z R q' ys b o $ move t (2 ∷ 3 ∷ 4 ∷ 1 ∷ 0 ∷ []) $ s)
+    looked t z R q' ys n d vs b o h = step (λ s. move t (1 ∷ 2 ∷ 3 ∷ 6 ∷ 7 ∷ []) $ elem_same t R q' ys n d vs b o h $ move t (0 ∷ 1 ∷ []) $ shuts_slice t z R q' ys b o $ move t (2 ∷ 3 ∷ 4 ∷ 1 ∷ 0 ∷ []) $ s)
 
 module _ {M : Type 1} {𝓤 : Ura M} {𝓛 : Logic 𝓤} {K : Type 0} {l i j : Item 𝓤} {G : Goal 𝓤 𝓛.H} where
   -- the tokens and what the parameters own, sorted
@@ -838,20 +838,20 @@ module _ {M : Type 1} {𝓤 : Ura M} {𝓛 : Logic 𝓤} {K : Type 0} {Γ : List
   -- a call that is given the two entries after the locals; and one that is given nothing
   open 𝓛 use {H}
 
-  pub calls-with : K → FmC 𝓤 H 𝓛.laws C → {B : Body} → Seqs B CallsOne → (S : Ended) (c : Clauses 𝓤 S) → Triple 𝓤 (C (name-of (fore B))) (triple_of 𝓛 S.signature (closing 𝓛 S c)) → (y : (triple_of 𝓛 S.signature (closing 𝓛 S c)).Ghost) {i j : Item 𝓤}
+  pub calls_with : K → FmC 𝓤 H 𝓛.laws C → {B : Body} → Seqs B CallsOne → (S : Ended) (c : Clauses 𝓤 S) → Triple 𝓤 (C (name_of_lem (fore B))) (triple_of 𝓛 S.signature (closing 𝓛 S c)) → (y : (triple_of 𝓛 S.signature (closing 𝓛 S c)).Ghost) {i j : Item 𝓤}
       → ent 𝓤 (sep 𝓤 (mean 𝓛 i) (mean 𝓛 j)) ((triple_of 𝓛 S.signature (closing 𝓛 S c)).pre y)
       → Opds K 𝓛 (l ∷ raw ((triple_of 𝓛 S.signature (closing 𝓛 S c)).pre y) ∷ Γ) E (args_of (fore B)) ((triple_of 𝓛 S.signature (closing 𝓛 S c)).args y)
       → ((v : Val) (r : Res S.signature y.0.0) (ls : Lasts S y.0.0 y.0.3)
-      → Seq K 𝓛 (raw ((c y.0.0 y.0.3).ensures y.1 r (at_exit S y.0.0 y.0.3 ls)) ∷ ‵ ((type_at S.signature.result y.0.0).own_val r (v ∷ [])) ∷ l ∷ raw (alive 𝓛 S.signature y.0.0 y.0.1) ∷ ‵ (lasts S y.0.0 y.0.3 ls) ∷ Γ) (lands C Λ E (dest-of (fore B)) v (after B) q))
+      → Seq K 𝓛 (raw ((c y.0.0 y.0.3).ensures y.1 r (at_exit S y.0.0 y.0.3 ls)) ∷ ‵ ((type_at S.signature.result y.0.0).own_val r (v ∷ [])) ∷ l ∷ raw (alive 𝓛 S.signature y.0.0 y.0.1) ∷ ‵ (lasts S y.0.0 y.0.3 ls) ∷ Γ) (lands C Λ E (dest_of (fore B)) v (after B) q))
       → Seq K 𝓛 (l ∷ i ∷ j ∷ Γ) (runs C Λ E B q)
-  calls-with t fm {B} z S c met y {i} {j} goes os k = move t (1 ∷ 2 ∷ []) $ use2 𝓛 (raw ((triple_of 𝓛 S.signature (closing 𝓛 S c)).pre y)) goes $
-      calls-one-at t fm B z S c met y (swapped t os) (λ v r ls. move t (3 ∷ 1 ∷ 4 ∷ 0 ∷ 2 ∷ []) $ k v r ls)
+  calls_with t fm {B} z S c met y {i} {j} goes os k = move t (1 ∷ 2 ∷ []) $ use2 𝓛 (raw ((triple_of 𝓛 S.signature (closing 𝓛 S c)).pre y)) goes $
+      calls_one_at t fm B z S c met y (swapped t os) (λ v r ls. move t (3 ∷ 1 ∷ 4 ∷ 0 ∷ 2 ∷ []) $ k v r ls)
 
-  pub calls-plain : K → FmC 𝓤 H 𝓛.laws C → {B : Body} → Seqs B CallsOne → (S : Ended) (c : Clauses 𝓤 S) → Triple 𝓤 (C (name-of (fore B))) (triple_of 𝓛 S.signature (closing 𝓛 S c)) → (y : (triple_of 𝓛 S.signature (closing 𝓛 S c)).Ghost)
+  pub calls_plain : K → FmC 𝓤 H 𝓛.laws C → {B : Body} → Seqs B CallsOne → (S : Ended) (c : Clauses 𝓤 S) → Triple 𝓤 (C (name_of_lem (fore B))) (triple_of 𝓛 S.signature (closing 𝓛 S c)) → (y : (triple_of 𝓛 S.signature (closing 𝓛 S c)).Ghost)
       → ent 𝓤 (emp 𝓤) ((triple_of 𝓛 S.signature (closing 𝓛 S c)).pre y)
       → Opds K 𝓛 (l ∷ raw ((triple_of 𝓛 S.signature (closing 𝓛 S c)).pre y) ∷ Γ) E (args_of (fore B)) ((triple_of 𝓛 S.signature (closing 𝓛 S c)).args y)
       → ((v : Val) (r : Res S.signature y.0.0) (ls : Lasts S y.0.0 y.0.3)
-      → Seq K 𝓛 (raw ((c y.0.0 y.0.3).ensures y.1 r (at_exit S y.0.0 y.0.3 ls)) ∷ ‵ ((type_at S.signature.result y.0.0).own_val r (v ∷ [])) ∷ l ∷ Γ) (lands C Λ E (dest-of (fore B)) v (after B) q))
+      → Seq K 𝓛 (raw ((c y.0.0 y.0.3).ensures y.1 r (at_exit S y.0.0 y.0.3 ls)) ∷ ‵ ((type_at S.signature.result y.0.0).own_val r (v ∷ [])) ∷ l ∷ Γ) (lands C Λ E (dest_of (fore B)) v (after B) q))
       → Seq K 𝓛 (l ∷ Γ) (runs C Λ E B q)
-  calls-plain t fm {B} z S c met y goes os k = use0 𝓛 (raw ((triple_of 𝓛 S.signature (closing 𝓛 S c)).pre y)) goes $
-      calls-one-at t fm B z S c met y (swapped t os) (λ v r ls. drop t $ move t (1 ∷ []) $ drop t $ move t (1 ∷ 0 ∷ []) $ k v r ls)
+  calls_plain t fm {B} z S c met y goes os k = use0 𝓛 (raw ((triple_of 𝓛 S.signature (closing 𝓛 S c)).pre y)) goes $
+      calls_one_at t fm B z S c met y (swapped t os) (λ v r ls. drop t $ move t (1 ∷ []) $ drop t $ move t (1 ∷ 0 ∷ []) $ k v r ls)

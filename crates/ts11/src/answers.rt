@@ -1,7 +1,7 @@
 // An answer as numbers.
 ghost use Rattle.std.specs.Prelude.{◌≡◌};
-ghost use Rattle.commands.specs.Answers.{blockIn, faultIn, interruptIn, isStep, number_of};
-ghost use Rattle.ts11.specs.Given.{actOf, registerOf};
+ghost use Rattle.commands.specs.Answers.{block_in, fault_in, interrupt_in, is_step, number_of};
+ghost use Rattle.ts11.specs.Given.{act_of, register_of};
 
 use commands::Answer;
 use state::Act;
@@ -9,7 +9,7 @@ use unit::Register;
 
 // The block at fault, with refusal 7, else 0.
 pub fn block_in(a: Answer) -> usize
-    ensures { result ≡ blockIn a }
+    ensures { result ≡ block_in a }
 {
     match a {
         Answer::BadBlock(_, k) => k,
@@ -21,7 +21,7 @@ pub fn block_in(a: Answer) -> usize
 
 // The letter of what is wrong with it, with refusal 7, else 0.
 pub fn fault_in(a: Answer) -> u8
-    ensures { result ≡ faultIn a }
+    ensures { result ≡ fault_in a }
 {
     match a {
         Answer::BadBlock(fault, _) => tape::letter(fault),
@@ -33,7 +33,7 @@ pub fn fault_in(a: Answer) -> u8
 
 // Whether a step was taken.
 pub fn is_step(a: Answer) -> bool
-    ensures { result ≡ isStep a }
+    ensures { result ≡ is_step a }
 {
     match a {
         Answer::Done(_) => true,
@@ -44,7 +44,7 @@ pub fn is_step(a: Answer) -> bool
 }
 
 pub fn interrupts(a: Answer) -> bool
-    ensures { result ≡ interruptIn a }
+    ensures { result ≡ interrupt_in a }
 {
     match a {
         Answer::Done(i) => i,
@@ -67,7 +67,7 @@ pub fn number_in(a: Answer) -> usize
 }
 
 pub fn act_of(write_lock: bool, on: bool) -> Act
-    ensures { result ≡ actOf write_lock on }
+    ensures { result ≡ act_of write_lock on }
 {
     if write_lock {
         if on { Act::Lock } else { Act::Unlock }
@@ -77,7 +77,7 @@ pub fn act_of(write_lock: bool, on: bool) -> Act
 }
 
 pub fn register_of(tssr: bool) -> Register
-    ensures { result ≡ registerOf tssr }
+    ensures { result ≡ register_of tssr }
 {
     if tssr { Register::Tssr } else { Register::Tsba }
 }

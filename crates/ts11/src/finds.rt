@@ -1,6 +1,6 @@
 // Look-ups in a unit's table: they change nothing.
 ghost use Rattle.std.specs.Prelude.{false, ◌≡◌};
-ghost use Rattle.ts11.specs.Finds.{Finds, blockGiven, fileGiven, isFound, noFinding, placeFound};
+ghost use Rattle.ts11.specs.Finds.{Finds, block_given, file_given, is_found, no_finding, place_found};
 
 use crate::answers::number_in;
 use crate::units::session_in;
@@ -10,7 +10,7 @@ use records::{UnitRecord, record_right};
 use worlds::Finding;
 
 fn is_found(x: Found) -> bool
-    ensures { result ≡ isFound x }
+    ensures { result ≡ is_found x }
 {
     match x {
         Found::At(_) => true,
@@ -20,7 +20,7 @@ fn is_found(x: Found) -> bool
 
 // The place, or 0.
 fn place_found(x: Found) -> usize
-    ensures { result ≡ placeFound x }
+    ensures { result ≡ place_found x }
 {
     match x {
         Found::At(i) => i,
@@ -30,7 +30,7 @@ fn place_found(x: Found) -> usize
 
 // A record that is no transport's.
 fn no_finding() -> Finding
-    ensures { result ≡ noFinding }
+    ensures { result ≡ no_finding }
 {
     Finding {
         answer: Answer::Refused(1),
@@ -39,7 +39,7 @@ fn no_finding() -> Finding
 }
 
 fn file_given(record: UnitRecord, shared: &[u32; 3], table: &[u8], file: usize) -> Finding
-    ensures { result ≡ fileGiven «record».numbers shared.now table.now file }
+    ensures { result ≡ file_given «record».numbers shared.now table.now file }
 {
     if !record_right(record) {
         return no_finding();
@@ -48,7 +48,7 @@ fn file_given(record: UnitRecord, shared: &[u32; 3], table: &[u8], file: usize) 
 }
 
 fn block_given(record: UnitRecord, shared: &[u32; 3], table: &[u8], block: usize) -> Finding
-    ensures { result ≡ blockGiven «record».numbers shared.now table.now block }
+    ensures { result ≡ block_given «record».numbers shared.now table.now block }
 {
     if !record_right(record) {
         return no_finding();
@@ -65,7 +65,7 @@ pub fn find_file(
     found: &mut bool,
     place: &mut usize,
 ) -> usize
-    ensures { Finds (fileGiven «record».numbers shared.now table.now file) result found.new place.new }
+    ensures { Finds (file_given «record».numbers shared.now table.now file) result found.new place.new }
 {
     let r = file_given(record, shared, table, file);
     let answer = r.answer;
@@ -84,7 +84,7 @@ pub fn find_block(
     found: &mut bool,
     place: &mut usize,
 ) -> usize
-    ensures { Finds (blockGiven «record».numbers shared.now table.now block) result found.new place.new }
+    ensures { Finds (block_given «record».numbers shared.now table.now block) result found.new place.new }
 {
     let r = block_given(record, shared, table, block);
     let answer = r.answer;

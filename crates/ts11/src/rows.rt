@@ -3,8 +3,8 @@
 ghost use Rattle.std.specs.Prelude.{false, ◌≡◌, ◌<◌};
 ghost use Rattle.unit.specs.Asks.{Ask};
 ghost use Rattle.ts11.specs.Backs.{BackGives, four};
-ghost use Rattle.ts11.specs.Finds.{Finds, blockGiven, fileGiven};
-ghost use Rattle.ts11.specs.Given.{Gives, Mounts, Reads, Tells, actOf, holding, mountGiven, registerGiven, stepGiven, tableGiven};
+ghost use Rattle.ts11.specs.Finds.{Finds, block_given, file_given};
+ghost use Rattle.ts11.specs.Given.{Gives, Mounts, Reads, Tells, act_of, holding, mount_given, register_given, step_given, table_given};
 ghost use Rattle.ts11.specs.Rows.{AtRow, Clamped, LooksAt, NothingTold};
 
 use crate::finds::{find_block, find_file, not_found};
@@ -58,7 +58,7 @@ pub extern "C" fn ts11_mount(
     block: &mut usize,
     fault: &mut u8,
 ) -> usize
-    ensures { AtRow row.old unit result row.new (((shared.new ≡ shared.old) × (table.new ≡ table.old)) × (block.new ≡ 0) × (fault.new ≡ 0)) (λ b b'. Mounts b shared.old (mountGiven b shared.old memory_length reel.now table.old journal_length end online locked) (tableGiven (mountGiven b shared.old memory_length reel.now table.old journal_length end online locked) reel.now table.old end) result b' shared.new table.new block.new fault.new) }
+    ensures { AtRow row.old unit result row.new (((shared.new ≡ shared.old) × (table.new ≡ table.old)) × (block.new ≡ 0) × (fault.new ≡ 0)) (λ b b'. Mounts b shared.old (mount_given b shared.old memory_length reel.now table.old journal_length end online locked) (table_given (mount_given b shared.old memory_length reel.now table.old journal_length end online locked) reel.now table.old end) result b' shared.new table.new block.new fault.new) }
 {
     if (row.len() <= unit) | (TRANSPORTS <= unit) {
         return no_block(block, fault);
@@ -96,7 +96,7 @@ pub extern "C" fn ts11_write_tsdb(
     journal: &mut [u8],
     word: u16,
 ) -> usize
-    ensures { AtRow row.old unit result row.new ((shared.new ≡ shared.old) × (memory.new ≡ memory.old) × (reel.new ≡ reel.old) × (journal.new ≡ journal.old)) (λ b b'. (Gives (holding b shared.old memory.old reel.old table.now journal.old) (stepGiven unit (Ask.write-tsdb word) (holding b shared.old memory.old reel.old table.now journal.old)) result (holding b' shared.new memory.new reel.new table.now journal.new))) }
+    ensures { AtRow row.old unit result row.new ((shared.new ≡ shared.old) × (memory.new ≡ memory.old) × (reel.new ≡ reel.old) × (journal.new ≡ journal.old)) (λ b b'. (Gives (holding b shared.old memory.old reel.old table.now journal.old) (step_given unit (Ask.write_tsdb word) (holding b shared.old memory.old reel.old table.now journal.old)) result (holding b' shared.new memory.new reel.new table.now journal.new))) }
 {
     if (row.len() <= unit) | (TRANSPORTS <= unit) {
         return 12;
@@ -122,7 +122,7 @@ pub extern "C" fn ts11_write_tssr(
     journal: &mut [u8],
     _word: u16,
 ) -> usize
-    ensures { AtRow row.old unit result row.new ((shared.new ≡ shared.old) × (memory.new ≡ memory.old) × (reel.new ≡ reel.old) × (journal.new ≡ journal.old)) (λ b b'. (Gives (holding b shared.old memory.old reel.old table.now journal.old) (stepGiven unit Ask.write-tssr (holding b shared.old memory.old reel.old table.now journal.old)) result (holding b' shared.new memory.new reel.new table.now journal.new))) }
+    ensures { AtRow row.old unit result row.new ((shared.new ≡ shared.old) × (memory.new ≡ memory.old) × (reel.new ≡ reel.old) × (journal.new ≡ journal.old)) (λ b b'. (Gives (holding b shared.old memory.old reel.old table.now journal.old) (step_given unit Ask.write_tssr (holding b shared.old memory.old reel.old table.now journal.old)) result (holding b' shared.new memory.new reel.new table.now journal.new))) }
 {
     if (row.len() <= unit) | (TRANSPORTS <= unit) {
         return 12;
@@ -149,7 +149,7 @@ pub extern "C" fn ts11_operate(
     write_lock: bool,
     on: bool,
 ) -> usize
-    ensures { AtRow row.old unit result row.new ((shared.new ≡ shared.old) × (memory.new ≡ memory.old) × (reel.new ≡ reel.old) × (journal.new ≡ journal.old)) (λ b b'. (Gives (holding b shared.old memory.old reel.old table.now journal.old) (stepGiven unit (Ask.operate (actOf write_lock on)) (holding b shared.old memory.old reel.old table.now journal.old)) result (holding b' shared.new memory.new reel.new table.now journal.new))) }
+    ensures { AtRow row.old unit result row.new ((shared.new ≡ shared.old) × (memory.new ≡ memory.old) × (reel.new ≡ reel.old) × (journal.new ≡ journal.old)) (λ b b'. (Gives (holding b shared.old memory.old reel.old table.now journal.old) (step_given unit (Ask.operate (act_of write_lock on)) (holding b shared.old memory.old reel.old table.now journal.old)) result (holding b' shared.new memory.new reel.new table.now journal.new))) }
 {
     if (row.len() <= unit) | (TRANSPORTS <= unit) {
         return 12;
@@ -180,7 +180,7 @@ pub extern "C" fn ts11_advance(
     block: &mut usize,
     fault: &mut u8,
 ) -> usize
-    ensures { AtRow row.old unit result row.new (((shared.new ≡ shared.old) × (memory.new ≡ memory.old) × (reel.new ≡ reel.old) × (table.new ≡ table.old) × (journal.new ≡ journal.old)) × NothingTold stepped.new interrupt.new block.new fault.new) (λ b b'. (Gives (holding b shared.old memory.old reel.old table.old journal.old) (stepGiven unit Ask.advance (holding b shared.old memory.old reel.old table.old journal.old)) result (holding b' shared.new memory.new reel.new table.new journal.new)) × Tells (stepGiven unit Ask.advance (holding b shared.old memory.old reel.old table.old journal.old)) stepped.new interrupt.new block.new fault.new) }
+    ensures { AtRow row.old unit result row.new (((shared.new ≡ shared.old) × (memory.new ≡ memory.old) × (reel.new ≡ reel.old) × (table.new ≡ table.old) × (journal.new ≡ journal.old)) × NothingTold stepped.new interrupt.new block.new fault.new) (λ b b'. (Gives (holding b shared.old memory.old reel.old table.old journal.old) (step_given unit Ask.advance (holding b shared.old memory.old reel.old table.old journal.old)) result (holding b' shared.new memory.new reel.new table.new journal.new)) × Tells (step_given unit Ask.advance (holding b shared.old memory.old reel.old table.old journal.old)) stepped.new interrupt.new block.new fault.new) }
 {
     if (row.len() <= unit) | (TRANSPORTS <= unit) {
         return nothing_told(stepped, interrupt, block, fault);
@@ -205,7 +205,7 @@ pub extern "C" fn ts11_read_register(
     tssr: bool,
     word: &mut u16,
 ) -> usize
-    ensures { LooksAt row.now unit result (word.new ≡ 0) (λ b. Reads (registerGiven b shared.now tssr) result word.new) }
+    ensures { LooksAt row.now unit result (word.new ≡ 0) (λ b. Reads (register_given b shared.now tssr) result word.new) }
 {
     if (row.len() <= unit) | (TRANSPORTS <= unit) {
         return no_word(word);
@@ -224,7 +224,7 @@ pub extern "C" fn ts11_find_file(
     found: &mut bool,
     place: &mut usize,
 ) -> usize
-    ensures { LooksAt row.now unit result ((found.new ≡ false) × (place.new ≡ 0)) (λ b. Finds (fileGiven b shared.now table.now file) result found.new place.new) }
+    ensures { LooksAt row.now unit result ((found.new ≡ false) × (place.new ≡ 0)) (λ b. Finds (file_given b shared.now table.now file) result found.new place.new) }
 {
     if (row.len() <= unit) | (TRANSPORTS <= unit) {
         return not_found(found, place);
@@ -243,7 +243,7 @@ pub extern "C" fn ts11_find_block(
     found: &mut bool,
     place: &mut usize,
 ) -> usize
-    ensures { LooksAt row.now unit result ((found.new ≡ false) × (place.new ≡ 0)) (λ b. Finds (blockGiven b shared.now table.now block) result found.new place.new) }
+    ensures { LooksAt row.now unit result ((found.new ≡ false) × (place.new ≡ 0)) (λ b. Finds (block_given b shared.now table.now block) result found.new place.new) }
 {
     if (row.len() <= unit) | (TRANSPORTS <= unit) {
         return not_found(found, place);

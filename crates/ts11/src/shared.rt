@@ -1,8 +1,8 @@
 // The calls of no unit: the host store, and the step back on four records by value.
 ghost use Rattle.std.specs.Prelude.{[], ◌∷◌, ◌≡◌, get_or, length};
-ghost use Rattle.entries.specs.Entries.{savedFor, usedIn};
-ghost use Rattle.ts11.specs.Backs.{BringReady, GivesNone, RestoredAt, StoreGives, TakesBack, couplerAfter, four, givenBack, keptBack, lookIn, rowFrom, storeGiven};
-ghost use Rattle.ts11.specs.Rows.{noRecord};
+ghost use Rattle.entries.specs.Entries.{saved_for, used_in};
+ghost use Rattle.ts11.specs.Backs.{BringReady, GivesNone, RestoredAt, StoreGives, TakesBack, coupler_after, four, given_back, kept_back, look_in, row_from_of, store_given_of};
+ghost use Rattle.ts11.specs.Rows.{no_record_of};
 
 use crate::answers::number_in;
 use commands::Answer;
@@ -14,7 +14,7 @@ use touched::Touched;
 use worlds::{Coupler, Look, Session, look_at, no_look, session_over, transport_of};
 
 fn share(shared: &mut [u32; 3], answer: Answer, c: Coupler)
-    ensures { shared.new ≡ couplerAfter shared.old answer c }
+    ensures { shared.new ≡ coupler_after shared.old answer c }
 {
     match answer {
         Answer::Done(_) => put_coupler(shared, c),
@@ -30,7 +30,7 @@ pub extern "C" fn ts11_host_store(
     place: usize,
     bytes: &[u8],
 ) -> usize
-    ensures { StoreGives shared.old memory.old journal.old (storeGiven shared.old memory.old journal.old place bytes.now) result shared.new memory.new journal.new }
+    ensures { StoreGives shared.old memory.old journal.old (store_given_of shared.old memory.old journal.old place bytes.now) result shared.new memory.new journal.new }
 {
     let o = coupler::host_store(coupler_in(shared), memory, journal, place, bytes);
     let answer = o.answer;
@@ -48,7 +48,7 @@ pub struct Back {
 }
 
 fn kept(number: usize, record: UnitRecord) -> Back
-    ensures { result ≡ keptBack number «record» }
+    ensures { result ≡ kept_back number «record» }
 {
     Back {
         put: false,
@@ -60,7 +60,7 @@ fn kept(number: usize, record: UnitRecord) -> Back
 
 // What is asked of a record: of one that is not in the row, or not mounted, nothing.
 fn look(present: bool, u: UnitRecord, reel: usize, memory: usize) -> Look
-    ensures { result ≡ lookIn present memory u reel }
+    ensures { result ≡ look_in present memory u reel }
 {
     if present & (u.numbers[19] != 0) {
         let l = look_at(transport_in(u), reel, memory);
@@ -74,7 +74,7 @@ fn look(present: bool, u: UnitRecord, reel: usize, memory: usize) -> Look
 }
 
 fn chosen(k: usize, a: UnitRecord, b: UnitRecord, c: UnitRecord, d: UnitRecord) -> UnitRecord
-    ensures { result ≡ get_or (a ∷ b ∷ c ∷ d ∷ []) k noRecord }
+    ensures { result ≡ get_or (a ∷ b ∷ c ∷ d ∷ []) k no_record_of }
 {
     match k {
         0 => a,
@@ -114,7 +114,7 @@ fn bring_back_at(
     table3: &mut [u8],
 )
     requires { BringReady k used t (length journal.now) (length memory.old) (four reel0.old table0.old reel1.old table1.old reel2.old table2.old reel3.old table3.old) }
-    ensures { RestoredAt k t (savedFor t (usedIn used journal.now)) memory.old (four reel0.old table0.old reel1.old table1.old reel2.old table2.old reel3.old table3.old) memory.new (four reel0.new table0.new reel1.new table1.new reel2.new table2.new reel3.new table3.new) }
+    ensures { RestoredAt k t (saved_for t (used_in used journal.now)) memory.old (four reel0.old table0.old reel1.old table1.old reel2.old table2.old reel3.old table3.old) memory.new (four reel0.new table0.new reel1.new table1.new reel2.new table2.new reel3.new table3.new) }
 {
     match k {
         0 => bring_entry_back(journal, used, t, memory, reel0, table0),
@@ -131,7 +131,7 @@ fn bring_back_at(
 
 // What the entry of transport k brings back of the row: its record.
 fn given_back(k: usize, e: Entry) -> Back
-    ensures { result ≡ givenBack k e }
+    ensures { result ≡ given_back k e }
 {
     let unit = e.unit;
     let s = Session {
@@ -166,7 +166,7 @@ pub fn step_back(
     reel3: &mut [u8],
     table3: &mut [u8],
 ) -> Back
-    ensures { TakesBack (rowFrom n a b c d) shared.old memory.old journal.now (four reel0.old table0.old reel1.old table1.old reel2.old table2.old reel3.old table3.old) result shared.new memory.new (four reel0.new table0.new reel1.new table1.new reel2.new table2.new reel3.new table3.new) }
+    ensures { TakesBack (row_from_of n a b c d) shared.old memory.old journal.now (four reel0.old table0.old reel1.old table1.old reel2.old table2.old reel3.old table3.old) result shared.new memory.new (four reel0.new table0.new reel1.new table1.new reel2.new table2.new reel3.new table3.new) }
 {
     let co = coupler_in(shared);
     let m = memory.len();
@@ -224,7 +224,7 @@ pub fn step_back_none(shared: &mut [u32; 3], memory: &mut [u8], journal: &[u8]) 
 }
 
 fn no_record() -> UnitRecord
-    ensures { result ≡ noRecord }
+    ensures { result ≡ no_record_of }
 {
     UnitRecord {
         numbers: [0u32; 21],

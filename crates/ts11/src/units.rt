@@ -1,8 +1,8 @@
 // The calls of one unit, on its record by value: the journal's, between the record and what is shared.
 ghost use Rattle.std.specs.Prelude.{false, ◌≡◌};
-ghost use Rattle.commands.specs.Answers.{isStep, number_of};
+ghost use Rattle.commands.specs.Answers.{is_step, number_of};
 ghost use Rattle.unit.specs.Asks.{Ask};
-ghost use Rattle.ts11.specs.Given.{Reads, Takes, TakesMount, TakesTelling, actOf, holding, mountGiven, recordAfter, registerGiven, sessionIn, sharedAfter, stepGiven, tableGiven};
+ghost use Rattle.ts11.specs.Given.{Reads, Takes, TakesMount, TakesTelling, act_of, holding, mount_given, record_after, register_given, session_in, shared_after, step_given, table_given};
 
 use crate::answers::{act_of, block_in, fault_in, interrupts, is_step, number_in, register_of};
 use commands::Answer;
@@ -19,14 +19,14 @@ pub struct Given {
 
 // A session taken out of the row.
 pub fn session_in(record: UnitRecord, shared: &[u32; 3]) -> Session
-    ensures { result ≡ sessionIn «record».numbers shared.now }
+    ensures { result ≡ session_in «record».numbers shared.now }
 {
     session_over(transport_in(record), coupler_in(shared))
 }
 
 // The session after a step is put back; any other answer leaves both alone.
 pub fn close(record: UnitRecord, shared: &mut [u32; 3], answer: Answer, s: Session) -> Given
-    ensures { (result.stepped ≡ isStep answer) × (result.number ≡ number_of answer) × (result.record.numbers ≡ recordAfter «record».numbers answer s) × (shared.new ≡ sharedAfter shared.old answer s) }
+    ensures { (result.stepped ≡ is_step answer) × (result.number ≡ number_of answer) × (result.record.numbers ≡ record_after «record».numbers answer s) × (shared.new ≡ shared_after shared.old answer s) }
 {
     match answer {
         Answer::Done(_) => {
@@ -69,7 +69,7 @@ pub fn mount(
     block: &mut usize,
     fault: &mut u8,
 ) -> Given
-    ensures { TakesMount «record».numbers shared.old (mountGiven «record».numbers shared.old memory_length reel.now table.old journal_length end online locked) (tableGiven (mountGiven «record».numbers shared.old memory_length reel.now table.old journal_length end online locked) reel.now table.old end) result shared.new table.new block.new fault.new }
+    ensures { TakesMount «record».numbers shared.old (mount_given «record».numbers shared.old memory_length reel.now table.old journal_length end online locked) (table_given (mount_given «record».numbers shared.old memory_length reel.now table.old journal_length end online locked) reel.now table.old end) result shared.new table.new block.new fault.new }
 {
     let session = session_in(record, shared);
     let o = journal::mount(
@@ -98,7 +98,7 @@ pub fn write_tsdb(
     journal: &mut [u8],
     word: u16,
 ) -> Given
-    ensures { Takes (holding «record».numbers shared.old memory.old reel.old table.now journal.old) (stepGiven unit (Ask.write-tsdb word) (holding «record».numbers shared.old memory.old reel.old table.now journal.old)) result shared.new memory.new reel.new table.now journal.new }
+    ensures { Takes (holding «record».numbers shared.old memory.old reel.old table.now journal.old) (step_given unit (Ask.write_tsdb word) (holding «record».numbers shared.old memory.old reel.old table.now journal.old)) result shared.new memory.new reel.new table.now journal.new }
 {
     if !record_right(record) {
         return no_record(record);
@@ -125,7 +125,7 @@ pub fn write_tssr(
     table: &[u8],
     journal: &mut [u8],
 ) -> Given
-    ensures { Takes (holding «record».numbers shared.old memory.old reel.old table.now journal.old) (stepGiven unit Ask.write-tssr (holding «record».numbers shared.old memory.old reel.old table.now journal.old)) result shared.new memory.new reel.new table.now journal.new }
+    ensures { Takes (holding «record».numbers shared.old memory.old reel.old table.now journal.old) (step_given unit Ask.write_tssr (holding «record».numbers shared.old memory.old reel.old table.now journal.old)) result shared.new memory.new reel.new table.now journal.new }
 {
     if !record_right(record) {
         return no_record(record);
@@ -153,7 +153,7 @@ pub fn operate(
     write_lock: bool,
     on: bool,
 ) -> Given
-    ensures { Takes (holding «record».numbers shared.old memory.old reel.old table.now journal.old) (stepGiven unit (Ask.operate (actOf write_lock on)) (holding «record».numbers shared.old memory.old reel.old table.now journal.old)) result shared.new memory.new reel.new table.now journal.new }
+    ensures { Takes (holding «record».numbers shared.old memory.old reel.old table.now journal.old) (step_given unit (Ask.operate (act_of write_lock on)) (holding «record».numbers shared.old memory.old reel.old table.now journal.old)) result shared.new memory.new reel.new table.now journal.new }
 {
     if !record_right(record) {
         return no_record(record);
@@ -184,7 +184,7 @@ pub fn advance(
     block: &mut usize,
     fault: &mut u8,
 ) -> Given
-    ensures { TakesTelling (holding «record».numbers shared.old memory.old reel.old table.old journal.old) (stepGiven unit Ask.advance (holding «record».numbers shared.old memory.old reel.old table.old journal.old)) result shared.new memory.new reel.new table.new journal.new stepped.new interrupt.new block.new fault.new }
+    ensures { TakesTelling (holding «record».numbers shared.old memory.old reel.old table.old journal.old) (step_given unit Ask.advance (holding «record».numbers shared.old memory.old reel.old table.old journal.old)) result shared.new memory.new reel.new table.new journal.new stepped.new interrupt.new block.new fault.new }
 {
     if !record_right(record) {
         *stepped = false;
@@ -204,7 +204,7 @@ pub fn advance(
 }
 
 pub fn read_register(record: UnitRecord, shared: &[u32; 3], tssr: bool, word: &mut u16) -> usize
-    ensures { Reads (registerGiven «record».numbers shared.now tssr) result word.new }
+    ensures { Reads (register_given «record».numbers shared.now tssr) result word.new }
 {
     if !record_right(record) {
         *word = 0;

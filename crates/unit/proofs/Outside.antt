@@ -5,7 +5,7 @@ use Prim.Native.Nat.{ℕ, ◌+◌, ◌-◌, ◌<◌, ◌≤◌}
 use native.Mathlib.Omega.{arith}
 use borrow.Author.Tests.{ltb-true, ltb-false, lt-ltb, le-ltb}
 use lib.Dec.{ltb}
-use Rattle.lists.proofs.Cases.{by-test}
+use Rattle.lists.proofs.Cases.{by_test}
 use Rattle.state.proofs.Tests.{neither}
 
 module _ (memory place n : ℕ) where
@@ -14,8 +14,8 @@ module _ (memory place n : ℕ) where
   too_long true h = refl
   too_long false h = lt-ltb memory (place + n) (omega (arith, ltb-true memory n h))
 
-  pub short-enough : (a : Bool) → (a || ltb memory n) ≡ false → n ≤ memory
-  short-enough a h = ltb-false memory n (neither a (ltb memory n) h).1
+  pub short_enough : (a : Bool) → (a || ltb memory n) ≡ false → n ≤ memory
+  short_enough a h = ltb-false memory n (neither a (ltb memory n) h).1
 
   pub outside : (a : Bool) → (a || ltb memory n) ≡ false → memory - n < place → (a || ltb memory (place + n)) ≡ true
   outside a h k =
@@ -30,6 +30,6 @@ module _ (memory place n : ℕ) where
   -- the test by a difference is the test by a sum
   pub by_difference : (a : Bool) → (a || ltb memory n) ≡ false → ltb (memory - n) place ≡ (a || ltb memory (place + n))
   by_difference a h =
-      by-test (ltb (memory - n) place)
+      by_test (ltb (memory - n) place)
       (λ t. t ∙ sym (outside a h (ltb-true (memory - n) place t)))
       (λ t. t ∙ sym (inside a h (ltb-false (memory - n) place t)))

@@ -4,16 +4,16 @@ use Rattle.lists.specs.Pick.{Always}
 use Rattle.state.specs.declared.act.Act.{Act}
 
 pub data Ask : Type 0 where
-  write-tsdb : ℕ → Ask
-  write-tssr : Ask
+  write_tsdb : ℕ → Ask
+  write_tssr : Ask
   operate : Act → Ask
-  host-store : ℕ → List ℕ → Ask
+  host_store : ℕ → List ℕ → Ask
   advance : Ask
 
 -- a word of TSDB has 16 bits
 abbrev pub Asked : Ask → Type 0
-Asked (write-tsdb word) = word < 65536
-Asked write-tssr = Always
+Asked (write_tsdb word) = word < 65536
+Asked write_tssr = Always
 Asked (operate a) = Always
-Asked (host-store place bytes) = Always
+Asked (host_store place bytes) = Always
 Asked advance = Always

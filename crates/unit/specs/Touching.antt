@@ -3,8 +3,8 @@
 use Rattle.std.specs.Prelude.{false, ℕ, ◌+◌}
 use Rattle.lists.specs.Pick.{pick}
 use Rattle.tape.specs.Bytes.{moved_to}
-use Rattle.signals.specs.Message.{messageBytes}
-use Rattle.motions.specs.Parts.{laidBlocks, movedLength}
+use Rattle.signals.specs.Message.{message_bytes}
+use Rattle.motions.specs.Parts.{laid_blocks, moved_length}
 use Rattle.motions.specs.declared.parts.Laid.{Laid}
 use Rattle.motions.specs.declared.parts.Moved.{Moved}
 use Rattle.motions.specs.declared.parts.ObjectKind.{ObjectKind}
@@ -14,34 +14,34 @@ use Rattle.touched.specs.Touches.{run_of}
 use Rattle.touched.specs.declared.Touched.{Touched}
 
 -- where a Read's bytes go
-unfoldable pub movedPlace : Moved → ℕ
-movedPlace x = moved_to x.reverse x.pointer x.count x.length
+unfoldable pub moved_place : Moved → ℕ
+moved_place x = moved_to x.reverse x.pointer x.count x.length
 
 -- "for each table place filled, one an object written": the new object's, and the gap's before it
-unfoldable pub objectPlaces : ObjectKind → ℕ
-objectPlaces kind.Nothing = 0
-objectPlaces kind.Mark = 1
-objectPlaces kind.Gap = 1
-objectPlaces kind.Record = 1
+unfoldable pub object_places : ObjectKind → ℕ
+object_places kind.Nothing = 0
+object_places kind.Mark = 1
+object_places kind.Gap = 1
+object_places kind.Record = 1
 
-unfoldable pub laidPlaces : Laid → ℕ
-laidPlaces l = pick l.gap_first (objectPlaces l.object + 1) (objectPlaces l.object)
+unfoldable pub laid_places : Laid → ℕ
+laid_places l = pick l.gap_first (object_places l.object + 1) (object_places l.object)
 
 -- a plan that fills the table's places from place m on, if any
-unfoldable pub touchedBy : Plan → ℕ → Touched
-touchedBy p m =
+unfoldable pub touched_by : Plan → ℕ → Touched
+touched_by p m =
     record {
-      data_at = movedPlace p.moved;
-      data_length = movedLength p.moved;
+      data_at = moved_place p.moved;
+      data_length = moved_length p.moved;
       swb = p.moved.swb;
       message_at = pick p.sends p.unit.characteristics.address 0;
-      message_length = pick p.sends messageBytes 0;
+      message_length = pick p.sends message_bytes 0;
       reel_at = p.laid.at;
-      reel_blocks = laidBlocks p.laid;
+      reel_blocks = laid_blocks p.laid;
       place_at = m;
-      places = laidPlaces p.laid;
+      places = laid_places p.laid;
     }
 
 -- a host store of n bytes at a place
-unfoldable pub hostTouched : ℕ → ℕ → Touched
-hostTouched place n = run_of place n
+unfoldable pub host_touched : ℕ → ℕ → Touched
+host_touched place n = run_of place n

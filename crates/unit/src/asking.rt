@@ -1,9 +1,9 @@
 // What is asked of the unit: a plan first, as a value, with what it will touch, and then carrying it out.
 ghost use Rattle.std.specs.Prelude.{◌≡◌, ◌+◌, ◌*◌, ◌≤◌, ◌<◌, ◌%◌, length};
 ghost use Rattle.std.proofs.lemmas.List.Edits.{sets};
-ghost use Rattle.index.specs.Table.{placeLength, placesRow};
-ghost use Rattle.unit.specs.Touching.{hostTouched, laidPlaces, movedPlace, objectPlaces, touchedBy};
-ghost use Rattle.unit.specs.Steps.{cutFor, objectsAfter, storeWrong, tooSmall};
+ghost use Rattle.index.specs.Table.{place_length, places_row};
+ghost use Rattle.unit.specs.Touching.{host_touched, laid_places, moved_place, object_places, touched_by};
+ghost use Rattle.unit.specs.Steps.{cut_for, objects_after, store_wrong, too_small};
 
 use commands::Plan;
 use index::{Cut, cut_at, places, put_places};
@@ -17,7 +17,7 @@ pub const HOST_LIMIT: usize = 65535;
 // Where a Read's bytes go, of its buffer.
 fn moved_place(m: Moved) -> usize
     requires { m.pointer < 18446744073709486080 }
-    ensures { result ≡ movedPlace m }
+    ensures { result ≡ moved_place m }
 {
     let count = m.count as usize;
     if m.reverse & (m.length < count) {
@@ -27,7 +27,7 @@ fn moved_place(m: Moved) -> usize
 }
 
 fn object_places(o: ObjectKind) -> u32
-    ensures is { result ≡ objectPlaces o }
+    ensures is { result ≡ object_places o }
     ensures low { result ≤ 1 }
 {
     match o {
@@ -40,7 +40,7 @@ fn object_places(o: ObjectKind) -> u32
 
 // How many places of the table are filled: one for each object that is laid.
 pub fn laid_places(l: Laid) -> u32
-    ensures is { result ≡ laidPlaces l }
+    ensures is { result ≡ laid_places l }
     ensures low { result ≤ 2 }
 {
     let o = l.object;
@@ -50,8 +50,8 @@ pub fn laid_places(l: Laid) -> u32
 
 // Where what is laid cuts a table of n places; what lays nothing cuts nothing, and is spared the search.
 pub fn cut_for(l: Laid, table: &[u8], n: usize, reel: &[u8]) -> Cut
-    requires { placeLength * n ≤ length table.now }
-    ensures { result ≡ cutFor l table.now n reel.now }
+    requires { place_length * n ≤ length table.now }
+    ensures { result ≡ cut_for l table.now n reel.now }
 {
     if laid_places(l) == 0 {
         return Cut { place: 0, marks: 0 };
@@ -62,7 +62,7 @@ pub fn cut_for(l: Laid, table: &[u8], n: usize, reel: &[u8]) -> Cut
 // How many places are used after it.
 pub fn objects_after(l: Laid, c: Cut, n: usize) -> usize
     requires { c.place ≤ 4294967295 }
-    ensures { result ≡ objectsAfter l c n }
+    ensures { result ≡ objects_after l c n }
 {
     let f = laid_places(l);
     if f == 0 {
@@ -73,7 +73,7 @@ pub fn objects_after(l: Laid, c: Cut, n: usize) -> usize
 
 // Refusal 11: has a table of so many bytes fewer places than n, or than n2?
 pub fn too_small(table: usize, n: usize, n2: usize) -> bool
-    ensures { result ≡ tooSmall table n n2 }
+    ensures { result ≡ too_small table n n2 }
 {
     let have = places(table);
     (have < n) | (have < n2)
@@ -81,8 +81,8 @@ pub fn too_small(table: usize, n: usize, n2: usize) -> bool
 
 // The places of what is laid, in a table that is cut at c.
 pub fn fill_places(table: &mut [u8], l: Laid, c: Cut)
-    requires { (placeLength * (c.place + laidPlaces l) ≤ length table.old) × (l.at + 2 ≤ 4294967295) }
-    ensures { table.new ≡ sets table.old (placeLength * c.place) (placesRow l.at c.marks (laidPlaces l)) }
+    requires { (place_length * (c.place + laid_places l) ≤ length table.old) × (l.at + 2 ≤ 4294967295) }
+    ensures { table.new ≡ sets table.old (place_length * c.place) (places_row l.at c.marks (laid_places l)) }
 {
     let n = laid_places(l);
     put_places(table, c, l.at, n as usize);
@@ -91,7 +91,7 @@ pub fn fill_places(table: &mut [u8], l: Laid, c: Cut)
 // What carrying out a plan will change, where it fills the table's places from place m on.
 pub fn touched_by(p: Plan, m: usize) -> Touched
     requires { p.moved.pointer < 18446744073709486080 }
-    ensures { result ≡ touchedBy p m }
+    ensures { result ≡ touched_by p m }
 {
     let d = p.moved;
     let l = p.laid;
@@ -128,7 +128,7 @@ pub fn touched_by(p: Plan, m: usize) -> Touched
 
 // Refusal 5: too long, or past the end of memory. A difference and no sum: the place may be made up.
 pub fn store_wrong(memory: usize, place: usize, n: usize) -> bool
-    ensures { result ≡ storeWrong memory place n }
+    ensures { result ≡ store_wrong memory place n }
 {
     if (HOST_LIMIT < n) | (memory < n) {
         return true;
@@ -138,7 +138,7 @@ pub fn store_wrong(memory: usize, place: usize, n: usize) -> bool
 
 // What a host store of n bytes at a place will change.
 pub fn host_touched(place: usize, n: usize) -> Touched
-    ensures { result ≡ hostTouched place n }
+    ensures { result ≡ host_touched place n }
 {
     Touched {
         data_at: place,

@@ -1,6 +1,6 @@
 // Mounting a reel: refusals 2, 3 and 7.
 ghost use Rattle.std.specs.Prelude.{◌≡◌};
-ghost use Rattle.unit.specs.Mounts.{mountCall, mountRefusal};
+ghost use Rattle.unit.specs.Mounts.{mount_call, mount_refusal};
 
 use commands::Answer;
 use state::{Lengths, Unit};
@@ -15,7 +15,7 @@ pub struct Mounted {
 
 // Lengths of memory, in bytes, and of the reel, with the end that is to be taken.
 pub fn mount_refusal(memory: usize, reel: usize, e: usize) -> usize
-    ensures { result ≡ mountRefusal memory reel e }
+    ensures { result ≡ mount_refusal memory reel e }
 {
     if !state::memory_right(memory) {
         return 2;
@@ -29,7 +29,7 @@ pub fn mount_refusal(memory: usize, reel: usize, e: usize) -> usize
 
 // The state it replaces is not looked at; refused, that is handed back.
 pub fn mount(old: Unit, memory: usize, reel: &[u8], e: usize, online: bool, locked: bool) -> Mounted
-    ensures { result ≡ mountCall old memory reel.now e online locked }
+    ensures { result ≡ mount_call old memory reel.now e online locked }
 {
     let n = mount_refusal(memory, reel.len(), e);
     if n != 0 {

@@ -1,6 +1,6 @@
 // The registers that can be read.
 ghost use Rattle.std.specs.Prelude.{◌≡◌};
-ghost use Rattle.unit.specs.Registers.{registerWord};
+ghost use Rattle.unit.specs.Registers.{register_word};
 
 use state::Unit;
 
@@ -11,7 +11,7 @@ pub enum Register {
 }
 
 pub fn register_word(u: Unit, register: Register) -> u16
-    ensures { result ≡ registerWord u register }
+    ensures { result ≡ register_word u register }
 {
     match register {
         Register::Tsba => u.tsba(),

@@ -7,72 +7,72 @@ use borrow.Author.Tests.{eq-eqb, eqb-false, eqb-true, le-ltb, ltb-false, not-fal
 use lib.Dec.{eqb, ltb}
 use lib.ListN.{length}
 use Rattle.lists.specs.Pick.{pick}
-use Rattle.lists.proofs.Cases.{by-test, past}
-use Rattle.tape.specs.Numbers.{blockBytes, capacityLimit}
-use Rattle.signals.specs.Numbers.{pointerLimit}
-use Rattle.state.specs.Checks.{refusalOf, stateWrong}
+use Rattle.lists.proofs.Cases.{by_test, past}
+use Rattle.tape.specs.Numbers.{block_bytes, capacity_limit}
+use Rattle.signals.specs.Numbers.{pointer_limit}
+use Rattle.state.specs.Checks.{refusal_of, state_wrong}
 use Rattle.state.proofs.Legal.{accepted, right}
 use Rattle.state.proofs.Tests.{neither}
 use Rattle.touched.specs.Touches.{Sizes}
 use Rattle.unit.specs.Cores.{Admitted}
-use Rattle.unit.proofs.Stepping.{core-sizes}
-use Rattle.entries.specs.Entries.{entryLength}
+use Rattle.unit.proofs.Stepping.{core_sizes}
+use Rattle.entries.specs.Entries.{entry_length}
 use Rattle.entries.specs.declared.Entry.{Entry}
-use Rattle.worlds.specs.Worlds.{World, sessionOf}
+use Rattle.worlds.specs.Worlds.{World, session_of}
 use Rattle.worlds.specs.Passes.{Passed}
-use Rattle.worlds.specs.Refusals.{checked, journalLimit, sessionWrong}
+use Rattle.worlds.specs.Refusals.{checked, journal_limit, session_wrong}
 use Rattle.worlds.specs.declared.Session.{Session}
 
 -- a number that is handed on where it is not 0
 none_first : (n o : ℕ) → pick (not (eqb n 0)) n o ≡ 0 → (n ≡ 0) × (o ≡ 0)
 none_first n o h =
-    by-test (eqb n 0)
+    by_test (eqb n 0)
     (λ t. let q : o ≡ 0 = rw t at h in (eqb-true n 0 t, q))
     (λ t. let q : n ≡ 0 = rw t at h in absurd (eqb-false n 0 t q))
 
 pub passed : (s : Session) (memory reel journal : ℕ) → checked s memory reel journal ≡ 0 → Passed s memory reel journal
-unfolding checked sessionWrong
+unfolding checked session_wrong
 passed s memory reel journal h =
     let fourth : ℕ = pick (not (eqb journal s.journal)) 4 0 in
-    let second : ℕ = pick (not (eqb (refusalOf s.unit memory reel) 0)) (refusalOf s.unit memory reel) fourth in
-    let numbers = ltb s.journal s.used || ltb journalLimit s.journal in
-    let p = past (stateWrong s.unit || numbers) 1 second 0 (λ e. omega arith) h in
-    let q = none_first (refusalOf s.unit memory reel) fourth p.1 in
+    let second : ℕ = pick (not (eqb (refusal_of s.unit memory reel) 0)) (refusal_of s.unit memory reel) fourth in
+    let numbers = ltb s.journal s.used || ltb journal_limit s.journal in
+    let p = past (state_wrong s.unit || numbers) 1 second 0 (λ e. omega arith) h in
+    let q = none_first (refusal_of s.unit memory reel) fourth p.1 in
     let r = past (not (eqb journal s.journal)) 4 0 0 (λ e. omega arith) q.1 in
-    let t = neither (ltb s.journal s.used) (ltb journalLimit s.journal) (neither (stateWrong s.unit) numbers p.0).1 in
+    let t = neither (ltb s.journal s.used) (ltb journal_limit s.journal) (neither (state_wrong s.unit) numbers p.0).1 in
     let a = accepted s.unit memory reel q.0 in
     record {
       legal = a.0;
-      memory-is = a.1;
-      reel-is = a.2;
-      journal-is = eqb-true journal s.journal (not-false (eqb journal s.journal) r.0);
+      memory_is = a.1;
+      reel_is = a.2;
+      journal_is = eqb-true journal s.journal (not-false (eqb journal s.journal) r.0);
       used = ltb-false s.journal s.used t.0;
-      limit = ltb-false journalLimit s.journal t.1;
+      limit = ltb-false journal_limit s.journal t.1;
     }
 
-pub let-pass : (s : Session) (memory reel journal : ℕ) → Passed s memory reel journal → checked s memory reel journal ≡ 0
-unfolding checked sessionWrong refusalOf
-let-pass s memory reel journal p =
+pub let_pass : (s : Session) (memory reel journal : ℕ) → Passed s memory reel journal → checked s memory reel journal ≡ 0
+unfolding checked session_wrong refusal_of
+let_pass s memory reel journal p =
     rw (
       right s.unit p.legal,
       le-ltb s.journal s.used p.used,
-      le-ltb journalLimit s.journal p.limit,
-      eq-eqb memory s.unit.lengths.memory p.memory-is,
-      eq-eqb reel (blockBytes * s.unit.lengths.blocks) p.reel-is,
-      eq-eqb journal s.journal p.journal-is,
+      le-ltb journal_limit s.journal p.limit,
+      eq-eqb memory s.unit.lengths.memory p.memory_is,
+      eq-eqb reel (block_bytes * s.unit.lengths.blocks) p.reel_is,
+      eq-eqb journal s.journal p.journal_is,
     )
 
-module _ (w : World) (n : ℕ) (p : Passed (sessionOf w) (length w.core.memory) (length w.core.reel) n) where
-  pub core-accepted : Admitted w.core
-  core-accepted = record { legal = p.legal; memory-is = p.memory-is; reel-is = p.reel-is }
+module _ (w : World) (n : ℕ) (p : Passed (session_of w) (length w.core.memory) (length w.core.reel) n) where
+  pub core_accepted : Admitted w.core
+  core_accepted = record { legal = p.legal; memory_is = p.memory_is; reel_is = p.reel_is }
 
   pub sizes : Sizes (length w.core.memory) (length w.core.reel)
-  sizes = core-sizes w.core core-accepted
+  sizes = core_sizes w.core core_accepted
 
   -- an entry that refusal 9 lets pass fits the lent journal
-  pub room : (e : Entry) (k : ℕ) → k ≡ entryLength e → k ≤ w.ledger.length - w.ledger.used → w.ledger.used + entryLength e ≤ n
-  room e k q h = omega (arith, p.used, p.journal-is)
+  pub room : (e : Entry) (k : ℕ) → k ≡ entry_length e → k ≤ w.ledger.length - w.ledger.used → w.ledger.used + entry_length e ≤ n
+  room e k q h = omega (arith, p.used, p.journal_is)
 
   -- what an advance asks
-  pub plannable : (w.core.unit.tape.end ≤ capacityLimit) × (w.core.unit.registers.pointer < pointerLimit)
-  plannable = (omega (arith, p.legal.capacity, p.legal.blocks-most), p.legal.pointer)
+  pub plannable : (w.core.unit.tape.end ≤ capacity_limit) × (w.core.unit.registers.pointer < pointer_limit)
+  plannable = (omega (arith, p.legal.capacity, p.legal.blocks_most), p.legal.pointer)

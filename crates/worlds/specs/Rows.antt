@@ -1,23 +1,23 @@
 -- A row of transports over one coupler: their records, what they share, and the refusals of calls over them. (02, [9])
 use Rattle.std.specs.Prelude.{Bool, false, ◌&&◌, ◌||◌, not, List, [], ◌∷◌, ℕ, ◌*◌, eqb, leb, ltb, get_or, length, take}
 use Rattle.lists.specs.Pick.{pick}
-use Rattle.tape.specs.Numbers.{blockBytes}
-use Rattle.state.specs.Checks.{memoryRight, stateWrong}
+use Rattle.tape.specs.Numbers.{block_bytes}
+use Rattle.state.specs.Checks.{memory_right, state_wrong}
 use Rattle.state.specs.declared.Unit.{Unit}
-use Rattle.entries.specs.Entries.{entryBare, transports}
-use Rattle.worlds.specs.Refusals.{journalLimit}
+use Rattle.entries.specs.Entries.{entry_bare, transports}
+use Rattle.worlds.specs.Refusals.{journal_limit}
 use Rattle.worlds.specs.declared.Coupler.{Coupler}
 use Rattle.worlds.specs.declared.Seat.{Seat}
 use Rattle.worlds.specs.declared.Session.{Session}
 use Rattle.worlds.specs.declared.Transport.{Transport}
 
 -- "12 for a unit not present, checked first": "Document 002 allows units 0 to 3", and the row may have fewer
-unfoldable pub absentIn : ℕ → ℕ → Bool
-absentIn n k = leb n k || leb transports k
+unfoldable pub absent_in : ℕ → ℕ → Bool
+absent_in n k = leb n k || leb transports k
 
 -- a transport's unit, over a memory of so many bytes
-abbrev pub unitOver : ℕ → Transport → Unit
-unitOver memory t =
+abbrev pub unit_over : ℕ → Transport → Unit
+unit_over memory t =
     record {
       tape = t.tape;
       registers = t.registers;
@@ -28,11 +28,11 @@ unitOver memory t =
     }
 
 -- a record taken out of the row, with what it shares; and what is put back
-abbrev pub sessionOver : Coupler → Transport → Session
-sessionOver c t = record { unit = unitOver c.memory t; objects = t.objects; used = c.used; journal = c.journal }
+abbrev pub session_over : Coupler → Transport → Session
+session_over c t = record { unit = unit_over c.memory t; objects = t.objects; used = c.used; journal = c.journal }
 
-abbrev pub transportOf : Session → Transport
-transportOf s =
+abbrev pub transport_of : Session → Transport
+transport_of s =
     record {
       tape = s.unit.tape;
       registers = s.unit.registers;
@@ -43,12 +43,12 @@ transportOf s =
       objects = s.objects;
     }
 
-abbrev pub couplerOf : Session → Coupler
-couplerOf s = record { used = s.used; memory = s.unit.lengths.memory; journal = s.journal }
+abbrev pub coupler_of : Session → Coupler
+coupler_of s = record { used = s.used; memory = s.unit.lengths.memory; journal = s.journal }
 
 -- the record of one that was never mounted
-abbrev pub noTransport : Transport
-noTransport =
+abbrev pub no_transport : Transport
+no_transport =
     record {
       tape = record { position = 0; end = 0 };
       registers = record { pointer = 0; class = 0; rmr = false; nxm = false; nba = false; ssr = false };
@@ -59,26 +59,26 @@ noTransport =
       objects = 0;
     }
 
-abbrev pub isMounted : Transport → Bool
-isMounted t = not (eqb t.blocks 0)
+abbrev pub is_mounted : Transport → Bool
+is_mounted t = not (eqb t.blocks 0)
 
 -- refusal 1 of what is shared: "used journal or a mounted length out of range"
-unfoldable pub couplerWrong : Coupler → Bool
-couplerWrong c = not (memoryRight c.memory) || (ltb c.journal c.used || ltb journalLimit c.journal)
+unfoldable pub coupler_wrong : Coupler → Bool
+coupler_wrong c = not (memory_right c.memory) || (ltb c.journal c.used || ltb journal_limit c.journal)
 
 -- refusals 1, 2 and 4, for lengths in bytes: "Host stores belong to no unit", so no record of the row and no reel is asked
-unfoldable pub couplerChecked : Coupler → ℕ → ℕ → ℕ
-couplerChecked c memory journal =
-    pick (couplerWrong c) 1
+unfoldable pub coupler_checked : Coupler → ℕ → ℕ → ℕ
+coupler_checked c memory journal =
+    pick (coupler_wrong c) 1
     (pick (not (eqb memory c.memory)) 2
     (pick (not (eqb journal c.journal)) 4 0))
 
 -- a transport that is mounted and whose state 1 refuses, or whose reel is not of the mount's length
-unfoldable pub stateSeatWrong : ℕ → Seat → Bool
-stateSeatWrong memory s = isMounted s.transport && stateWrong (unitOver memory s.transport)
+unfoldable pub state_seat_wrong : ℕ → Seat → Bool
+state_seat_wrong memory s = is_mounted s.transport && state_wrong (unit_over memory s.transport)
 
-unfoldable pub reelSeatWrong : Seat → Bool
-reelSeatWrong s = isMounted s.transport && not (eqb s.reel (blockBytes * s.transport.blocks))
+unfoldable pub reel_seat_wrong : Seat → Bool
+reel_seat_wrong s = is_mounted s.transport && not (eqb s.reel (block_bytes * s.transport.blocks))
 
 -- it is so of one in the list
 unfoldable pub any_of : (Seat → Bool) → List Seat → Bool
@@ -90,24 +90,24 @@ abbrev pub row_of : ℕ → Seat → Seat → Seat → Seat → List Seat
 row_of n s0 s1 s2 s3 = take n (s0 ∷ s1 ∷ s2 ∷ s3 ∷ [])
 
 -- refusals 1 to 4 of a step back, which is lent every reel: 1 and 3 for every transport of the row that is mounted
-unfoldable pub rowChecked : Coupler → List Seat → ℕ → ℕ → ℕ
-rowChecked c row memory journal =
-    pick (couplerWrong c || any_of (stateSeatWrong c.memory) row) 1
+unfoldable pub row_checked : Coupler → List Seat → ℕ → ℕ → ℕ
+row_checked c row memory journal =
+    pick (coupler_wrong c || any_of (state_seat_wrong c.memory) row) 1
     (pick (not (eqb memory c.memory)) 2
-    (pick (any_of reelSeatWrong row) 3
+    (pick (any_of reel_seat_wrong row) 3
     (pick (not (eqb journal c.journal)) 4 0)))
 
-abbrev pub noSeat : Seat
-noSeat = record { transport = noTransport; reel = 0 }
+abbrev pub no_seat : Seat
+no_seat = record { transport = no_transport; reel = 0 }
 
 -- transport k is in the row, and mounted
-unfoldable pub standingIn : List Seat → ℕ → Bool
-standingIn row k = not (absentIn (length row) k) && isMounted (get_or row k noSeat).transport
+unfoldable pub standing_in : List Seat → ℕ → Bool
+standing_in row k = not (absent_in (length row) k) && is_mounted (get_or row k no_seat).transport
 
 -- refusals 1 to 4, then 6 and 8 of a step back whose newest entry names k: 8 where the used journal is too short for an entry, or where its transport is not present
 -- or not mounted, so that the entry doesn't fit
-unfoldable pub backRefusal : Coupler → List Seat → ℕ → ℕ → ℕ → ℕ
-backRefusal c row memory journal k =
-    pick (not (eqb (rowChecked c row memory journal) 0)) (rowChecked c row memory journal)
+unfoldable pub back_refusal : Coupler → List Seat → ℕ → ℕ → ℕ → ℕ
+back_refusal c row memory journal k =
+    pick (not (eqb (row_checked c row memory journal) 0)) (row_checked c row memory journal)
     (pick (eqb c.used 0) 6
-    (pick (ltb c.used entryBare || not (eqb k transports || standingIn row k)) 8 0))
+    (pick (ltb c.used entry_bare || not (eqb k transports || standing_in row k)) 8 0))

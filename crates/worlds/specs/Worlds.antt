@@ -1,9 +1,9 @@
 -- All that a call can change, in two parts: the core that steps change and steps back bring back, and the ledger of the steps that stand.
 use Rattle.std.specs.Prelude.{false, ◌≡◌, List, ℕ}
-use Rattle.commands.specs.Answers.{isStep}
+use Rattle.commands.specs.Answers.{is_step}
 use Rattle.commands.specs.declared.plans.Answer.{Answer}
 use Rattle.unit.specs.Cores.{Core}
-use Rattle.entries.specs.Entries.{usedIn}
+use Rattle.entries.specs.Entries.{used_in}
 use Rattle.worlds.specs.declared.Session.{Session}
 use Rattle.worlds.specs.declared.Outcome.{Outcome}
 
@@ -28,21 +28,21 @@ abbrev pub answered : Answer → World → Answered
 answered a w = record { answer = a; world = w }
 
 -- the world of a call: of the lent journal only the used part. "Journal bytes outside the used part are not promised." (01)
-abbrev pub worldOf : ℕ → Session → List ℕ → List ℕ → List ℕ → List ℕ → World
-worldOf k s m r tb j =
+abbrev pub world_of : ℕ → Session → List ℕ → List ℕ → List ℕ → List ℕ → World
+world_of k s m r tb j =
     record {
       number = k;
       core = record { unit = s.unit; objects = s.objects; memory = m; reel = r; table = tb };
-      ledger = record { used = s.used; length = s.journal; bytes = usedIn s.used j };
+      ledger = record { used = s.used; length = s.journal; bytes = used_in s.used j };
     }
 
 -- the numbers of a world that a call is handed and hands back
-abbrev pub sessionOf : World → Session
-sessionOf w = record { unit = w.core.unit; objects = w.core.objects; used = w.ledger.used; journal = w.ledger.length }
+abbrev pub session_of : World → Session
+session_of w = record { unit = w.core.unit; objects = w.core.objects; used = w.ledger.used; journal = w.ledger.length }
 
 -- what a call that was lent the journal j hands back and leaves in the slices is the definition's answer and world; and where it takes no step,
 -- it leaves every byte of the journal, the unused ones too
 pub record Leaves (x : Answered) (j : List ℕ) (o : Outcome) (m r tb j' : List ℕ) : Type 0 where
   pub answer : o.answer ≡ x.answer
-  pub world : worldOf x.world.number o.session m r tb j' ≡ x.world
-  pub unless-step : isStep x.answer ≡ false → j' ≡ j
+  pub world : world_of x.world.number o.session m r tb j' ≡ x.world
+  pub unless_step : is_step x.answer ≡ false → j' ≡ j

@@ -1,12 +1,12 @@
 // Refusals 1 to 4, which every step of a transport makes first.
 ghost use Rattle.std.specs.Prelude.{◌≡◌};
-ghost use Rattle.worlds.specs.Refusals.{checked, sessionWrong};
+ghost use Rattle.worlds.specs.Refusals.{checked, session_wrong};
 
 use crate::{JOURNAL_LIMIT, Session};
 
 // Refusal 1: the state's own numbers, the used journal and the mounted lengths.
 pub fn session_wrong(s: Session) -> bool
-    ensures { result ≡ sessionWrong s }
+    ensures { result ≡ session_wrong s }
 {
     let u = s.unit;
     state::state_wrong(u) | ((s.journal < s.used) | (JOURNAL_LIMIT < s.journal))

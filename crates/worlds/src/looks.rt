@@ -1,6 +1,6 @@
 // What a step back asks of each transport of a row, and the refusals that it makes of the answers of four. One that is not in the row, or not mounted, is passed over.
 ghost use Rattle.std.specs.Prelude.{◌≡◌};
-ghost use Rattle.worlds.specs.Looks.{lookAt, look_of, looksChecked, looksStanding, noLook};
+ghost use Rattle.worlds.specs.Looks.{look_at, look_of, looks_checked, looks_standing, no_look};
 
 use crate::rows::{coupler_wrong, unit_over};
 use crate::{Coupler, Look, Seat, Transport};
@@ -8,7 +8,7 @@ use tape::Geometry;
 
 // Nothing is asked.
 pub fn no_look() -> Look
-    ensures { result ≡ noLook }
+    ensures { result ≡ no_look }
 {
     Look {
         mounted: false,
@@ -19,7 +19,7 @@ pub fn no_look() -> Look
 
 // Of a transport that is mounted: refusals 1 and 3.
 pub fn look_at(t: Transport, reel: usize, memory: usize) -> Look
-    ensures { result ≡ lookAt memory t reel }
+    ensures { result ≡ look_at memory t reel }
 {
     let whole = (reel % Geometry::BLOCK == 0) & (reel / Geometry::BLOCK == t.blocks);
     let wrong = state::state_wrong(unit_over(t, memory));
@@ -51,7 +51,7 @@ pub fn looks_check(
     memory: usize,
     journal: usize,
 ) -> usize
-    ensures { result ≡ looksChecked c l0 l1 l2 l3 memory journal }
+    ensures { result ≡ looks_checked c l0 l1 l2 l3 memory journal }
 {
     if coupler_wrong(c) | ((l0.wrong | l1.wrong) | (l2.wrong | l3.wrong)) {
         return 1;
@@ -70,7 +70,7 @@ pub fn looks_check(
 
 // Is the transport with number k among them mounted?
 pub fn looks_standing(k: usize, l0: Look, l1: Look, l2: Look, l3: Look) -> bool
-    ensures { result ≡ looksStanding k l0 l1 l2 l3 }
+    ensures { result ≡ looks_standing k l0 l1 l2 l3 }
 {
     let low = ((k == 0) & l0.mounted) | ((k == 1) & l1.mounted);
     let high = ((k == 2) & l2.mounted) | ((k == 3) & l3.mounted);

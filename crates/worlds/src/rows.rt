@@ -1,6 +1,6 @@
 // A row of transports over one coupler: a record taken out of it as a session and put back, and the refusals that a call over the row makes first.
 ghost use Rattle.std.specs.Prelude.{◌≡◌};
-ghost use Rattle.worlds.specs.Rows.{absentIn, couplerChecked, couplerOf, couplerWrong, noTransport, sessionOver, transportOf, unitOver};
+ghost use Rattle.worlds.specs.Rows.{absent_in, coupler_checked, coupler_of, coupler_wrong, no_transport, session_over, transport_of, unit_over};
 
 use crate::{Coupler, JOURNAL_LIMIT, Session, Transport};
 use entries::TRANSPORTS;
@@ -8,13 +8,13 @@ use state::{Attention, Characteristics, Lengths, Panel, Registers, Tape, Unit};
 
 // 12: "a unit not present".
 pub fn absent(n: usize, k: usize) -> bool
-    ensures { result ≡ absentIn n k }
+    ensures { result ≡ absent_in n k }
 {
     (n <= k) | (TRANSPORTS <= k)
 }
 
 pub fn unit_over(t: Transport, memory: usize) -> Unit
-    ensures { result ≡ unitOver memory t }
+    ensures { result ≡ unit_over memory t }
 {
     let tape = t.tape;
     let registers = t.registers;
@@ -37,7 +37,7 @@ pub fn unit_over(t: Transport, memory: usize) -> Unit
 
 // The record of a transport taken out, with what it shares.
 pub fn session_over(t: Transport, c: Coupler) -> Session
-    ensures { result ≡ sessionOver c t }
+    ensures { result ≡ session_over c t }
 {
     let unit = unit_over(t, c.memory);
     Session {
@@ -50,7 +50,7 @@ pub fn session_over(t: Transport, c: Coupler) -> Session
 
 // What is put back: the record, and what it shares.
 pub fn transport_of(s: Session) -> Transport
-    ensures { result ≡ transportOf s }
+    ensures { result ≡ transport_of s }
 {
     let u = s.unit;
     let tape = u.tape;
@@ -70,7 +70,7 @@ pub fn transport_of(s: Session) -> Transport
 }
 
 pub fn coupler_of(s: Session) -> Coupler
-    ensures { result ≡ couplerOf s }
+    ensures { result ≡ coupler_of s }
 {
     Coupler {
         used: s.used,
@@ -81,7 +81,7 @@ pub fn coupler_of(s: Session) -> Coupler
 
 // The record of a transport that was never mounted: all 0.
 pub fn no_transport() -> Transport
-    ensures { result ≡ noTransport }
+    ensures { result ≡ no_transport }
 {
     let tape = Tape {
         position: 0,
@@ -125,14 +125,14 @@ pub fn no_transport() -> Transport
 
 // Refusal 1 of what is shared.
 pub fn coupler_wrong(c: Coupler) -> bool
-    ensures { result ≡ couplerWrong c }
+    ensures { result ≡ coupler_wrong c }
 {
     (!state::memory_right(c.memory)) | ((c.journal < c.used) | (JOURNAL_LIMIT < c.journal))
 }
 
 // Refusals 1, 2 and 4 of a call of no transport, or 0.
 pub fn coupler_check(c: Coupler, memory: usize, journal: usize) -> usize
-    ensures { result ≡ couplerChecked c memory journal }
+    ensures { result ≡ coupler_checked c memory journal }
 {
     if coupler_wrong(c) {
         return 1;

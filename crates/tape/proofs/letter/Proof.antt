@@ -1,6 +1,6 @@
 -- `letter` meets its contract, fault by fault.
 use borrow.Author.Rules.{rules}
-use Rattle.tape.specs.Letters.{letterOf}
+use Rattle.tape.specs.Letters.{letter_of}
 use Rattle.tape.proofs.letter.Statement.{statement}
 use Rattle.tape.proofs.letter.Tie as tie
 
@@ -20,23 +20,23 @@ enum-told-5 : tie.Need-enum-told-5
 enum-told-5 c = search rules
 
 returns : tie.Need-returns
-unfolding letterOf
+unfolding letter_of
 returns c = search rules
 
 returns-2 : tie.Need-returns-2
-unfolding letterOf
+unfolding letter_of
 returns-2 c = search rules
 
 returns-3 : tie.Need-returns-3
-unfolding letterOf
+unfolding letter_of
 returns-3 c = search rules
 
 returns-4 : tie.Need-returns-4
-unfolding letterOf
+unfolding letter_of
 returns-4 c = search rules
 
 returns-5 : tie.Need-returns-5
-unfolding letterOf
+unfolding letter_of
 returns-5 c = search rules
 
 pub letter-spec : {M : Type 1} → statement M

@@ -1,6 +1,6 @@
 -- `is_illegal` meets its contract: each arm is a clause of the definition.
 use borrow.Author.Rules.{rules}
-use Rattle.advance.specs.Rules.{isIllegal}
+use Rattle.advance.specs.Rules.{is_illegal}
 use Rattle.advance.proofs.steps.is_illegal.Statement.{statement}
 use Rattle.advance.proofs.steps.is_illegal.Tie as tie
 
@@ -68,87 +68,87 @@ enum-told-21 : tie.Need-enum-told-21
 enum-told-21 c = search rules
 
 returns : tie.Need-returns
-unfolding isIllegal
+unfolding is_illegal
 returns c = rw c.enum_told.given.1
 
 returns-2 : tie.Need-returns-2
-unfolding isIllegal
+unfolding is_illegal
 returns-2 c = rw c.enum-told2.given.1
 
 returns-3 : tie.Need-returns-3
-unfolding isIllegal
+unfolding is_illegal
 returns-3 c = rw c.enum-told3.given.1
 
 returns-4 : tie.Need-returns-4
-unfolding isIllegal
+unfolding is_illegal
 returns-4 c = rw c.enum-told4.given.1
 
 returns-5 : tie.Need-returns-5
-unfolding isIllegal
+unfolding is_illegal
 returns-5 c = rw c.enum-told5.given.1
 
 returns-6 : tie.Need-returns-6
-unfolding isIllegal
+unfolding is_illegal
 returns-6 c = rw c.enum-told6.given.1
 
 returns-7 : tie.Need-returns-7
-unfolding isIllegal
+unfolding is_illegal
 returns-7 c = rw c.enum-told7.given.1
 
 returns-8 : tie.Need-returns-8
-unfolding isIllegal
+unfolding is_illegal
 returns-8 c = rw c.enum-told8.given.1
 
 returns-9 : tie.Need-returns-9
-unfolding isIllegal
+unfolding is_illegal
 returns-9 c = rw c.enum-told9.given.1
 
 returns-10 : tie.Need-returns-10
-unfolding isIllegal
+unfolding is_illegal
 returns-10 c = rw c.enum-told10.given.1
 
 returns-11 : tie.Need-returns-11
-unfolding isIllegal
+unfolding is_illegal
 returns-11 c = rw c.enum-told11.given.1
 
 returns-12 : tie.Need-returns-12
-unfolding isIllegal
+unfolding is_illegal
 returns-12 c = rw c.enum-told12.given.1
 
 returns-13 : tie.Need-returns-13
-unfolding isIllegal
+unfolding is_illegal
 returns-13 c = rw c.enum-told13.given.1
 
 returns-14 : tie.Need-returns-14
-unfolding isIllegal
+unfolding is_illegal
 returns-14 c = rw c.enum-told14.given.1
 
 returns-15 : tie.Need-returns-15
-unfolding isIllegal
+unfolding is_illegal
 returns-15 c = rw c.enum-told15.given.1
 
 returns-16 : tie.Need-returns-16
-unfolding isIllegal
+unfolding is_illegal
 returns-16 c = rw c.enum-told16.given.1
 
 returns-17 : tie.Need-returns-17
-unfolding isIllegal
+unfolding is_illegal
 returns-17 c = rw c.enum-told17.given.1
 
 returns-18 : tie.Need-returns-18
-unfolding isIllegal
+unfolding is_illegal
 returns-18 c = rw c.enum-told18.given.1
 
 returns-19 : tie.Need-returns-19
-unfolding isIllegal
+unfolding is_illegal
 returns-19 c = rw c.enum-told19.given.1
 
 returns-20 : tie.Need-returns-20
-unfolding isIllegal
+unfolding is_illegal
 returns-20 c = rw c.enum-told20.given.1
 
 returns-21 : tie.Need-returns-21
-unfolding isIllegal
+unfolding is_illegal
 returns-21 c = rw c.enum-told21.given.1
 
 pub is-illegal-spec : {M : Type 1} → statement M

@@ -1,6 +1,6 @@
 -- `not_executable` meets its contract: both tests are what their functions ensure.
 use borrow.Author.Rules.{rules}
-use Rattle.advance.specs.Rules.{notExecutableUnder}
+use Rattle.advance.specs.Rules.{not_executable_under}
 use Rattle.advance.proofs.steps.not_executable.Statement.{statement}
 use Rattle.advance.proofs.steps.not_executable.Tie as tie
 
@@ -11,7 +11,7 @@ length-wrong-requires : tie.Need-length-wrong-requires
 length-wrong-requires c κs = search rules
 
 returns : tie.Need-returns
-unfolding notExecutableUnder
+unfolding not_executable_under
 returns c = rw (c.length-wrong.ensures, c.before.before.reverse-first.ensures)
 
 pub not-executable-spec : {M : Type 1} → statement M

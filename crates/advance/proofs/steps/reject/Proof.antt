@@ -1,7 +1,7 @@
 -- `reject` meets its contract: an end that is told, and the tape stays.
 use borrow.Author.Rules.{rules}
-use Rattle.commands.specs.Ends.{motionPlanUnder}
-use Rattle.advance.specs.Steps.{rejectedUnder}
+use Rattle.commands.specs.Ends.{motion_plan_under}
+use Rattle.advance.specs.Steps.{rejected_under}
 use Rattle.advance.proofs.steps.reject.Statement.{statement}
 use Rattle.advance.proofs.steps.reject.Tie as tie
 
@@ -12,7 +12,7 @@ told-course-requires : tie.Need-told-course-requires
 told-course-requires c κs = search rules
 
 returns : tie.Need-returns
-unfolding rejectedUnder motionPlanUnder
+unfolding rejected_under motion_plan_under
 returns c = rw (← c.before.rest.ensures) c.told-course.ensures
 
 pub reject-spec : {M : Type 1} → statement M

@@ -1,6 +1,6 @@
 -- `step_executable` meets its contract: the tests on the way are the definition's, and each part is what its function ensures.
 use borrow.Author.Rules.{rules}
-use Rattle.advance.specs.Steps.{stepExecutableUnder}
+use Rattle.advance.specs.Steps.{step_executable_under}
 use Rattle.advance.proofs.steps.step_executable.Statement.{statement}
 use Rattle.advance.proofs.steps.step_executable.Tie as tie
 
@@ -14,7 +14,7 @@ reject-requires : tie.Need-reject-requires
 reject-requires c κs = search rules
 
 returns : tie.Need-returns
-unfolding stepExecutableUnder
+unfolding step_executable_under
 returns c = rw (← c.before.whole-count.ensures, ← c.reject.ensures, ← c.before.before.before.before.before.is-tape.ensures, c.before.before.if1.true)
 
 writes-tape-requires : tie.Need-writes-tape-requires
@@ -30,7 +30,7 @@ reject-requires-2 : tie.Need-reject-requires-2
 reject-requires-2 c κs = search rules
 
 returns-2 : tie.Need-returns-2
-unfolding stepExecutableUnder
+unfolding step_executable_under
 returns-2 c =
     let t = c.before.before.before.before.before in
     rw (← c.before.whole-count2.ensures, ← c.reject2.ensures, ← t.before.before.before.is-tape.ensures, t.if1.false, ← c.before.before.before.before.writes-tape.ensures, c.before.before.if2.true)
@@ -45,7 +45,7 @@ reject-requires-3 : tie.Need-reject-requires-3
 reject-requires-3 c κs = search rules
 
 returns-3 : tie.Need-returns-3
-unfolding stepExecutableUnder
+unfolding step_executable_under
 returns-3 c =
     let w = c.before.before.before.before in
     let t = w.before.before.before in
@@ -55,7 +55,7 @@ step-extent-requires : tie.Need-step-extent-requires
 step-extent-requires c κs = search rules
 
 returns-4 : tie.Need-returns-4
-unfolding stepExecutableUnder
+unfolding step_executable_under
 returns-4 c =
     let w = c.before.before.before in
     let t = w.before.before.before in

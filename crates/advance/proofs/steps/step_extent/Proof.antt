@@ -1,7 +1,7 @@
 -- `step_extent` meets its contract: the extent that was looked at is what the next step asks for.
 use borrow.Author.Rules.{rules}
-use Rattle.advance.proofs.Extents.{data-fit}
-use Rattle.advance.specs.Steps.{stepExtentUnder}
+use Rattle.advance.proofs.Extents.{data_fit}
+use Rattle.advance.specs.Steps.{step_extent_under}
 use Rattle.advance.proofs.steps.step_extent.Statement.{statement}
 use Rattle.advance.proofs.steps.step_extent.Tie as tie
 
@@ -21,7 +21,7 @@ reject-requires : tie.Need-reject-requires
 reject-requires c κs = search rules
 
 returns : tie.Need-returns
-unfolding stepExtentUnder
+unfolding step_extent_under
 returns c = rw (← c.before.whole-count.ensures, ← c.reject.ensures, ← c.before.before.before.before.before.has-extent.ensures, c.before.before.if1.true)
 
 decode-requires : tie.Need-decode-requires
@@ -31,10 +31,10 @@ carry-out-requires : tie.Need-carry-out-requires
 carry-out-requires c κs =
     let t = c.before.before.before.before in
     let s = t.before.before.before in
-    (s.requires.0, rw c.decode.ensures (data-fit s.args.h s.args.p s.args.mem.now t.has-extent.result t.has-extent.ensures c.before.if1.false))
+    (s.requires.0, rw c.decode.ensures (data_fit s.args.h s.args.p s.args.mem.now t.has-extent.result t.has-extent.ensures c.before.if1.false))
 
 returns-2 : tie.Need-returns-2
-unfolding stepExtentUnder
+unfolding step_extent_under
 returns-2 c = rw (← c.before.before.before.before.before.has-extent.ensures, c.before.before.if1.false, ← c.before.decode.ensures) c.carry-out.ensures
 
 pub step-extent-spec : {M : Type 1} → statement M

@@ -2,7 +2,7 @@
 use borrow.Author.Rules.{rules}
 use borrow.Author.Tests.{ltb-false}
 use mathlib.Core.Path.{sym, ◌∙◌}
-use Rattle.advance.specs.Steps.{stepFetchUnder}
+use Rattle.advance.specs.Steps.{step_fetch_under}
 use Rattle.advance.proofs.steps.step_fetch.Statement.{statement}
 use Rattle.advance.proofs.steps.step_fetch.Tie as tie
 
@@ -13,7 +13,7 @@ reject-requires : tie.Need-reject-requires
 reject-requires c κs = search rules
 
 returns : tie.Need-returns
-unfolding stepFetchUnder
+unfolding step_fetch_under
 returns c = rw (← c.reject.ensures, sym c.before.before.overhangs.ensures ∙ c.before.if1.true)
 
 fetch-requires : tie.Need-fetch-requires
@@ -23,7 +23,7 @@ step-pointer-requires : tie.Need-step-pointer-requires
 step-pointer-requires c κs = search rules
 
 returns-2 : tie.Need-returns-2
-unfolding stepFetchUnder
+unfolding step_fetch_under
 returns-2 c = rw (sym c.before.before.before.overhangs.ensures ∙ c.before.before.if1.false, ← c.before.fetch.ensures.0) c.step-pointer.ensures
 
 pub step-fetch-spec : {M : Type 1} → statement M

@@ -2,13 +2,13 @@
 use borrow.Author.Rules.{rules}
 use mathlib.Core.Bool.{◌||◌}
 use borrow.Author.Tests.{not-true, not-false}
-use Rattle.commands.specs.Ends.{planByUnder, planOfUnder}
-use Rattle.advance.specs.Steps.{stepOwnerUnder}
+use Rattle.commands.specs.Ends.{plan_by_under, plan_of_under}
+use Rattle.advance.specs.Steps.{step_owner_under}
 use Rattle.advance.proofs.steps.step_owner.Statement.{statement}
 use Rattle.advance.proofs.steps.step_owner.Tie as tie
 
 returns : tie.Need-returns
-unfolding stepOwnerUnder planOfUnder planByUnder
+unfolding step_owner_under plan_of_under plan_by_under
 returns c =
     let a = c.before.before.before.before.before.before.args in
     rw (not-true (a.u.attention.unit_owns || a.h.ack) c.if1.true)
@@ -17,7 +17,7 @@ step-attention-requires : tie.Need-step-attention-requires
 step-attention-requires c κs = search rules
 
 returns-2 : tie.Need-returns-2
-unfolding stepOwnerUnder
+unfolding step_owner_under
 returns-2 c =
     let a = c.before.before.before.before.before.before.before.args in
     rw (← c.step-attention.ensures, not-false (a.u.attention.unit_owns || a.h.ack) c.before.if1.false)

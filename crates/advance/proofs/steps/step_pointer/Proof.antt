@@ -1,6 +1,6 @@
 -- `step_pointer` meets its contract: its test is the definition's.
 use borrow.Author.Rules.{rules}
-use Rattle.advance.specs.Steps.{stepPointerUnder}
+use Rattle.advance.specs.Steps.{step_pointer_under}
 use Rattle.advance.proofs.steps.step_pointer.Statement.{statement}
 use Rattle.advance.proofs.steps.step_pointer.Tie as tie
 
@@ -11,14 +11,14 @@ reject-requires : tie.Need-reject-requires
 reject-requires c κs = search rules
 
 returns : tie.Need-returns
-unfolding stepPointerUnder
+unfolding step_pointer_under
 returns c = rw (← c.before.whole-count.ensures, ← c.reject.ensures, c.before.before.if1.true)
 
 step-executable-requires : tie.Need-step-executable-requires
 step-executable-requires c κs = search rules
 
 returns-2 : tie.Need-returns-2
-unfolding stepPointerUnder
+unfolding step_pointer_under
 returns-2 c = rw (← c.step-executable.ensures, c.before.if1.false)
 
 pub step-pointer-spec : {M : Type 1} → statement M

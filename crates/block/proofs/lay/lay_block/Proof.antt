@@ -1,8 +1,8 @@
 -- `lay_block` meets its contract: its six stores are the runs that come to the block.
 use borrow.Author.Rules.{rules}
 use Rattle.lists.specs.Places.{gathered}
-use Rattle.lists.proofs.Placed.{length-gathered}
-use Rattle.block.proofs.Laid.{block-laid, body-laid}
+use Rattle.lists.proofs.Placed.{length_gathered}
+use Rattle.block.proofs.Laid.{block_laid, body_laid}
 use Rattle.block.proofs.lay.lay_block.Statement.{statement}
 use Rattle.block.proofs.lay.lay_block.Tie as tie
 
@@ -61,10 +61,10 @@ returns c =
     let start = u.before.before.before.before in
     let a = start.args in
     let bytes = gathered a.swb a.mem.now a.a in
-    let lengths = length-gathered a.swb a.mem.now a.a in
+    let lengths = length_gathered a.swb a.mem.now a.a in
     let long = start.requires.0 in
     let low = start.requires.4 in
-    block-laid a.b.now _ _ (bytes a.used) _ _ _ _ long (rw lengths low) (body-laid _ _ _ _ _ _ _ _ _ _ bytes lengths long low u.put_word.ensures v.put-word2.ensures w.put-word3.ensures g.gather.ensures z.zero-fill.ensures) c.before.before.before.before.check-sum.ensures.0 c.before.before.put-word4.ensures
+    block_laid a.b.now _ _ (bytes a.used) _ _ _ _ long (rw lengths low) (body_laid _ _ _ _ _ _ _ _ _ _ bytes lengths long low u.put_word.ensures v.put-word2.ensures w.put-word3.ensures g.gather.ensures z.zero-fill.ensures) c.before.before.before.before.check-sum.ensures.0 c.before.before.put-word4.ensures
 
 pub lay-block-spec : {M : Type 1} → statement M
 lay-block-spec =

@@ -2,7 +2,7 @@
 use borrow.Author.Rules.{rules}
 use borrow.Author.Tests.{not-false, not-true}
 use mathlib.Core.Path.{sym, ◌∙◌}
-use Rattle.block.proofs.Classes.{class-body, class-head, class-right}
+use Rattle.block.proofs.Classes.{class_body, class_head, class_right}
 use Rattle.block.proofs.read.class_of.Statement.{statement}
 use Rattle.block.proofs.read.class_of.Tie as tie
 
@@ -25,7 +25,7 @@ returns : tie.Need-returns
 returns c =
     let h = c.before in
     let w = h.before.before in
-    class-head _ _ _ _ w.before.before.word.ensures.0 w.before.word2.ensures.0 w.word3.ensures.0 (sym h.before.head-right.ensures ∙ not-true _ h.if1.true) c.wrong-in.ensures
+    class_head _ _ _ _ w.before.before.word.ensures.0 w.before.word2.ensures.0 w.word3.ensures.0 (sym h.before.head-right.ensures ∙ not-true _ h.if1.true) c.wrong-in.ensures
 
 used-of-requires : tie.Need-used-of-requires
 used-of-requires c κs = sym c.before.head-right.ensures ∙ not-false _ c.if1.false
@@ -41,7 +41,7 @@ returns-2 c =
     let d = c.before in
     let h = d.before.before.before in
     let w = h.before.before in
-    class-body _ _ _ _ w.before.before.word.ensures.0 w.before.word2.ensures.0 w.word3.ensures.0 (sym h.before.head-right.ensures ∙ not-false _ h.if1.false) d.before.before.used-of.ensures.0 (sym d.before.body-right.ensures ∙ not-true _ d.if2.true) c.wrong-in2.ensures
+    class_body _ _ _ _ w.before.before.word.ensures.0 w.before.word2.ensures.0 w.word3.ensures.0 (sym h.before.head-right.ensures ∙ not-false _ h.if1.false) d.before.before.used-of.ensures.0 (sym d.before.body-right.ensures ∙ not-true _ d.if2.true) c.wrong-in2.ensures
 
 kind-of-requires : tie.Need-kind-of-requires
 kind-of-requires c κs = search rules
@@ -50,7 +50,7 @@ returns-3 : tie.Need-returns-3
 returns-3 c =
     let u = c.before.before.before in
     let w = u.before.before.before in
-    class-right _ _ _ _ w.before.before.word.ensures.0 w.before.word2.ensures.0 w.word3.ensures.0 (sym u.before.before.head-right.ensures ∙ not-false _ u.before.if1.false) u.used-of.ensures.0 (sym c.before.before.body-right.ensures ∙ not-false _ c.before.if2.false) c.kind-of.ensures
+    class_right _ _ _ _ w.before.before.word.ensures.0 w.before.word2.ensures.0 w.word3.ensures.0 (sym u.before.before.head-right.ensures ∙ not-false _ u.before.if1.false) u.used-of.ensures.0 (sym c.before.before.body-right.ensures ∙ not-false _ c.before.if2.false) c.kind-of.ensures
 
 pub class-of-spec : {M : Type 1} → statement M
 class-of-spec =

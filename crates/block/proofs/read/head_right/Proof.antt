@@ -1,6 +1,6 @@
 -- `head_right` meets its contract: its three answers joined.
 use borrow.Author.Rules.{rules}
-use Rattle.block.specs.Halves.{headRight}
+use Rattle.block.specs.Halves.{head_right}
 use Rattle.block.proofs.read.head_right.Statement.{statement}
 use Rattle.block.proofs.read.head_right.Tie as tie
 
@@ -14,7 +14,7 @@ index-right-requires : tie.Need-index-right-requires
 index-right-requires c κs = search rules
 
 returns : tie.Need-returns
-unfolding headRight
+unfolding head_right
 returns c = cc
 
 pub head-right-spec : {M : Type 1} → statement M

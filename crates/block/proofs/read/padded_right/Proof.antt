@@ -1,7 +1,7 @@
 -- `padded_right` meets its contract: what it has read decides padding and check.
 use borrow.Author.Rules.{rules}
 use native.Mathlib.Omega.{arith}
-use Rattle.block.proofs.Bodies.{body-read}
+use Rattle.block.proofs.Bodies.{body_read}
 use Rattle.block.proofs.read.padded_right.Statement.{statement}
 use Rattle.block.proofs.read.padded_right.Tie as tie
 
@@ -51,7 +51,7 @@ returns : tie.Need-returns
 returns c =
     let w = c.before.before.before.before.before in
     let a = w.before.before.args in
-    body-read a.b.now a.used _ _ _ _ (omega arith) (omega arith) c.before.wide.ensures.0 w.check-sum.ensures.0 c.before.before.before.check-sum2.ensures.0 c.before.before.before.check-sum2.ensures.1.0 c.word.ensures.0
+    body_read a.b.now a.used _ _ _ _ (omega arith) (omega arith) c.before.wide.ensures.0 w.check-sum.ensures.0 c.before.before.before.check-sum2.ensures.0 c.before.before.before.check-sum2.ensures.1.0 c.word.ensures.0
 
 pub padded-right-spec : {M : Type 1} → statement M
 padded-right-spec =

@@ -4,23 +4,23 @@ use native.Mathlib.Omega.{arith}
 use mathlib.Core.Path.{◌≡◌, sym, ◌∙◌}
 use Prim.Native.Nat.{◌≤◌, ◌-◌}
 use lib.ListN.{take, drop}
-use Rattle.tape.specs.Numbers.{summedBytes}
-use Rattle.tape.specs.Reading.{paddingRight, zeros}
-use Rattle.block.proofs.Padding.{zeros-end, zeros-next, zeros-stop}
+use Rattle.tape.specs.Numbers.{summed_bytes}
+use Rattle.tape.specs.Reading.{padding_right, zeros}
+use Rattle.block.proofs.Padding.{zeros_end, zeros_next, zeros_stop}
 use Rattle.block.proofs.read.padding_right.Statement.{statement}
 use Rattle.block.proofs.read.padding_right.Tie as tie
 
 abbrev invariant-loop : tie.invariant-loop
-invariant-loop b used i₀ i = (i ≤ summedBytes) × (zeros (drop i (take summedBytes b)) ≡ paddingRight b used)
+invariant-loop b used i₀ i = (i ≤ summed_bytes) × (zeros (drop i (take summed_bytes b)) ≡ padding_right b used)
 
 abbrev decreases-loop : tie.decreases-loop
-decreases-loop b used i₀ i = summedBytes - i
+decreases-loop b used i₀ i = summed_bytes - i
 
 add-i : tie.Need-overflow-add-i invariant-loop decreases-loop
 add-i c = search rules
 
 loop-holds : tie.Need-loop-init invariant-loop decreases-loop
-unfolding paddingRight
+unfolding padding_right
 loop-holds c = search rules
 
 shared-slice-read-if1 : tie.Need-shared-slice-read-if1 invariant-loop decreases-loop
@@ -29,7 +29,7 @@ shared-slice-read-if1 c = search rules
 returns : tie.Need-returns invariant-loop decreases-loop
 returns c =
     let l = c.before.before.before.loop in
-    zeros-stop c.before.before.before.before.args.b.now l.i (search rules) (search rules) c.if1.true ∙ l.invariant.1
+    zeros_stop c.before.before.before.before.args.b.now l.i (search rules) (search rules) c.if1.true ∙ l.invariant.1
 
 add-i-2 : tie.Need-overflow-add-i-2 invariant-loop decreases-loop
 add-i-2 c = search rules
@@ -40,13 +40,13 @@ loop-less c = search rules
 loop-again : tie.Need-loop-preserved invariant-loop decreases-loop
 loop-again c =
     let l = c.before.before.before.loop in
-    (search rules, zeros-next c.before.before.before.before.args.b.now l.i (search rules) (search rules) c.if1.false ∙ l.invariant.1)
+    (search rules, zeros_next c.before.before.before.before.args.b.now l.i (search rules) (search rules) c.if1.false ∙ l.invariant.1)
 
 returns-2 : tie.Need-returns-2 invariant-loop decreases-loop
 returns-2 c =
     let l = c.before.loop in
-    let e : l.i ≡ summedBytes = omega arith in
-    sym (zeros-end c.before.before.args.b.now l.i (search rules) e) ∙ l.invariant.1
+    let e : l.i ≡ summed_bytes = omega arith in
+    sym (zeros_end c.before.before.args.b.now l.i (search rules) e) ∙ l.invariant.1
 
 pub padding-right-spec : {M : Type 1} → statement M
 padding-right-spec =

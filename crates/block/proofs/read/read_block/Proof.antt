@@ -2,13 +2,13 @@
 use borrow.Author.Rules.{rules}
 use native.Mathlib.Nat.{add-sub_cancel_left}
 use Prim.Native.Nat.{◌*◌}
-use Rattle.block.proofs.Classes.{class-inside, class-outside}
+use Rattle.block.proofs.Classes.{class_inside, class_outside}
 use Rattle.block.proofs.read.read_block.Statement.{statement}
 use Rattle.block.proofs.read.read_block.Tie as tie
-use Rattle.tape.specs.Numbers.{blockBytes}
+use Rattle.tape.specs.Numbers.{block_bytes}
 
 returns : tie.Need-returns
-returns c = class-outside _ _ c.if1.true
+returns c = class_outside _ _ c.if1.true
 
 mul_at : tie.Need-overflow-mul-at
 mul_at c = search rules
@@ -29,7 +29,7 @@ class-of-requires : tie.Need-class-of-requires
 class-of-requires c κs = search rules
 
 returns-2 : tie.Need-returns-2
-returns-2 c = class-inside _ _ c.before.before.if1.false (rw (add-sub_cancel_left (blockBytes * c.before.before.before.before.args.k) blockBytes) at c.class_of.ensures)
+returns-2 c = class_inside _ _ c.before.before.if1.false (rw (add-sub_cancel_left (block_bytes * c.before.before.before.before.args.k) block_bytes) at c.class_of.ensures)
 
 pub read-block-spec : {M : Type 1} → statement M
 read-block-spec =

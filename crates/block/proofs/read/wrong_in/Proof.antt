@@ -2,8 +2,8 @@
 use borrow.Author.Rules.{rules}
 use borrow.Author.Tests.{not-false, not-true}
 use mathlib.Core.Path.{sym, ◌∙◌}
-use Rattle.block.proofs.Classes.{fault-check, fault-index, fault-kind, fault-length, fault-padding}
-use Rattle.block.proofs.Heads.{head-whole}
+use Rattle.block.proofs.Classes.{fault_check, fault_index, fault_kind, fault_length, fault_padding}
+use Rattle.block.proofs.Heads.{head_whole}
 use Rattle.block.proofs.read.wrong_in.Statement.{statement}
 use Rattle.block.proofs.read.wrong_in.Tie as tie
 
@@ -22,7 +22,7 @@ kind-right-requires c κs = search rules
 returns : tie.Need-returns
 returns c =
     let w = c.before.before in
-    fault-kind _ _ _ _ w.before.before.word.ensures.0 w.before.word2.ensures.0 w.word3.ensures.0 (sym c.before.kind-right.ensures ∙ not-true _ c.if1.true)
+    fault_kind _ _ _ _ w.before.before.word.ensures.0 w.before.word2.ensures.0 w.word3.ensures.0 (sym c.before.kind-right.ensures ∙ not-true _ c.if1.true)
 
 length-right-requires : tie.Need-length-right-requires
 length-right-requires c κs = search rules
@@ -31,7 +31,7 @@ returns-2 : tie.Need-returns-2
 returns-2 c =
     let k = c.before.before in
     let w = k.before.before in
-    fault-length _ _ _ _ w.before.before.word.ensures.0 w.before.word2.ensures.0 w.word3.ensures.0 (sym k.before.kind-right.ensures ∙ not-false _ k.if1.false) (sym c.before.length-right.ensures ∙ not-true _ c.if2.true)
+    fault_length _ _ _ _ w.before.before.word.ensures.0 w.before.word2.ensures.0 w.word3.ensures.0 (sym k.before.kind-right.ensures ∙ not-false _ k.if1.false) (sym c.before.length-right.ensures ∙ not-true _ c.if2.true)
 
 index-right-requires : tie.Need-index-right-requires
 index-right-requires c κs = search rules
@@ -41,13 +41,13 @@ returns-3 c =
     let l = c.before.before in
     let k = l.before.before in
     let w = k.before.before in
-    fault-index _ _ _ _ w.before.before.word.ensures.0 w.before.word2.ensures.0 w.word3.ensures.0 (sym k.before.kind-right.ensures ∙ not-false _ k.if1.false) (sym l.before.length-right.ensures ∙ not-false _ l.if2.false) (sym c.before.index-right.ensures ∙ not-true _ c.if3.true)
+    fault_index _ _ _ _ w.before.before.word.ensures.0 w.before.word2.ensures.0 w.word3.ensures.0 (sym k.before.kind-right.ensures ∙ not-false _ k.if1.false) (sym l.before.length-right.ensures ∙ not-false _ l.if2.false) (sym c.before.index-right.ensures ∙ not-true _ c.if3.true)
 
 used-of-requires : tie.Need-used-of-requires
 used-of-requires c κs =
     let l = c.before.before in
     let k = l.before.before in
-    head-whole _ _ _ (sym k.before.kind-right.ensures ∙ not-false _ k.if1.false) (sym l.before.length-right.ensures ∙ not-false _ l.if2.false) (sym c.before.index-right.ensures ∙ not-false _ c.if3.false)
+    head_whole _ _ _ (sym k.before.kind-right.ensures ∙ not-false _ k.if1.false) (sym l.before.length-right.ensures ∙ not-false _ l.if2.false) (sym c.before.index-right.ensures ∙ not-false _ c.if3.false)
 
 padding-right-requires : tie.Need-padding-right-requires
 padding-right-requires c κs = search rules
@@ -58,7 +58,7 @@ returns-4 c =
     let l = i.before.before in
     let k = l.before.before in
     let w = k.before.before in
-    fault-padding _ _ _ _ w.before.before.word.ensures.0 w.before.word2.ensures.0 w.word3.ensures.0 (sym k.before.kind-right.ensures ∙ not-false _ k.if1.false) (sym l.before.length-right.ensures ∙ not-false _ l.if2.false) (sym i.before.index-right.ensures ∙ not-false _ i.if3.false) c.before.before.used-of.ensures.0 (sym c.before.padding-right.ensures ∙ not-true _ c.if4.true)
+    fault_padding _ _ _ _ w.before.before.word.ensures.0 w.before.word2.ensures.0 w.word3.ensures.0 (sym k.before.kind-right.ensures ∙ not-false _ k.if1.false) (sym l.before.length-right.ensures ∙ not-false _ l.if2.false) (sym i.before.index-right.ensures ∙ not-false _ i.if3.false) c.before.before.used-of.ensures.0 (sym c.before.padding-right.ensures ∙ not-true _ c.if4.true)
 
 returns-5 : tie.Need-returns-5
 returns-5 c =
@@ -66,7 +66,7 @@ returns-5 c =
     let l = i.before.before in
     let k = l.before.before in
     let w = k.before.before in
-    fault-check _ _ _ _ w.before.before.word.ensures.0 w.before.word2.ensures.0 w.word3.ensures.0 (sym k.before.kind-right.ensures ∙ not-false _ k.if1.false) (sym l.before.length-right.ensures ∙ not-false _ l.if2.false) (sym i.before.index-right.ensures ∙ not-false _ i.if3.false) c.before.before.used-of.ensures.0 (sym c.before.padding-right.ensures ∙ not-false _ c.if4.false)
+    fault_check _ _ _ _ w.before.before.word.ensures.0 w.before.word2.ensures.0 w.word3.ensures.0 (sym k.before.kind-right.ensures ∙ not-false _ k.if1.false) (sym l.before.length-right.ensures ∙ not-false _ l.if2.false) (sym i.before.index-right.ensures ∙ not-false _ i.if3.false) c.before.before.used-of.ensures.0 (sym c.before.padding-right.ensures ∙ not-false _ c.if4.false)
 
 pub wrong-in-spec : {M : Type 1} → statement M
 wrong-in-spec =

@@ -1,6 +1,6 @@
 -- `check_sum` meets its contract: what the two sums differ by is a multiple of 65,535, and 0 where the words are.
 use native.Mathlib.Omega.{arith}
-use Rattle.block.proofs.Longs.{fold-none, fold_same, summed-lent}
+use Rattle.block.proofs.Longs.{fold_none, fold_same, summed_lent}
 use borrow.Author.Rules.{rules}
 use Rattle.block.proofs.sum.check_sum.Statement.{statement}
 use Rattle.block.proofs.sum.check_sum.Tie as tie
@@ -29,8 +29,8 @@ add-result c = search rules
 returns : tie.Need-returns
 returns c =
     let a = c.before.before.before.before.args in
-    let f = summed-lent a.b.now a.n c.before.before.before.before.requires.0 _ _ c.before.before.long-sum.ensures.0 c.word_sum.ensures.0 in
-    (fold_same _ _ f, (fold-none _ _ f, omega arith))
+    let f = summed_lent a.b.now a.n c.before.before.before.before.requires.0 _ _ c.before.before.long-sum.ensures.0 c.word_sum.ensures.0 in
+    (fold_same _ _ f, (fold_none _ _ f, omega arith))
 
 pub check-sum-spec : {M : Type 1} → statement M
 check-sum-spec =

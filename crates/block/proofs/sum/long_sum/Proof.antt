@@ -4,19 +4,19 @@ use native.Mathlib.Omega.{arith}
 use mathlib.Core.Path.{◌≡◌}
 use Prim.Native.Nat.{◌≤◌, ◌-◌, ◌*◌}
 use lib.ListN.{take}
-use Rattle.block.specs.Sums.{longSum}
-use Rattle.block.proofs.Longs.{two-more}
+use Rattle.block.specs.Sums.{long_sum}
+use Rattle.block.proofs.Longs.{two_more}
 use Rattle.block.proofs.sum.long_sum.Statement.{statement}
 use Rattle.block.proofs.sum.long_sum.Tie as tie
 
 abbrev invariant-loop : tie.invariant-loop
-invariant-loop b n sum₀ j₀ sum j = (j ≤ n) × (sum ≡ longSum (take (8 * j) b)) × (sum ≤ 8589934592 * j)
+invariant-loop b n sum₀ j₀ sum j = (j ≤ n) × (sum ≡ long_sum (take (8 * j) b)) × (sum ≤ 8589934592 * j)
 
 abbrev decreases-loop : tie.decreases-loop
 decreases-loop b n sum₀ j₀ sum j = n - j
 
 loop-holds : tie.Need-loop-init invariant-loop decreases-loop
-unfolding longSum
+unfolding long_sum
 loop-holds c = search rules
 
 mul-long : tie.Need-overflow-mul-long invariant-loop decreases-loop
@@ -50,7 +50,7 @@ loop-again : tie.Need-loop-preserved invariant-loop decreases-loop
 loop-again c =
     let b = c.before.before.before.before.before.args.b.now in
     let j = c.before.before.before.loop.j in
-    (search rules, omega (arith, two-more j b (omega arith)), omega arith)
+    (search rules, omega (arith, two_more j b (omega arith)), omega arith)
 
 returns : tie.Need-returns invariant-loop decreases-loop
 returns c =

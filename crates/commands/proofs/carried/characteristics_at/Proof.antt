@@ -1,6 +1,6 @@
 -- `characteristics_at` meets its contract: four words of memory.
 use borrow.Author.Rules.{rules}
-use Rattle.commands.specs.Commands.{characteristicsAt}
+use Rattle.commands.specs.Commands.{characteristics_at}
 use Rattle.commands.proofs.carried.characteristics_at.Statement.{statement}
 use Rattle.commands.proofs.carried.characteristics_at.Tie as tie
 
@@ -35,7 +35,7 @@ cast-t11 : tie.Need-overflow-cast-t11
 cast-t11 c = search rules
 
 returns : tie.Need-returns
-unfolding characteristicsAt
+unfolding characteristics_at
 returns c = rw (c.mode-word.ensures, c.before.word3.ensures.0, c.before.before.before.word2.ensures.0, c.before.before.before.before.before.word.ensures.0)
 
 pub characteristics-at-spec : {M : Type 1} → statement M

@@ -1,12 +1,12 @@
 -- `mode_word` meets its contract: a word where the count leaves room for it.
 use borrow.Author.Rules.{rules}
 use borrow.Author.Tests.{le-ltb, lt-ltb}
-use Rattle.commands.specs.Commands.{modeWord}
+use Rattle.commands.specs.Commands.{mode_word}
 use Rattle.commands.proofs.carried.mode_word.Statement.{statement}
 use Rattle.commands.proofs.carried.mode_word.Tie as tie
 
 returns : tie.Need-returns
-unfolding modeWord
+unfolding mode_word
 returns c = rw (lt-ltb _ _ c.if1.true)
 
 add-word : tie.Need-overflow-add-word
@@ -16,7 +16,7 @@ word-requires : tie.Need-word-requires
 word-requires c κs = search rules
 
 returns-2 : tie.Need-returns-2
-unfolding modeWord
+unfolding mode_word
 returns-2 c = rw (le-ltb _ _ c.before.before.if1.false) c.word.ensures.0
 
 pub mode-word-spec : {M : Type 1} → statement M

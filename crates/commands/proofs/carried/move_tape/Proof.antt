@@ -1,5 +1,5 @@
 -- `move_tape` meets its contract: an arm for each command.
-use Rattle.commands.specs.Commands.{motionOfUnder}
+use Rattle.commands.specs.Commands.{motion_of_under}
 use borrow.Author.Rules.{rules}
 use Rattle.commands.proofs.carried.move_tape.Statement.{statement}
 use Rattle.commands.proofs.carried.move_tape.Tie as tie
@@ -131,87 +131,87 @@ enum-told-21 : tie.Need-enum-told-21
 enum-told-21 c = search rules
 
 returns : tie.Need-returns
-unfolding motionOfUnder
+unfolding motion_of_under
 returns c = rw (c.before.enum_told.given.1, ← c.before.before.before.before.before.before.before.before.before.before.asked-buffer.ensures) c.read_one.ensures
 
 returns-2 : tie.Need-returns-2
-unfolding motionOfUnder
+unfolding motion_of_under
 returns-2 c = rw (c.before.enum-told2.given.1, ← c.before.before.before.before.before.before.before.before.before.before.asked-buffer.ensures) c.read-one2.ensures
 
 returns-3 : tie.Need-returns-3
-unfolding motionOfUnder
+unfolding motion_of_under
 returns-3 c = rw (c.before.enum-told3.given.1, ← c.before.before.before.before.before.before.before.before.before.before.asked-buffer.ensures) c.reread-one.ensures
 
 returns-4 : tie.Need-returns-4
-unfolding motionOfUnder
+unfolding motion_of_under
 returns-4 c = rw (c.before.enum-told4.given.1, ← c.before.before.before.before.before.before.before.before.before.before.asked-buffer.ensures) c.reread-one2.ensures
 
 returns-5 : tie.Need-returns-5
-unfolding motionOfUnder
+unfolding motion_of_under
 returns-5 c = rw (c.enum-told5.given.1, c.before.before.before.before.rest.ensures, c.before.before.before.before.before.plain-end.ensures)
 
 returns-6 : tie.Need-returns-6
-unfolding motionOfUnder
+unfolding motion_of_under
 returns-6 c = rw (c.before.enum-told6.given.1, ← c.before.before.before.before.before.before.before.before.before.lay-here.ensures) c.lay.ensures
 
 returns-7 : tie.Need-returns-7
-unfolding motionOfUnder
+unfolding motion_of_under
 returns-7 c = rw (c.before.enum-told7.given.1, ← c.before.before.before.before.before.before.before.before.before.lay-here.ensures) c.lay2.ensures
 
 returns-8 : tie.Need-returns-8
-unfolding motionOfUnder
+unfolding motion_of_under
 returns-8 c = rw c.before.enum-told8.given.1 c.space.ensures
 
 returns-9 : tie.Need-returns-9
-unfolding motionOfUnder
+unfolding motion_of_under
 returns-9 c = rw c.before.enum-told9.given.1 c.space2.ensures
 
 returns-10 : tie.Need-returns-10
-unfolding motionOfUnder
+unfolding motion_of_under
 returns-10 c = rw c.before.enum-told10.given.1 c.space3.ensures
 
 returns-11 : tie.Need-returns-11
-unfolding motionOfUnder
+unfolding motion_of_under
 returns-11 c = rw c.before.enum-told11.given.1 c.space4.ensures
 
 returns-12 : tie.Need-returns-12
-unfolding motionOfUnder
+unfolding motion_of_under
 returns-12 c = rw (c.enum-told12.given.1, c.before.before.rest2.ensures, c.before.before.before.plain-end2.ensures)
 
 returns-13 : tie.Need-returns-13
-unfolding motionOfUnder
+unfolding motion_of_under
 returns-13 c = rw (c.before.enum-told13.given.1, ← c.before.before.before.before.before.before.before.before.lay-here2.ensures) c.lay3.ensures
 
 returns-14 : tie.Need-returns-14
-unfolding motionOfUnder
+unfolding motion_of_under
 returns-14 c = rw (c.before.enum-told14.given.1, ← c.before.before.before.before.before.before.before.lay-here3.ensures) c.lay4.ensures
 
 returns-15 : tie.Need-returns-15
-unfolding motionOfUnder
+unfolding motion_of_under
 returns-15 c = rw (c.before.enum-told15.given.1, ← c.before.before.before.before.before.before.before.before.lay-here2.ensures) c.lay5.ensures
 
 returns-16 : tie.Need-returns-16
-unfolding motionOfUnder
+unfolding motion_of_under
 returns-16 c = rw (c.enum-told16.given.1, c.before.before.before.before.rest.ensures, c.before.before.before.before.before.plain-end.ensures)
 
 returns-17 : tie.Need-returns-17
-unfolding motionOfUnder
+unfolding motion_of_under
 returns-17 c = rw (c.enum-told17.given.1, c.before.before.before.before.rest.ensures, c.before.before.before.before.before.plain-end.ensures)
 
 returns-18 : tie.Need-returns-18
-unfolding motionOfUnder
+unfolding motion_of_under
 returns-18 c = rw (c.enum-told18.given.1, c.before.before.before.before.rest.ensures, c.before.before.before.before.before.plain-end.ensures)
 
 returns-19 : tie.Need-returns-19
-unfolding motionOfUnder
+unfolding motion_of_under
 returns-19 c = rw (c.enum-told19.given.1, c.before.before.before.before.rest.ensures, c.before.before.before.before.before.plain-end.ensures)
 
 returns-20 : tie.Need-returns-20
-unfolding motionOfUnder
+unfolding motion_of_under
 returns-20 c = rw (c.enum-told20.given.1, c.before.before.before.before.rest.ensures, c.before.before.before.before.before.plain-end.ensures)
 
 returns-21 : tie.Need-returns-21
-unfolding motionOfUnder
+unfolding motion_of_under
 returns-21 c = rw (c.enum-told21.given.1, c.before.before.before.before.rest.ensures, c.before.before.before.before.before.plain-end.ensures)
 
 pub move-tape-spec : {M : Type 1} → statement M

@@ -1,7 +1,7 @@
 -- `refuse_characteristics` meets its contract: NBA is set, and the end is of class 3.
 use borrow.Author.Rules.{rules}
-use Rattle.commands.specs.Commands.{refusedCharacteristicsUnder}
-use Rattle.commands.specs.Ends.{motionPlanUnder}
+use Rattle.commands.specs.Commands.{refused_characteristics_under}
+use Rattle.commands.specs.Ends.{motion_plan_under}
 use Rattle.commands.proofs.carried.refuse_characteristics.Statement.{statement}
 use Rattle.commands.proofs.carried.refuse_characteristics.Tie as tie
 
@@ -12,7 +12,7 @@ told-course-requires : tie.Need-told-course-requires
 told-course-requires c κs = search rules
 
 returns : tie.Need-returns
-unfolding refusedCharacteristicsUnder motionPlanUnder
+unfolding refused_characteristics_under motion_plan_under
 returns c = rw (← c.before.rest.ensures) c.told-course.ensures
 
 pub refuse-characteristics-spec : {M : Type 1} → statement M

@@ -1,12 +1,12 @@
 -- `release` meets its contract: an end that is not told, of the unit with its IE.
 use mathlib.Core.Path.{refl}
 use Rattle.commands.specs.Commands.{released}
-use Rattle.commands.specs.Ends.{planByUnder, planOfUnder}
+use Rattle.commands.specs.Ends.{plan_by_under, plan_of_under}
 use Rattle.commands.proofs.carried.release.Statement.{statement}
 use Rattle.commands.proofs.carried.release.Tie as tie
 
 returns : tie.Need-returns
-unfolding released planOfUnder planByUnder
+unfolding released plan_of_under plan_by_under
 returns c = refl
 
 pub release_spec : {M : Type 1} → statement M

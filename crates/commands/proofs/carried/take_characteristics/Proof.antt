@@ -1,7 +1,7 @@
 -- `take_characteristics` meets its contract: NBA is clear, and all are taken.
 use borrow.Author.Rules.{rules}
-use Rattle.commands.specs.Commands.{takenCharacteristicsUnder}
-use Rattle.commands.specs.Ends.{motionPlanUnder}
+use Rattle.commands.specs.Commands.{taken_characteristics_under}
+use Rattle.commands.specs.Ends.{motion_plan_under}
 use Rattle.commands.proofs.carried.take_characteristics.Statement.{statement}
 use Rattle.commands.proofs.carried.take_characteristics.Tie as tie
 
@@ -15,7 +15,7 @@ told-course-requires : tie.Need-told-course-requires
 told-course-requires c κs = search rules
 
 returns : tie.Need-returns
-unfolding takenCharacteristicsUnder motionPlanUnder
+unfolding taken_characteristics_under motion_plan_under
 returns c = rw (← c.before.before.plain-end.ensures, ← c.before.rest.ensures) c.told-course.ensures
 
 pub take-characteristics-spec : {M : Type 1} → statement M

@@ -1,7 +1,7 @@
 -- `unload` meets its contract: a plain end at block 0, off line.
 use borrow.Author.Rules.{rules}
-use Rattle.commands.specs.Commands.{unloadedUnder}
-use Rattle.commands.specs.Ends.{motionPlanUnder}
+use Rattle.commands.specs.Commands.{unloaded_under}
+use Rattle.commands.specs.Ends.{motion_plan_under}
 use Rattle.commands.proofs.carried.unload.Statement.{statement}
 use Rattle.commands.proofs.carried.unload.Tie as tie
 
@@ -15,7 +15,7 @@ told-course-requires : tie.Need-told-course-requires
 told-course-requires c κs = search rules
 
 returns : tie.Need-returns
-unfolding unloadedUnder motionPlanUnder
+unfolding unloaded_under motion_plan_under
 returns c = rw (← c.before.before.plain-end.ensures, ← c.before.rest.ensures) c.told-course.ensures
 
 pub unload-spec : {M : Type 1} → statement M

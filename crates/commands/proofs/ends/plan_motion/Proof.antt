@@ -1,6 +1,6 @@
 -- `plan_motion` meets its contract: an arm for an end and one for a fault.
 use borrow.Author.Rules.{rules}
-use Rattle.commands.specs.Ends.{motionPlanUnder}
+use Rattle.commands.specs.Ends.{motion_plan_under}
 use Rattle.commands.proofs.ends.plan_motion.Statement.{statement}
 use Rattle.commands.proofs.ends.plan_motion.Tie as tie
 
@@ -17,11 +17,11 @@ still-plan-requires : tie.Need-still-plan-requires
 still-plan-requires c κs = search rules
 
 returns : tie.Need-returns
-unfolding motionPlanUnder
+unfolding motion_plan_under
 returns c = rw c.before.before.m.given.1 c.tell.ensures
 
 returns-2 : tie.Need-returns-2
-unfolding motionPlanUnder
+unfolding motion_plan_under
 returns-2 c = rw c.before.before.m2.given.1 c.still-plan.ensures
 
 pub plan-motion-spec : {M : Type 1} → statement M

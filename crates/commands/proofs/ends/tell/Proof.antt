@@ -1,6 +1,6 @@
 -- `tell` meets its contract: the unit is the ended one that the CPU owns, and the message is made of it.
 use borrow.Author.Rules.{rules}
-use Rattle.commands.specs.Ends.{ended, toldUnder, toldUnit}
+use Rattle.commands.specs.Ends.{ended, told_under, told_unit}
 use Rattle.commands.proofs.ends.tell.Statement.{statement}
 use Rattle.commands.proofs.ends.tell.Tie as tie
 
@@ -17,7 +17,7 @@ message-of-requires : tie.Need-message-of-requires
 message-of-requires c κs = search rules
 
 returns : tie.Need-returns
-unfolding ended toldUnder toldUnit
+unfolding ended told_under told_unit
 returns c = rw (c.before.message-of.ensures, c.before.before.status-of.ensures, c.before.before.before.before.ended-unit.ensures, c.before.before.before.before.before.laid-blocks.ensures.0)
 
 pub tell-spec : {M : Type 1} → statement M

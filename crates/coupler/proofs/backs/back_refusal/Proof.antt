@@ -1,6 +1,6 @@
 -- `back_refusal` meets its contract: the refusals by the looks at four are those over the row.
 use mathlib.Core.Path.{◌∙◌}
-use Rattle.worlds.proofs.Looking.{looks-refused}
+use Rattle.worlds.proofs.Looking.{looks_refused}
 use borrow.Author.Rules.{rules}
 use Rattle.coupler.proofs.backs.back_refusal.Statement.{statement}
 use Rattle.coupler.proofs.backs.back_refusal.Tie as tie
@@ -25,7 +25,7 @@ returns c =
     let s = c.before.before.before.before.before.before in
     let a = s.args in
     c.looks-refusal.ensures
-    ∙ rw (c.before.before.before.before.look-of.ensures, c.before.before.before.look-of2.ensures, c.before.before.look-of3.ensures, c.before.look-of4.ensures) (looks-refused a.c a.n a.s0 a.s1 a.s2 a.s3 _ _ _)
+    ∙ rw (c.before.before.before.before.look-of.ensures, c.before.before.before.look-of2.ensures, c.before.before.look-of3.ensures, c.before.look-of4.ensures) (looks_refused a.c a.n a.s0 a.s1 a.s2 a.s3 _ _ _)
 
 pub back-refusal-spec : {M : Type 1} → statement M
 back-refusal-spec =

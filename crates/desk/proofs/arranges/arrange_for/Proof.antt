@@ -1,5 +1,5 @@
 -- `arrange_for` is its definition, for each such line.
-use Rattle.desk.specs.Arranges.{arrangedFor}
+use Rattle.desk.specs.Arranges.{arranged_for}
 use borrow.Author.Rules.{rules}
 use Rattle.desk.proofs.arranges.arrange_for.Statement.{statement}
 use Rattle.desk.proofs.arranges.arrange_for.Tie as tie
@@ -47,31 +47,31 @@ give-reel-requires : tie.Need-give-reel-requires
 give-reel-requires c κs = search rules
 
 returns : tie.Need-returns
-unfolding arrangedFor
+unfolding arranged_for
 returns c = rw c.before.enum_told.given.1 c.start-case.ensures
 
 returns-2 : tie.Need-returns-2
-unfolding arrangedFor
+unfolding arranged_for
 returns-2 c = rw c.before.before.a.given.1 c.resize.ensures
 
 returns-3 : tie.Need-returns-3
-unfolding arrangedFor
+unfolding arranged_for
 returns-3 c = rw c.before.before.a2.given.1 c.cut-to.ensures
 
 returns-4 : tie.Need-returns-4
-unfolding arrangedFor
+unfolding arranged_for
 returns-4 c = rw c.before.enum-told2.given.1 c.uncut.ensures
 
 returns-5 : tie.Need-returns-5
-unfolding arrangedFor
+unfolding arranged_for
 returns-5 c = rw c.before.before.a3.given.1 c.set.ensures
 
 returns-6 : tie.Need-returns-6
-unfolding arrangedFor
+unfolding arranged_for
 returns-6 c = rw c.before.before.a4.given.1 c.row_of.ensures
 
 returns-7 : tie.Need-returns-7
-unfolding arrangedFor
+unfolding arranged_for
 returns-7 c = rw c.before.before.a5.given.1 c.give-reel.ensures
 
 pub arrange-for-spec : {M : Type 1} → statement M

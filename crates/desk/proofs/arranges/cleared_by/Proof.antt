@@ -1,5 +1,5 @@
 -- `cleared_by` is its definition, for each such line.
-use Rattle.desk.specs.Arranges.{clearedBy}
+use Rattle.desk.specs.Arranges.{cleared_by}
 use borrow.Author.Rules.{rules}
 use Rattle.desk.proofs.arranges.cleared_by.Statement.{statement}
 use Rattle.desk.proofs.arranges.cleared_by.Tie as tie
@@ -47,31 +47,31 @@ reel-span-requires : tie.Need-reel-span-requires
 reel-span-requires c κs = search rules
 
 returns : tie.Need-returns
-unfolding clearedBy
+unfolding cleared_by
 returns c = rw c.before.enum_told.given.1 c.whole-span.ensures
 
 returns-2 : tie.Need-returns-2
-unfolding clearedBy
+unfolding cleared_by
 returns-2 c = rw c.before.before.a.given.1 c.resized-span.ensures
 
 returns-3 : tie.Need-returns-3
-unfolding clearedBy
+unfolding cleared_by
 returns-3 c = rw c.before.enum-told2.given.1 c.no_span.ensures
 
 returns-4 : tie.Need-returns-4
-unfolding clearedBy
+unfolding cleared_by
 returns-4 c = rw c.before.enum-told3.given.1 c.no-span2.ensures
 
 returns-5 : tie.Need-returns-5
-unfolding clearedBy
+unfolding cleared_by
 returns-5 c = rw c.before.enum-told4.given.1 c.no-span3.ensures
 
 returns-6 : tie.Need-returns-6
-unfolding clearedBy
+unfolding cleared_by
 returns-6 c = rw c.before.enum-told5.given.1 c.no-span4.ensures
 
 returns-7 : tie.Need-returns-7
-unfolding clearedBy
+unfolding cleared_by
 returns-7 c = rw c.before.before.a2.given.1 c.reel-span.ensures
 
 pub cleared-by-spec : {M : Type 1} → statement M

@@ -1,7 +1,7 @@
 -- `reel_span` is its definition.
 use borrow.Author.Tests.{le-leb, le-ltb, lt-leb, lt-ltb}
 use native.Mathlib.Omega.{arith}
-use Rattle.desk.specs.Arranges.{reelSpan}
+use Rattle.desk.specs.Arranges.{reel_span}
 use borrow.Author.Rules.{rules}
 use Rattle.desk.proofs.arranges.reel_span.Statement.{statement}
 use Rattle.desk.proofs.arranges.reel_span.Tie as tie
@@ -10,14 +10,14 @@ no-span-requires : tie.Need-no-span-requires
 no-span-requires c κs = search rules
 
 returns : tie.Need-returns
-unfolding reelSpan
+unfolding reel_span
 returns c = rw (le-leb 5 c.before.before.args.u (omega arith)) c.no_span.ensures
 
 no-span-requires-2 : tie.Need-no-span-requires-2
 no-span-requires-2 c κs = search rules
 
 returns-2 : tie.Need-returns-2
-unfolding reelSpan
+unfolding reel_span
 returns-2 c = rw (lt-leb 5 c.before.before.before.args.u (omega arith), lt-ltb 131072 c.before.before.before.args.n (omega arith)) c.no-span2.ensures
 
 mul-s : tie.Need-overflow-mul-s
@@ -45,7 +45,7 @@ add-t17 : tie.Need-overflow-add-t17
 add-t17 c = search rules
 
 returns-3 : tie.Need-returns-3
-unfolding reelSpan
+unfolding reel_span
 returns-3 c = rw (lt-leb 5 c.before.before.before.before.before.args.u (omega arith), le-ltb 131072 c.before.before.before.before.before.args.n (omega arith), c.before.least.ensures, c.least2.ensures)
 
 pub reel-span-spec : {M : Type 1} → statement M

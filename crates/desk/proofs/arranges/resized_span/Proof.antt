@@ -1,5 +1,5 @@
 -- `resized_span` is its definition.
-use Rattle.desk.specs.Arranges.{resizedSpan}
+use Rattle.desk.specs.Arranges.{resized_span}
 use borrow.Author.Rules.{rules}
 use Rattle.desk.proofs.arranges.resized_span.Statement.{statement}
 use Rattle.desk.proofs.arranges.resized_span.Tie as tie
@@ -14,14 +14,14 @@ no-span-requires : tie.Need-no-span-requires
 no-span-requires c κs = search rules
 
 returns : tie.Need-returns
-unfolding resizedSpan
+unfolding resized_span
 returns c = let e = rw c.before.before.before.unit-room.ensures at c.before.before.beyond.ensures in rw (← e, c.before.if1.true) c.no_span.ensures
 
 whole-span-requires : tie.Need-whole-span-requires
 whole-span-requires c κs = search rules
 
 returns-2 : tie.Need-returns-2
-unfolding resizedSpan
+unfolding resized_span
 returns-2 c = let e = rw c.before.before.before.unit-room.ensures at c.before.before.beyond.ensures in rw (← e, c.before.if1.false) c.whole-span.ensures
 
 pub resized-span-spec : {M : Type 1} → statement M

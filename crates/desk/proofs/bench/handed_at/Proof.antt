@@ -1,5 +1,5 @@
 -- `handed_at` is its definition.
-use Rattle.desk.specs.Benches.{handedAt}
+use Rattle.desk.specs.Benches.{handed_at}
 use borrow.Author.Rules.{rules}
 use Rattle.desk.proofs.bench.handed_at.Statement.{statement}
 use Rattle.desk.proofs.bench.handed_at.Tie as tie
@@ -20,7 +20,7 @@ either-requires-4 : tie.Need-either-requires-4
 either-requires-4 c κs = search rules
 
 returns : tie.Need-returns
-unfolding handedAt
+unfolding handed_at
 returns c = rw (c.before.before.before.before.either.ensures, c.before.before.before.either2.ensures, c.before.either3.ensures, c.either4.ensures, c.before.before.before.before.before.before.before.before.sizes-at.ensures)
 
 pub handed-at-spec : {M : Type 1} → statement M

@@ -1,6 +1,6 @@
 -- `told_at` is its definition: a unit that is present has a station.
 use native.Mathlib.Omega.{arith}
-use Rattle.desk.specs.Benches.{toldAt}
+use Rattle.desk.specs.Benches.{told_at}
 use Rattle.desk.proofs.Present.{present}
 use borrow.Author.Rules.{rules}
 use Rattle.desk.proofs.bench.told_at.Statement.{statement}
@@ -16,7 +16,7 @@ session-over-requires : tie.Need-session-over-requires
 session-over-requires c κs = search rules
 
 returns : tie.Need-returns
-unfolding toldAt
+unfolding told_at
 returns c = rw (← c.before.before.before.absent.ensures, c.before.before.if1.true, c.session-over.ensures, c.before.no-transport.ensures)
 
 mul-s : tie.Need-overflow-mul-s
@@ -29,7 +29,7 @@ session-over-requires-2 : tie.Need-session-over-requires-2
 session-over-requires-2 c κs = search rules
 
 returns-2 : tie.Need-returns-2
-unfolding toldAt
+unfolding told_at
 returns-2 c = rw (← c.before.before.before.before.absent.ensures, c.before.before.before.if1.false, c.session-over2.ensures)
 
 pub told-at-spec : {M : Type 1} → statement M

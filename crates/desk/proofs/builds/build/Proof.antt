@@ -5,7 +5,7 @@ use native.Mathlib.Nat.{sub-zero}
 use native.Mathlib.Omega.{arith}
 use lib.ListN.{length-take}
 use lib.Seq.{sets}
-use Rattle.lists.proofs.Stores.{put-sets}
+use Rattle.lists.proofs.Stores.{put_sets}
 use Rattle.desk.specs.Turns.{settled}
 use borrow.Author.Rules.{rules}
 use Rattle.desk.proofs.builds.build.Statement.{statement}
@@ -54,7 +54,7 @@ returns c =
     let r = c.before.before.before.before.before.before.before.before.least2 in
     let t = c.before.before.before.before.before.build-at in
     let e = rw (sub-zero m.result, sub-zero r.result, m.ensures, r.ensures) at t.ensures in
-    (c.settle.ensures ∙ ap (settled a.d) e.0, (put-sets 0 (m.result - 0) a.mem.now t.new.1.1.1.1.0 (omega (arith, t.auto, length-take (m.result - 0) a.mem.now)) (omega arith) ∙ ap (sets a.mem.now 0) e.1.0, put-sets 0 (r.result - 0) a.reel.now t.new.1.1.1.1.1.0 (omega (arith, t.auto, length-take (r.result - 0) a.reel.now)) (omega arith) ∙ ap (sets a.reel.now 0) e.1.1))
+    (c.settle.ensures ∙ ap (settled a.d) e.0, (put_sets 0 (m.result - 0) a.mem.now t.new.1.1.1.1.0 (omega (arith, t.auto, length-take (m.result - 0) a.mem.now)) (omega arith) ∙ ap (sets a.mem.now 0) e.1.0, put_sets 0 (r.result - 0) a.reel.now t.new.1.1.1.1.1.0 (omega (arith, t.auto, length-take (r.result - 0) a.reel.now)) (omega arith) ∙ ap (sets a.reel.now 0) e.1.1))
 
 pub build-spec : {M : Type 1} → statement M
 build-spec =

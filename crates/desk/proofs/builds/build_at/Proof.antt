@@ -1,7 +1,7 @@
 -- `build_at` meets its contract, for each such line.
 use mathlib.Core.Path.{refl}
 use native.Mathlib.Nat.{sub-zero}
-use Rattle.desk.specs.Builds.{builtAnswer, builtMemory, builtReel}
+use Rattle.desk.specs.Builds.{built_answer, built_memory, built_reel}
 use borrow.Author.Rules.{rules}
 use Rattle.desk.proofs.builds.build_at.Statement.{statement}
 use Rattle.desk.proofs.builds.build_at.Tie as tie
@@ -70,7 +70,7 @@ same_length : tie.Need-same-length
 same_length c = search rules
 
 returns : tie.Need-returns
-unfolding builtAnswer builtMemory builtReel
+unfolding built_answer built_memory built_reel
 returns c =
     let e = rw (sub-zero c.before.before.before.before.before.before.before.before.before.before.before.args.n) at c.before.before.poke.ensures in
     rw c.before.before.before.before.before.before.b.given.1 (e.0, (e.1, refl))
@@ -79,14 +79,14 @@ same-length-2 : tie.Need-same-length-2
 same-length-2 c = search rules
 
 returns-2 : tie.Need-returns-2
-unfolding builtAnswer builtMemory builtReel
+unfolding built_answer built_memory built_reel
 returns-2 c = rw c.before.before.before.before.before.b2.given.1 (c.before.before.poke-word.ensures.0, (c.before.before.poke-word.ensures.1, refl))
 
 same-length-3 : tie.Need-same-length-3
 same-length-3 c = search rules
 
 returns-3 : tie.Need-returns-3
-unfolding builtAnswer builtMemory builtReel
+unfolding built_answer built_memory built_reel
 returns-3 c =
     let e = rw (sub-zero c.before.before.before.before.before.before.before.before.before.before.before.args.n) at c.before.before.poke2.ensures in
     rw c.before.before.before.before.before.before.b3.given.1 (e.0, (refl, e.1))
@@ -95,28 +95,28 @@ same-length-4 : tie.Need-same-length-4
 same-length-4 c = search rules
 
 returns-4 : tie.Need-returns-4
-unfolding builtAnswer builtMemory builtReel
+unfolding built_answer built_memory built_reel
 returns-4 c = rw c.before.before.before.before.before.b4.given.1 (c.before.before.fix-sum.ensures.0, (refl, c.before.before.fix-sum.ensures.1))
 
 same-length-5 : tie.Need-same-length-5
 same-length-5 c = search rules
 
 returns-5 : tie.Need-returns-5
-unfolding builtAnswer builtMemory builtReel
+unfolding built_answer built_memory built_reel
 returns-5 c = rw c.before.before.before.before.enum_told.given.1 (c.before.before.lay-bytes.ensures.0, (refl, c.before.before.lay-bytes.ensures.1))
 
 same-length-6 : tie.Need-same-length-6
 same-length-6 c = search rules
 
 returns-6 : tie.Need-returns-6
-unfolding builtAnswer builtMemory builtReel
+unfolding built_answer built_memory built_reel
 returns-6 c = rw c.before.before.before.before.enum-told2.given.1 (c.before.before.lay-single.ensures.0, (refl, c.before.before.lay-single.ensures.1))
 
 same-length-7 : tie.Need-same-length-7
 same-length-7 c = search rules
 
 returns-7 : tie.Need-returns-7
-unfolding builtAnswer builtMemory builtReel
+unfolding built_answer built_memory built_reel
 returns-7 c = rw c.before.before.before.before.enum-told3.given.1 (c.before.before.lay-single2.ensures.0, (refl, c.before.before.lay-single2.ensures.1))
 
 pub build-at-spec : {M : Type 1} → statement M

@@ -1,8 +1,8 @@
 -- `fix_sum` meets its contract: the block is there, or nothing is stored.
 use native.Mathlib.Omega.{arith}
 use lib.Seq.{sets}
-use Rattle.desk.specs.Builds.{checkBytes, checkPlace}
-use Rattle.desk.proofs.Built.{block-done, block-not, check-put}
+use Rattle.desk.specs.Builds.{check_bytes, check_place}
+use Rattle.desk.proofs.Built.{block_done, block_not, check_put}
 use borrow.Author.Rules.{rules}
 use Rattle.desk.proofs.builds.fix_sum.Statement.{statement}
 use Rattle.desk.proofs.builds.fix_sum.Tie as tie
@@ -10,7 +10,7 @@ use Rattle.desk.proofs.builds.fix_sum.Tie as tie
 returns : tie.Need-returns
 returns c =
     let a = c.before.before.args in
-    block-not a.reel.now (sets a.reel.now (checkPlace a.k) (checkBytes a.reel.now a.k)) a.k a.p (omega arith)
+    block_not a.reel.now (sets a.reel.now (check_place a.k) (check_bytes a.reel.now a.k)) a.k a.p (omega arith)
 
 mul-start : tie.Need-overflow-mul-start
 mul-start c = search rules
@@ -42,7 +42,7 @@ same_length c = search rules
 returns-2 : tie.Need-returns-2
 returns-2 c =
     let a = c.before.before.before.before.before.before.before.before.before.args in
-    block-done a.reel.now (sets a.reel.now (checkPlace a.k) (checkBytes a.reel.now a.k)) a.k a.p _ (omega arith) (check-put a.reel.now _ a.k _ c.before.before.before.before.word_sum.ensures.0 c.before.before.put_word.ensures)
+    block_done a.reel.now (sets a.reel.now (check_place a.k) (check_bytes a.reel.now a.k)) a.k a.p _ (omega arith) (check_put a.reel.now _ a.k _ c.before.before.before.before.word_sum.ensures.0 c.before.before.put_word.ensures)
 
 pub fix-sum-spec : {M : Type 1} → statement M
 fix-sum-spec =

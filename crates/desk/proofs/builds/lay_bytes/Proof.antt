@@ -2,8 +2,8 @@
 use native.Mathlib.Omega.{arith}
 use lib.ListN.{take}
 use Rattle.tape.specs.Objects.{Object}
-use Rattle.desk.specs.Builds.{laidAt}
-use Rattle.desk.proofs.Built.{laid-front, record-done, record-long, record-odd, record-out, record-unheld}
+use Rattle.desk.specs.Builds.{laid_at}
+use Rattle.desk.proofs.Built.{laid_front, record_done, record_long, record_odd, record_out, record_unheld}
 use borrow.Author.Rules.{rules}
 use Rattle.desk.proofs.builds.lay_bytes.Statement.{statement}
 use Rattle.desk.proofs.builds.lay_bytes.Tie as tie
@@ -11,17 +11,17 @@ use Rattle.desk.proofs.builds.lay_bytes.Tie as tie
 returns : tie.Need-returns
 returns c =
     let a = c.before.before.before.args in
-    record-long a.reel.now a.«data».now (laidAt a.reel.now a.p (Object.record_of (take a.n a.«data».now))) a.p a.n (omega arith)
+    record_long a.reel.now a.«data».now (laid_at a.reel.now a.p (Object.record_of (take a.n a.«data».now))) a.p a.n (omega arith)
 
 returns-2 : tie.Need-returns-2
 returns-2 c =
     let a = c.before.before.before.before.args in
-    record-unheld a.reel.now a.«data».now (laidAt a.reel.now a.p (Object.record_of (take a.n a.«data».now))) a.p a.n (omega arith) (omega arith)
+    record_unheld a.reel.now a.«data».now (laid_at a.reel.now a.p (Object.record_of (take a.n a.«data».now))) a.p a.n (omega arith) (omega arith)
 
 returns-3 : tie.Need-returns-3
 returns-3 c =
     let a = c.before.before.before.before.before.args in
-    record-odd a.reel.now a.«data».now (laidAt a.reel.now a.p (Object.record_of (take a.n a.«data».now))) a.p a.n (omega arith) (omega arith) (λ e. omega arith)
+    record_odd a.reel.now a.«data».now (laid_at a.reel.now a.p (Object.record_of (take a.n a.«data».now))) a.p a.n (omega arith) (omega arith) (λ e. omega arith)
 
 pieces-requires : tie.Need-pieces-requires
 pieces-requires c κs = search rules
@@ -29,12 +29,12 @@ pieces-requires c κs = search rules
 returns-4 : tie.Need-returns-4
 returns-4 c =
     let a = c.before.before.before.before.before.before.before.args in
-    record-out a.reel.now a.«data».now (laidAt a.reel.now a.p (Object.record_of (take a.n a.«data».now))) a.p a.n (omega arith) (omega arith) (omega arith) (omega arith)
+    record_out a.reel.now a.«data».now (laid_at a.reel.now a.p (Object.record_of (take a.n a.«data».now))) a.p a.n (omega arith) (omega arith) (omega arith) (omega arith)
 
 returns-5 : tie.Need-returns-5
 returns-5 c =
     let a = c.before.before.before.before.before.before.before.before.args in
-    record-out a.reel.now a.«data».now (laidAt a.reel.now a.p (Object.record_of (take a.n a.«data».now))) a.p a.n (omega arith) (omega arith) (omega arith) (omega arith)
+    record_out a.reel.now a.«data».now (laid_at a.reel.now a.p (Object.record_of (take a.n a.«data».now))) a.p a.n (omega arith) (omega arith) (omega arith) (omega arith)
 
 lay-record-requires : tie.Need-lay-record-requires
 lay-record-requires c κs = search rules
@@ -48,7 +48,7 @@ same_length c = search rules
 returns-6 : tie.Need-returns-6
 returns-6 c =
     let a = c.before.before.before.before.before.before.before.before.before.before.before.before.args in
-    rw c.before.before.before.before.before.before.pieces.ensures (record-done a.reel.now a.«data».now (laidAt a.reel.now a.p (Object.record_of (take a.n a.«data».now))) a.p a.n _ (omega arith) (omega arith) (omega arith) (omega arith) (laid-front a.reel.now a.«data».now _ a.p a.n (omega arith) c.before.before.lay-record.ensures))
+    rw c.before.before.before.before.before.before.pieces.ensures (record_done a.reel.now a.«data».now (laid_at a.reel.now a.p (Object.record_of (take a.n a.«data».now))) a.p a.n _ (omega arith) (omega arith) (omega arith) (omega arith) (laid_front a.reel.now a.«data».now _ a.p a.n (omega arith) c.before.before.lay-record.ensures))
 
 pub lay-bytes-spec : {M : Type 1} → statement M
 lay-bytes-spec =

@@ -2,7 +2,7 @@
 use native.Mathlib.Omega.{arith}
 use borrow.Author.Tests.{le-ltb, lt-ltb}
 use lib.ListN.{length}
-use Rattle.desk.specs.Tables.{givenBytes, givenTurn}
+use Rattle.desk.specs.Tables.{given_bytes, given_turn}
 use borrow.Author.Rules.{rules}
 use Rattle.desk.proofs.tables.give_table.Statement.{statement}
 use Rattle.desk.proofs.tables.give_table.Tie as tie
@@ -11,7 +11,7 @@ wrong-requires : tie.Need-wrong-requires
 wrong-requires c κs = search rules
 
 returns : tie.Need-returns
-unfolding givenBytes givenTurn
+unfolding given_bytes given_turn
 returns c =
     let a = c.before.before.before.args in
     (rw (lt-ltb (length a.table.now) a.n (omega arith)) c.wrong.ensures, rw (lt-ltb (length a.table.now) a.n (omega arith)))
@@ -26,7 +26,7 @@ same_length : tie.Need-same-length
 same_length c = search rules
 
 returns-2 : tie.Need-returns-2
-unfolding givenBytes givenTurn
+unfolding given_bytes given_turn
 returns-2 c =
     let a = c.before.before.before.before.before.before.before.before.args in
     (rw (le-ltb (length a.table.now) a.n (omega arith)) c.unsaid.ensures, rw (le-ltb (length a.table.now) a.n (omega arith)) c.before.before.before.before.wipe.ensures)

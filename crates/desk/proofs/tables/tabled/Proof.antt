@@ -1,6 +1,6 @@
 -- `tabled` meets its contract, for each such line.
 use native.Mathlib.Nat.{sub-zero}
-use Rattle.desk.specs.Tables.{tabledBytes, tabledTurn}
+use Rattle.desk.specs.Tables.{tabled_bytes, tabled_turn}
 use borrow.Author.Rules.{rules}
 use Rattle.desk.proofs.tables.tabled.Statement.{statement}
 use Rattle.desk.proofs.tables.tabled.Tie as tie
@@ -30,14 +30,14 @@ same_length : tie.Need-same-length
 same_length c = search rules
 
 returns : tie.Need-returns
-unfolding tabledBytes tabledTurn
+unfolding tabled_bytes tabled_turn
 returns c = rw c.before.before.before.before.before.t.given.1 c.before.before.give-table.ensures
 
 same-length-2 : tie.Need-same-length-2
 same-length-2 c = search rules
 
 returns-2 : tie.Need-returns-2
-unfolding tabledBytes tabledTurn
+unfolding tabled_bytes tabled_turn
 returns-2 c =
     let e = rw (sub-zero c.before.before.before.before.before.before.before.before.before.before.args.n) at c.before.before.poke-table.ensures in
     rw c.before.before.before.before.before.before.t2.given.1 e

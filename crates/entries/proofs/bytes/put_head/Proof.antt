@@ -6,13 +6,13 @@ use Prim.Native.Nat.{◌≤◌, ◌-◌, ◌+◌, ◌*◌}
 use native.Mathlib.Nat.{add-zero}
 use lib.ListN.{length, drop}
 use lib.Seq.{sets}
-use Rattle.entries.specs.Bytes.{numbersBytes}
-use Rattle.entries.proofs.Turns.{put-end, put-turn}
+use Rattle.entries.specs.Bytes.{numbers_bytes}
+use Rattle.entries.proofs.Turns.{put_end, put_turn}
 use Rattle.entries.proofs.bytes.put_head.Statement.{statement}
 use Rattle.entries.proofs.bytes.put_head.Tie as tie
 
 abbrev invariant-loop : tie.invariant-loop
-invariant-loop b₀ at n i₀ b i = (i ≤ 31) × (length b ≡ length b₀) × (sets b (at + 4 * i) (numbersBytes (drop i n)) ≡ sets b₀ at (numbersBytes n))
+invariant-loop b₀ at n i₀ b i = (i ≤ 31) × (length b ≡ length b₀) × (sets b (at + 4 * i) (numbers_bytes (drop i n)) ≡ sets b₀ at (numbers_bytes n))
 
 abbrev decreases-loop : tie.decreases-loop
 decreases-loop b₀ at n i₀ b i = 31 - i
@@ -46,7 +46,7 @@ loop-again c =
     let p = c.before.before in
     let l = p.before.before.before in
     let a = l.before.before.args in
-    (omega arith, search rules, rw p.put-number.ensures (put-turn l.loop.b a.t3 a.at l.loop.i (omega arith) ∙ l.loop.invariant.2))
+    (omega arith, search rules, rw p.put-number.ensures (put_turn l.loop.b a.t3 a.at l.loop.i (omega arith) ∙ l.loop.invariant.2))
 
 same_length : tie.Need-same-length invariant-loop decreases-loop
 same_length c = search rules
@@ -55,7 +55,7 @@ returns : tie.Need-returns invariant-loop decreases-loop
 returns c =
     let l = c.before in
     let a = l.before.before.args in
-    sym (put-end l.loop.b a.t3 (a.at + 4 * l.loop.i) l.loop.i (omega arith)) ∙ l.loop.invariant.2
+    sym (put_end l.loop.b a.t3 (a.at + 4 * l.loop.i) l.loop.i (omega arith)) ∙ l.loop.invariant.2
 
 pub put-head-spec : {M : Type 1} → statement M
 put-head-spec =

@@ -1,7 +1,7 @@
 -- `enter` meets its contract: the length, what is saved and the head join.
 use mathlib.Core.Path.{refl}
 use native.Mathlib.Omega.{arith}
-use Rattle.entries.proofs.Joined.{entry-entered, entry_whole}
+use Rattle.entries.proofs.Joined.{entry_entered, entry_whole}
 use borrow.Author.Rules.{rules}
 use Rattle.entries.proofs.entering.enter.Statement.{statement}
 use Rattle.entries.proofs.entering.enter.Tie as tie
@@ -50,7 +50,7 @@ same_length c = search rules
 returns : tie.Need-returns
 returns c =
     let s = c.before.before.before.before.before.before.before.before.before.before.before.before.before.before.before.before.before.before.before in
-    entry-entered s.args.e s.args.mem.now s.args.reel.now s.args.table.now s.args.jrnl.now _ _ s.args.used _ _ _ _ s.requires.0 c.before.before.before.before.before.before.before.before.before.before.before.before.before.saved-length.ensures refl c.before.before.before.before.before.before.before.before.before.before.before.put-number.ensures c.before.before.before.before.before.before.before.save.ensures c.before.before.before.Numbers-of.ensures c.before.before.put-head.ensures
+    entry_entered s.args.e s.args.mem.now s.args.reel.now s.args.table.now s.args.jrnl.now _ _ s.args.used _ _ _ _ s.requires.0 c.before.before.before.before.before.before.before.before.before.before.before.before.before.saved-length.ensures refl c.before.before.before.before.before.before.before.before.before.before.before.put-number.ensures c.before.before.before.before.before.before.before.save.ensures c.before.before.before.Numbers-of.ensures c.before.before.put-head.ensures
 
 pub enter_spec : {M : Type 1} → statement M
 enter_spec =

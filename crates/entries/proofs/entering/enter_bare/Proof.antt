@@ -1,6 +1,6 @@
 -- `enter_bare` meets its contract: the length and the head join.
 use borrow.Author.Rules.{rules}
-use Rattle.entries.proofs.Joined.{bare-entered}
+use Rattle.entries.proofs.Joined.{bare_entered}
 use Rattle.entries.proofs.entering.enter_bare.Statement.{statement}
 use Rattle.entries.proofs.entering.enter_bare.Tie as tie
 
@@ -25,7 +25,7 @@ same_length c = search rules
 returns : tie.Need-returns
 returns c =
     let s = c.before.before.before.before.before.before.before.before.before.before in
-    bare-entered s.args.e s.args.jrnl.now _ _ _ s.args.used s.requires.1 c.before.before.before.before.before.before.before.put-number.ensures c.before.before.before.Numbers-of.ensures c.before.before.put-head.ensures
+    bare_entered s.args.e s.args.jrnl.now _ _ _ s.args.used s.requires.1 c.before.before.before.before.before.before.before.put-number.ensures c.before.before.before.Numbers-of.ensures c.before.before.put-head.ensures
 
 pub enter-bare-spec : {M : Type 1} → statement M
 enter-bare-spec =

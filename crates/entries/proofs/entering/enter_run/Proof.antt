@@ -1,7 +1,7 @@
 -- `enter_run` meets its contract: the length, the run and the head join.
 use mathlib.Core.Path.{refl}
 use borrow.Author.Rules.{rules}
-use Rattle.entries.proofs.Joined.{run-entered}
+use Rattle.entries.proofs.Joined.{run_entered}
 use Rattle.entries.proofs.entering.enter_run.Statement.{statement}
 use Rattle.entries.proofs.entering.enter_run.Tie as tie
 
@@ -44,7 +44,7 @@ same_length c = search rules
 returns : tie.Need-returns
 returns c =
     let s = c.before.before.before.before.before.before.before.before.before.before.before.before.before.before.before in
-    run-entered s.args.e s.args.mem.now s.args.jrnl.now _ _ _ _ s.args.used s.args.at s.args.n _ s.requires.4 s.requires.0 refl c.before.before.before.before.before.before.before.before.before.before.before.put-number.ensures c.before.before.before.before.before.before.before.gather.ensures c.before.before.before.Numbers-of.ensures c.before.before.put-head.ensures
+    run_entered s.args.e s.args.mem.now s.args.jrnl.now _ _ _ _ s.args.used s.args.at s.args.n _ s.requires.4 s.requires.0 refl c.before.before.before.before.before.before.before.before.before.before.before.put-number.ensures c.before.before.before.before.before.before.before.gather.ensures c.before.before.before.Numbers-of.ensures c.before.before.put-head.ensures
 
 pub enter-run-spec : {M : Type 1} → statement M
 enter-run-spec =

@@ -1,5 +1,5 @@
 -- `entry_length` is its definition. The range of `places` lies deep in what is known of the entry, so it is named.
-use Rattle.entries.specs.Entries.{entryLength}
+use Rattle.entries.specs.Entries.{entry_length}
 use borrow.Author.Rules.{rules}
 use Prim.Native.Nat.{◌<◌}
 use native.Mathlib.Omega.{arith}
@@ -17,7 +17,7 @@ add-result c =
     omega (arith, c.saved-length.ensures)
 
 returns : tie.Need-returns
-unfolding entryLength
+unfolding entry_length
 returns c = rw c.saved-length.ensures
 
 pub entry-length-spec : {M : Type 1} → statement M

@@ -1,6 +1,6 @@
 -- `numbers_of` is its definition, number by number.
 use mathlib.Core.List.{[], ◌∷◌}
-use Rattle.entries.specs.Numbers.{numbersOf}
+use Rattle.entries.specs.Numbers.{numbers_of}
 use borrow.Author.Rules.{rules}
 use Rattle.entries.proofs.numbers.numbers_of.Statement.{statement}
 use Rattle.entries.proofs.numbers.numbers_of.Tie as tie
@@ -90,7 +90,7 @@ low-requires-14 : tie.Need-low-requires-14
 low-requires-14 c κs = search rules
 
 returns : tie.Need-returns
-unfolding numbersOf
+unfolding numbers_of
 returns c =
     let d = c.before in
     let c1 = d.before in

@@ -1,5 +1,5 @@
 -- `touched_of` is its definition.
-use Rattle.entries.specs.Numbers.{touchedOf}
+use Rattle.entries.specs.Numbers.{touched_of}
 use borrow.Author.Rules.{rules}
 use Rattle.entries.proofs.numbers.touched_of.Statement.{statement}
 use Rattle.entries.proofs.numbers.touched_of.Tie as tie
@@ -53,7 +53,7 @@ array-read-t38 : tie.Need-array-read-t38
 array-read-t38 c = search rules
 
 returns : tie.Need-returns
-unfolding touchedOf
+unfolding touched_of
 returns c = rw c.place-below.ensures
 
 pub touched-of-spec : {M : Type 1} → statement M

@@ -1,6 +1,6 @@
 -- `bring_entry_back` meets its contract: what it lends is what the entry saved.
 use native.Mathlib.Omega.{arith}
-use Rattle.entries.proofs.Used.{brought-as, saved-lent, saved_read}
+use Rattle.entries.proofs.Used.{brought_as, saved_lent, saved_read}
 use borrow.Author.Rules.{rules}
 use Rattle.entries.proofs.restoring.bring_entry_back.Statement.{statement}
 use Rattle.entries.proofs.restoring.bring_entry_back.Tie as tie
@@ -26,7 +26,7 @@ part-bring-back-end c = search rules
 bring-back-requires : tie.Need-bring-back-requires
 bring-back-requires c κs =
     let s = c.before.before.before.before.before.before.before.before.before in
-    (saved-lent s.args.t s.args.jrnl.now s.args.used _ s.requires.0 s.requires.1 c.before.before.before.before.saved-length.ensures, s.requires.2, s.requires.3)
+    (saved_lent s.args.t s.args.jrnl.now s.args.used _ s.requires.0 s.requires.1 c.before.before.before.before.saved-length.ensures, s.requires.2, s.requires.3)
 
 same_length : tie.Need-same-length
 same_length c = search rules
@@ -40,7 +40,7 @@ same-length-3 c = search rules
 returns : tie.Need-returns
 returns c =
     let s = c.before.before.before.before.before.before.before.before.before.before.before.before.before.before.before.before in
-    brought-as s.args.t _ _ _ _ _ _ _ _ (saved_read s.args.t s.args.jrnl.now s.args.used _ s.requires.0 s.requires.1 c.before.before.before.before.before.before.before.before.before.before.before.saved-length.ensures) c.before.before.before.before.before.before.bring-back.ensures
+    brought_as s.args.t _ _ _ _ _ _ _ _ (saved_read s.args.t s.args.jrnl.now s.args.used _ s.requires.0 s.requires.1 c.before.before.before.before.before.before.before.before.before.before.before.saved-length.ensures) c.before.before.before.before.before.before.bring-back.ensures
 
 pub bring-entry-back-spec : {M : Type 1} → statement M
 bring-entry-back-spec =

@@ -1,6 +1,6 @@
 -- `entry_fits` is its definition.
 use native.Mathlib.Omega.{arith}
-use Rattle.entries.proofs.Fitting.{fit-by, places-in, unfit}
+use Rattle.entries.proofs.Fitting.{fit_by, places_in_lem, unfit}
 use mathlib.Core.Path.{refl}
 use Prim.Native.Nat.{◌<◌}
 use borrow.Author.Rules.{rules}
@@ -22,17 +22,17 @@ returns c = unfit _ _ _ _ _ _ _ _ refl c.before.before.touched-fits.ensures c.if
 saved-length-requires : tie.Need-saved-length-requires
 saved-length-requires c κs =
     let s = c.before.before.before.before.before.before.before.before in
-    places-in s.args.e s.args.used s.args.mounted _ _ s.args.top _ _ refl c.before.before.touched-fits.ensures s.requires c.if1.false
+    places_in_lem s.args.e s.args.used s.args.mounted _ _ s.args.top _ _ refl c.before.before.touched-fits.ensures s.requires c.if1.false
 
 add-result : tie.Need-overflow-add-result
 add-result c =
     let s = c.before.before.before.before.before.before.before.before.before in
-    let i = places-in s.args.e s.args.used s.args.mounted _ _ s.args.top _ _ refl c.before.before.before.touched-fits.ensures s.requires c.before.if1.false in
+    let i = places_in_lem s.args.e s.args.used s.args.mounted _ _ s.args.top _ _ refl c.before.before.before.touched-fits.ensures s.requires c.before.if1.false in
     let small : s.args.e.touched.places < 4294967296 = s.well-formed.0.1.1.1.1.0.1.1.1.1.1.1.1.1.1.1.0.1 in
     omega (arith, c.saved-length.ensures, i.in_memory, i.message-in-memory, i.in-reel, i.sizes.memory-small, i.sizes.reel-small)
 
 returns-2 : tie.Need-returns-2
-returns-2 c = fit-by _ _ _ _ _ _ _ _ refl c.before.before.before.touched-fits.ensures _ c.before.if1.false c.saved-length.ensures
+returns-2 c = fit_by _ _ _ _ _ _ _ _ refl c.before.before.before.touched-fits.ensures _ c.before.if1.false c.saved-length.ensures
 
 pub entry-fits-spec : {M : Type 1} → statement M
 entry-fits-spec =

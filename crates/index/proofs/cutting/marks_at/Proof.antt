@@ -1,13 +1,13 @@
 -- `marks_at` meets its contract.
 use borrow.Author.Rules.{rules}
 use native.Mathlib.Omega.{arith}
-use Rattle.index.specs.Cutting.{marksAt}
-use Rattle.index.proofs.Counted.{mark-counted, none-counted}
+use Rattle.index.specs.Cutting.{marks_at}
+use Rattle.index.proofs.Counted.{mark_counted, none_counted}
 use Rattle.index.proofs.cutting.marks_at.Statement.{statement}
 use Rattle.index.proofs.cutting.marks_at.Tie as tie
 
 returns : tie.Need-returns
-unfolding marksAt
+unfolding marks_at
 returns c = search rules
 
 sub_at : tie.Need-overflow-sub-at
@@ -44,7 +44,7 @@ returns-2 : tie.Need-returns-2
 returns-2 c =
     let b = c.before.before in
     let a = b.before.before.before.before.before.args in
-    mark-counted a.table.now a.reel.now a.m _ _ _ b.before.before.if1.false b.before.number_at.ensures b.number-at2.ensures c.before.kind_at.ensures c.if2.true
+    mark_counted a.table.now a.reel.now a.m _ _ _ b.before.before.if1.false b.before.number_at.ensures b.number-at2.ensures c.before.kind_at.ensures c.if2.true
 
 cast-result-2 : tie.Need-overflow-cast-result-2
 cast-result-2 c = search rules
@@ -53,7 +53,7 @@ returns-3 : tie.Need-returns-3
 returns-3 c =
     let b = c.before.before in
     let a = b.before.before.before.before.before.args in
-    none-counted a.table.now a.reel.now a.m _ _ _ b.before.before.if1.false b.before.number_at.ensures b.number-at2.ensures c.before.kind_at.ensures c.if2.false (omega (arith, b.before.number_at.type-inv))
+    none_counted a.table.now a.reel.now a.m _ _ _ b.before.before.if1.false b.before.number_at.ensures b.number-at2.ensures c.before.kind_at.ensures c.if2.false (omega (arith, b.before.number_at.type-inv))
 
 pub marks-at-spec : {M : Type 1} → statement M
 marks-at-spec =

@@ -2,9 +2,9 @@
 use borrow.Author.Rules.{rules}
 use mathlib.Core.Path.{refl}
 use Prim.Native.Nat.{◌+◌, ◌*◌}
-use Rattle.lists.specs.Fours.{numberBytes}
-use Rattle.lists.proofs.Stores.{sets-at}
-use Rattle.index.specs.Table.{placeLength}
+use Rattle.lists.specs.Fours.{number_bytes}
+use Rattle.lists.proofs.Stores.{sets_at}
+use Rattle.index.specs.Table.{place_length}
 use Rattle.index.proofs.cutting.put_place.Statement.{statement}
 use Rattle.index.proofs.cutting.put_place.Tie as tie
 
@@ -28,8 +28,8 @@ returns c =
     let w = c.before.before in
     let v = w.before.before.before.before in
     let a = v.before.before.before.args in
-    let at = placeLength * a.m in
-    rw (w.put-number2.ensures, v.put-number.ensures) (sets-at (numberBytes a.b) (numberBytes a.k) a.table.now at (at + 4) refl)
+    let at = place_length * a.m in
+    rw (w.put-number2.ensures, v.put-number.ensures) (sets_at (number_bytes a.b) (number_bytes a.k) a.table.now at (at + 4) refl)
 
 pub put-place-spec : {M : Type 1} → statement M
 put-place-spec = tie.close (tie.spec mul_at put-number-requires add-put-number put-number-requires-2 same_length returns)

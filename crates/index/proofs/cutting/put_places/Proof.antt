@@ -6,15 +6,15 @@ use mathlib.Core.Path.{◌≡◌, refl, ap, ◌∙◌}
 use Prim.Native.Nat.{◌+◌, ◌-◌, ◌*◌, ◌≤◌}
 use lib.ListN.{length}
 use lib.Seq.{length-sets, sets}
-use Rattle.index.specs.Table.{placeBytes, placeLength, placesRow}
-use Rattle.index.proofs.Cuts.{row-none-left, row-turn}
+use Rattle.index.specs.Table.{place_bytes, place_length, places_row}
+use Rattle.index.proofs.Cuts.{row_none_left, row_turn}
 use Rattle.index.proofs.cutting.put_places.Statement.{statement}
 use Rattle.index.proofs.cutting.put_places.Tie as tie
 
 abbrev invariant-loop : tie.invariant-loop
 invariant-loop table₀ c b n i₀ table i =
     (i ≤ n)
-    × (sets table (placeLength * (c.place + i)) (placesRow (b + i) c.marks (n - i)) ≡ sets table₀ (placeLength * c.place) (placesRow b c.marks n))
+    × (sets table (place_length * (c.place + i)) (places_row (b + i) c.marks (n - i)) ≡ sets table₀ (place_length * c.place) (places_row b c.marks n))
     × (length table ≡ length table₀)
 
 abbrev decreases-loop : tie.decreases-loop
@@ -46,7 +46,7 @@ loop-again c =
     let p = c.before.before in
     let l = p.before.before.before.before.loop in
     let a = p.before.before.before.before.before.before.args in
-    (omega arith, row-turn l.table _ a.c.place a.b a.c.marks l.i a.n (omega arith) p.put-place.ensures ∙ l.invariant.1, ap length p.put-place.ensures ∙ length-sets l.table (placeLength * (a.c.place + l.i)) (placeBytes (a.b + l.i) a.c.marks) ∙ l.invariant.2)
+    (omega arith, row_turn l.table _ a.c.place a.b a.c.marks l.i a.n (omega arith) p.put-place.ensures ∙ l.invariant.1, ap length p.put-place.ensures ∙ length-sets l.table (place_length * (a.c.place + l.i)) (place_bytes (a.b + l.i) a.c.marks) ∙ l.invariant.2)
 
 same_length : tie.Need-same-length invariant-loop decreases-loop
 same_length c = c.before.loop.invariant.2
@@ -55,7 +55,7 @@ returns : tie.Need-returns invariant-loop decreases-loop
 returns c =
     let l = c.before.loop in
     let a = c.before.before.before.args in
-    row-none-left l.table a.c.place a.b a.c.marks l.i a.n (omega arith) (omega arith) ∙ l.invariant.1
+    row_none_left l.table a.c.place a.b a.c.marks l.i a.n (omega arith) (omega arith) ∙ l.invariant.1
 
 pub put-places-spec : {M : Type 1} → statement M
 put-places-spec =

@@ -1,6 +1,6 @@
 -- `find_block` meets its contract.
 use borrow.Author.Rules.{rules}
-use Rattle.index.proofs.Founds.{block_at, block-beyond, block_none, block-short}
+use Rattle.index.proofs.Founds.{block_at, block_beyond, block_none, block_short}
 use Rattle.index.proofs.finding.find_block.Statement.{statement}
 use Rattle.index.proofs.finding.find_block.Tie as tie
 
@@ -10,13 +10,13 @@ places-requires c κs = search rules
 returns : tie.Need-returns
 returns c =
     let a = c.before.before.before.args in
-    block-short a.table.now a.n a.e a.b _ c.before.places.ensures c.if1.true
+    block_short a.table.now a.n a.e a.b _ c.before.places.ensures c.if1.true
 
 returns-2 : tie.Need-returns-2
 returns-2 c =
     let p = c.before.before in
     let a = p.before.before.args in
-    block-beyond a.table.now a.n a.e a.b _ p.places.ensures c.before.if1.false c.if2.true
+    block_beyond a.table.now a.n a.e a.b _ p.places.ensures c.before.if1.false c.if2.true
 
 add-halve : tie.Need-overflow-add-halve
 add-halve c = search rules

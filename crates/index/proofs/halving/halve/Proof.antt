@@ -4,7 +4,7 @@ use native.Mathlib.Omega.{arith}
 use mathlib.Core.Path.{◌≡◌, sym, ◌∙◌}
 use Prim.Native.Nat.{◌+◌, ◌≤◌}
 use Rattle.index.specs.Halving.{halved, searched}
-use Rattle.index.proofs.Halves.{halved-all, halved-else, halved_none, none_left, turn-before, turn-behind}
+use Rattle.index.proofs.Halves.{halved_all, halved_else, halved_none, none_left, turn_before, turn_behind}
 use Rattle.index.proofs.halving.halve.Statement.{statement}
 use Rattle.index.proofs.halving.halve.Tie as tie
 
@@ -38,13 +38,13 @@ returns-2 : tie.Need-returns-2 invariant-loop decreases-loop
 returns-2 c =
     let b = c.before in
     let a = b.before.before.before.args in
-    (halved-all a.table.now a.field a.v a.n _ b.before.if1.false b.number_at.ensures c.if2.true, omega arith)
+    (halved_all a.table.now a.field a.v a.n _ b.before.if1.false b.number_at.ensures c.if2.true, omega arith)
 
 loop-holds : tie.Need-loop-init invariant-loop decreases-loop
 loop-holds c =
     let b = c.before in
     let a = b.before.before.before.args in
-    (halved-else a.table.now a.field a.v a.n _ b.before.if1.false b.number_at.ensures c.if2.false, omega arith)
+    (halved_else a.table.now a.field a.v a.n _ b.before.if1.false b.number_at.ensures c.if2.false, omega arith)
 
 add_at : tie.Need-overflow-add-at invariant-loop decreases-loop
 add_at c = search rules
@@ -77,7 +77,7 @@ loop-again : tie.Need-loop-preserved invariant-loop decreases-loop
 loop-again c =
     let l = c.before.before.before.loop in
     let a = c.before.before.before.before.before.before.before.before.args in
-    (turn-behind a.table.now a.field a.v l.low l.left (omega arith) (omega arith) ∙ l.invariant.0, omega arith)
+    (turn_behind a.table.now a.field a.v l.low l.left (omega arith) (omega arith) ∙ l.invariant.0, omega arith)
 
 loop-less-2 : tie.Need-loop-smaller-2 invariant-loop decreases-loop
 loop-less-2 c = search rules
@@ -86,7 +86,7 @@ loop-again-2 : tie.Need-loop-preserved-2 invariant-loop decreases-loop
 loop-again-2 c =
     let l = c.before.before.before.loop in
     let a = c.before.before.before.before.before.before.before.before.args in
-    (turn-before a.table.now a.field a.v l.low l.left (omega arith) (omega arith) ∙ l.invariant.0, omega arith)
+    (turn_before a.table.now a.field a.v l.low l.left (omega arith) (omega arith) ∙ l.invariant.0, omega arith)
 
 returns-3 : tie.Need-returns-3 invariant-loop decreases-loop
 returns-3 c =

@@ -1,9 +1,9 @@
 -- `advance` meets its contract: a step for an answer of 0, else nothing changes.
-use Rattle.steps.proofs.Outs.{guarded-goes, guarded-stops}
-use Rattle.steps.proofs.Called.{advance-rests, advance-takes}
-use Rattle.steps.proofs.Readies.{advance-ready}
-use Rattle.worlds.specs.Worlds.{worldOf}
-use Rattle.worlds.specs.Calls.{stepOn, takenBy}
+use Rattle.steps.proofs.Outs.{guarded_goes, guarded_stops}
+use Rattle.steps.proofs.Called.{advance_rests, advance_takes}
+use Rattle.steps.proofs.Readies.{advance_ready}
+use Rattle.worlds.specs.Worlds.{world_of}
+use Rattle.worlds.specs.Calls.{step_on, taken_by}
 use Rattle.worlds.proofs.Passing.{passed, plannable}
 use mathlib.Core.Path.{◌∙◌, refl, sym}
 use borrow.Author.Rules.{rules}
@@ -17,13 +17,13 @@ refused-requires : tie.Need-refused-requires
 refused-requires c κs = search rules
 
 returns : tie.Need-returns
-unfolding stepOn
-returns c = guarded-stops _ _ _ _ _ _ _ _ _ c.before.before.check.ensures c.before.if1.true c.refused.ensures.0 c.refused.ensures.1
+unfolding step_on
+returns c = guarded_stops _ _ _ _ _ _ _ _ _ c.before.before.check.ensures c.before.if1.true c.refused.ensures.0 c.refused.ensures.1
 
 plan-advance-requires : tie.Need-plan-advance-requires
 plan-advance-requires c κs =
     let s = c.before.before.before.before.before.before.before.before.before in
-    plannable (worldOf s.args.k s.args.s s.args.mem.now s.args.reel.now s.args.table.now s.args.jrnl.now) _ (passed _ _ _ _ (sym c.before.before.before.before.check.ensures ∙ c.before.before.before.if1.false))
+    plannable (world_of s.args.k s.args.s s.args.mem.now s.args.reel.now s.args.table.now s.args.jrnl.now) _ (passed _ _ _ _ (sym c.before.before.before.before.check.ensures ∙ c.before.before.before.if1.false))
 
 enum_told : tie.Need-enum-told
 enum_told c = search rules
@@ -31,7 +31,7 @@ enum_told c = search rules
 step-requires : tie.Need-step-requires
 step-requires c κs =
     let s = c.before.before.before.before.before.before.before.before.before.before.before.before.before.before.before.before in
-    advance-ready _ _ s.args.mem.now s.args.reel.now _ _ c.before.before.before.before.before.before.before.before.before.before.before.check.ensures c.before.before.before.before.before.before.before.before.before.before.if1.false c.before.before.before.before.before.before.plan-advance.ensures _ c.before.before.before.before.enum_told.given.1
+    advance_ready _ _ s.args.mem.now s.args.reel.now _ _ c.before.before.before.before.before.before.before.before.before.before.before.check.ensures c.before.before.before.before.before.before.before.before.before.before.if1.false c.before.before.before.before.before.before.plan-advance.ensures _ c.before.before.before.before.enum_told.given.1
 
 enum-told-2 : tie.Need-enum-told-2
 enum-told-2 c = search rules
@@ -55,8 +55,8 @@ same-length-4 : tie.Need-same-length-4
 same-length-4 c = search rules
 
 returns-2 : tie.Need-returns-2
-unfolding stepOn
-returns-2 c = guarded-goes _ _ _ _ _ _ _ _ _ _ _ _ _ c.before.before.before.before.before.before.before.before.before.before.before.before.before.before.before.before.before.before.before.before.check.ensures c.before.before.before.before.before.before.before.before.before.before.before.before.before.before.before.before.before.before.before.if1.false (advance-takes _ _ _ _ _ _ _ c.before.before.before.before.before.before.before.before.before.before.before.before.before.before.before.plan-advance.ensures _ _ _ _ _ _ c.before.before.before.before.before.before.before.before.before.before.before.before.before.enum_told.given.1 c.before.before.before.before.before.before.before.before.step.ensures)
+unfolding step_on
+returns-2 c = guarded_goes _ _ _ _ _ _ _ _ _ _ _ _ _ c.before.before.before.before.before.before.before.before.before.before.before.before.before.before.before.before.before.before.before.before.check.ensures c.before.before.before.before.before.before.before.before.before.before.before.before.before.before.before.before.before.before.before.if1.false (advance_takes _ _ _ _ _ _ _ c.before.before.before.before.before.before.before.before.before.before.before.before.before.before.before.plan-advance.ensures _ _ _ _ _ _ c.before.before.before.before.before.before.before.before.before.before.before.before.before.enum_told.given.1 c.before.before.before.before.before.before.before.before.step.ensures)
 
 same-length-5 : tie.Need-same-length-5
 same-length-5 c = search rules
@@ -65,8 +65,8 @@ same-length-6 : tie.Need-same-length-6
 same-length-6 c = search rules
 
 returns-3 : tie.Need-returns-3
-unfolding stepOn takenBy
-returns-3 c = guarded-goes _ _ _ _ _ _ _ _ _ _ _ _ _ c.before.before.before.before.before.before.before.check.ensures c.before.before.before.before.before.before.if1.false (advance-rests _ _ _ _ _ _ _ c.before.before.plan-advance.ensures _ c.enum-told2.given.1 refl)
+unfolding step_on taken_by
+returns-3 c = guarded_goes _ _ _ _ _ _ _ _ _ _ _ _ _ c.before.before.before.before.before.before.before.check.ensures c.before.before.before.before.before.before.if1.false (advance_rests _ _ _ _ _ _ _ c.before.before.plan-advance.ensures _ c.enum-told2.given.1 refl)
 
 same-length-7 : tie.Need-same-length-7
 same-length-7 c = search rules
@@ -75,8 +75,8 @@ same-length-8 : tie.Need-same-length-8
 same-length-8 c = search rules
 
 returns-4 : tie.Need-returns-4
-unfolding stepOn takenBy
-returns-4 c = guarded-goes _ _ _ _ _ _ _ _ _ _ _ _ _ c.before.before.before.before.before.before.before.check.ensures c.before.before.before.before.before.before.if1.false (advance-rests _ _ _ _ _ _ _ c.before.before.plan-advance.ensures _ c.enum-told3.given.1 refl)
+unfolding step_on taken_by
+returns-4 c = guarded_goes _ _ _ _ _ _ _ _ _ _ _ _ _ c.before.before.before.before.before.before.before.check.ensures c.before.before.before.before.before.before.if1.false (advance_rests _ _ _ _ _ _ _ c.before.before.plan-advance.ensures _ c.enum-told3.given.1 refl)
 
 same-length-9 : tie.Need-same-length-9
 same-length-9 c = search rules
@@ -85,8 +85,8 @@ same-length-10 : tie.Need-same-length-10
 same-length-10 c = search rules
 
 returns-5 : tie.Need-returns-5
-unfolding stepOn takenBy
-returns-5 c = guarded-goes _ _ _ _ _ _ _ _ _ _ _ _ _ c.before.before.before.before.before.before.before.check.ensures c.before.before.before.before.before.before.if1.false (advance-rests _ _ _ _ _ _ _ c.before.before.plan-advance.ensures _ c.enum-told4.given.1 refl)
+unfolding step_on taken_by
+returns-5 c = guarded_goes _ _ _ _ _ _ _ _ _ _ _ _ _ c.before.before.before.before.before.before.before.check.ensures c.before.before.before.before.before.before.if1.false (advance_rests _ _ _ _ _ _ _ c.before.before.plan-advance.ensures _ c.enum-told4.given.1 refl)
 
 pub advance-spec : {M : Type 1} → statement M
 advance-spec =

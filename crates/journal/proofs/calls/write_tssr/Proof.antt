@@ -1,7 +1,7 @@
 -- `write_tssr` meets its contract: its refusals, else the change.
-use Rattle.steps.proofs.Changing.{change-goes, change-stops}
+use Rattle.steps.proofs.Changing.{change_goes, change_stops}
 use Rattle.unit.specs.Steps.{step_of}
-use Rattle.worlds.specs.Calls.{stepOn}
+use Rattle.worlds.specs.Calls.{step_on}
 use borrow.Author.Rules.{rules}
 use Rattle.journal.proofs.calls.write_tssr.Statement.{statement}
 use Rattle.journal.proofs.calls.write_tssr.Tie as tie
@@ -13,8 +13,8 @@ refused-requires : tie.Need-refused-requires
 refused-requires c κs = search rules
 
 returns : tie.Need-returns
-unfolding stepOn step_of
-returns c = change-stops _ _ _ _ _ _ _ _ c.refused.ensures.1 _ c.before.before.change-refusal.ensures c.before.if1.true c.refused.ensures.0
+unfolding step_on step_of
+returns c = change_stops _ _ _ _ _ _ _ _ c.refused.ensures.1 _ c.before.before.change-refusal.ensures c.before.if1.true c.refused.ensures.0
 
 initialize-requires : tie.Need-initialize-requires
 initialize-requires c κs = search rules
@@ -32,8 +32,8 @@ same-length-3 : tie.Need-same-length-3
 same-length-3 c = search rules
 
 returns-2 : tie.Need-returns-2
-unfolding stepOn step_of
-returns-2 c = change-goes _ _ _ _ _ _ _ _ _ _ _ _ _ _ c.before.before.before.before.before.before.before.before.before.before.before.before.before.change-refusal.ensures c.before.before.before.before.before.before.before.before.before.before.before.before.if1.false c.before.before.before.before.before.before.before.before.before.before.initialize.ensures c.before.before.before.before.before.before.change.ensures
+unfolding step_on step_of
+returns-2 c = change_goes _ _ _ _ _ _ _ _ _ _ _ _ _ _ c.before.before.before.before.before.before.before.before.before.before.before.before.before.change-refusal.ensures c.before.before.before.before.before.before.before.before.before.before.before.before.if1.false c.before.before.before.before.before.before.before.before.before.before.initialize.ensures c.before.before.before.before.before.before.change.ensures
 
 pub write-tssr-spec : {M : Type 1} → statement M
 write-tssr-spec =

@@ -1,5 +1,5 @@
 -- `block_place` is its definition.
-use Rattle.worlds.specs.Calls.{blockOn}
+use Rattle.worlds.specs.Calls.{block_on}
 use borrow.Author.Rules.{rules}
 use Rattle.journal.proofs.finds.block_place.Statement.{statement}
 use Rattle.journal.proofs.finds.block_place.Tie as tie
@@ -14,7 +14,7 @@ finding-requires : tie.Need-finding-requires
 finding-requires c κs = search rules
 
 returns : tie.Need-returns
-unfolding blockOn
+unfolding block_on
 returns c = rw (← c.before.before.find-refusal.ensures, ← c.before.find-block.ensures) c.finding.ensures
 
 pub block-place-spec : {M : Type 1} → statement M

@@ -1,5 +1,5 @@
 -- `file_place` is its definition.
-use Rattle.worlds.specs.Calls.{fileOn}
+use Rattle.worlds.specs.Calls.{file_on}
 use borrow.Author.Rules.{rules}
 use Rattle.journal.proofs.finds.file_place.Statement.{statement}
 use Rattle.journal.proofs.finds.file_place.Tie as tie
@@ -14,7 +14,7 @@ finding-requires : tie.Need-finding-requires
 finding-requires c κs = search rules
 
 returns : tie.Need-returns
-unfolding fileOn
+unfolding file_on
 returns c = rw (← c.before.before.find-refusal.ensures, ← c.before.find-file.ensures) c.finding.ensures
 
 pub file-place-spec : {M : Type 1} → statement M

@@ -1,6 +1,6 @@
 -- `cut_line` meets its contract: with a fourth number, or without.
-use Rattle.lines.specs.Arranging.{cutLine}
-use Rattle.lines.proofs.Asked.{number-not, number_read, word-not}
+use Rattle.lines.specs.Arranging.{cut_line}
+use Rattle.lines.proofs.Asked.{number_not, number_read, word_not}
 use borrow.Author.Rules.{rules}
 use Rattle.lines.proofs.arranges.cut_line.Statement.{statement}
 use Rattle.lines.proofs.arranges.cut_line.Tie as tie
@@ -12,8 +12,8 @@ arranges-requires : tie.Need-arranges-requires
 arranges-requires c κs = search rules
 
 returns : tie.Need-returns
-unfolding cutLine
-returns c = rw (word-not _ _ _ _ c.before.before.Has-word.ensures c.before.if1.true) c.arranges.ensures
+unfolding cut_line
+returns c = rw (word_not _ _ _ _ c.before.before.Has-word.ensures c.before.if1.true) c.arranges.ensures
 
 argument-requires : tie.Need-argument-requires
 argument-requires c κs = search rules
@@ -31,12 +31,12 @@ arranges-requires-2 : tie.Need-arranges-requires-2
 arranges-requires-2 c κs = search rules
 
 returns-2 : tie.Need-returns-2
-unfolding cutLine
-returns-2 c = rw (word-not _ _ _ _ c.before.before.before.before.before.before.Has-word.ensures c.before.before.before.before.before.if1.false) (number-not _ _ _ _ c.before.before.before.before.argument.ensures _ c.before.before.f.given.1 c.wrong.ensures)
+unfolding cut_line
+returns-2 c = rw (word_not _ _ _ _ c.before.before.before.before.before.before.Has-word.ensures c.before.before.before.before.before.if1.false) (number_not _ _ _ _ c.before.before.before.before.argument.ensures _ c.before.before.f.given.1 c.wrong.ensures)
 
 returns-3 : tie.Need-returns-3
-unfolding cutLine
-returns-3 c = rw (word-not _ _ _ _ c.before.before.before.before.before.before.Has-word.ensures c.before.before.before.before.before.if1.false) (number_read _ _ _ _ c.before.before.before.before.argument.ensures _ c.before.before.table.given.1 c.arranges2.ensures)
+unfolding cut_line
+returns-3 c = rw (word_not _ _ _ _ c.before.before.before.before.before.before.Has-word.ensures c.before.before.before.before.before.if1.false) (number_read _ _ _ _ c.before.before.before.before.argument.ensures _ c.before.before.table.given.1 c.arranges2.ensures)
 
 pub cut-line-spec : {M : Type 1} → statement M
 cut-line-spec =

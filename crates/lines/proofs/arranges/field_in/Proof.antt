@@ -1,5 +1,5 @@
 -- `field_in` meets its contract.
-use Rattle.lines.specs.Arranging.{field_of, fieldWords}
+use Rattle.lines.specs.Arranging.{field_of, field_words}
 use borrow.Author.Rules.{rules}
 use Rattle.lines.proofs.arranges.field_in.Statement.{statement}
 use Rattle.lines.proofs.arranges.field_in.Tie as tie
@@ -11,7 +11,7 @@ find-word-requires : tie.Need-find-word-requires
 find-word-requires c κs = search rules
 
 returns : tie.Need-returns
-unfolding field_of fieldWords
+unfolding field_of field_words
 returns c = c.find-word.ensures
 
 pub field-in-spec : {M : Type 1} → statement M

@@ -1,6 +1,6 @@
 -- `set_line` meets its contract.
-use Rattle.lines.specs.Arranging.{setLine}
-use Rattle.lines.proofs.Asked.{number-not, number_read}
+use Rattle.lines.specs.Arranging.{set_line}
+use Rattle.lines.proofs.Asked.{number_not, number_read}
 use borrow.Author.Rules.{rules}
 use Rattle.lines.proofs.arranges.set_line.Statement.{statement}
 use Rattle.lines.proofs.arranges.set_line.Tie as tie
@@ -24,11 +24,11 @@ set-to-requires : tie.Need-set-to-requires
 set-to-requires c κs = search rules
 
 returns : tie.Need-returns
-unfolding setLine
-returns c = number-not _ _ _ _ c.before.before.before.before.argument.ensures _ c.before.before.f.given.1 c.wrong.ensures
+unfolding set_line
+returns c = number_not _ _ _ _ c.before.before.before.before.argument.ensures _ c.before.before.f.given.1 c.wrong.ensures
 
 returns-2 : tie.Need-returns-2
-unfolding setLine
+unfolding set_line
 returns-2 c = number_read _ _ _ _ c.before.before.before.before.before.argument.ensures _ c.before.before.before.v.given.1 (rw (← c.before.field_in.ensures) c.set_to.ensures)
 
 pub set-line-spec : {M : Type 1} → statement M

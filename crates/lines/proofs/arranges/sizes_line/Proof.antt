@@ -1,6 +1,6 @@
 -- `sizes_line` meets its contract.
-use Rattle.lines.specs.Arranging.{sizesLine}
-use Rattle.lines.proofs.Asked.{numbers-not, numbers-read, sizes-made}
+use Rattle.lines.specs.Arranging.{sizes_line}
+use Rattle.lines.proofs.Asked.{numbers_not, numbers_read, sizes_made}
 use borrow.Author.Rules.{rules}
 use Rattle.lines.proofs.arranges.sizes_line.Statement.{statement}
 use Rattle.lines.proofs.arranges.sizes_line.Tie as tie
@@ -27,12 +27,12 @@ arranges-requires : tie.Need-arranges-requires
 arranges-requires c κs = search rules
 
 returns : tie.Need-returns
-unfolding sizesLine
-returns c = numbers-not _ _ _ _ c.before.before.before.before.numbers.ensures _ c.before.before.f.given.1 c.wrong.ensures
+unfolding sizes_line
+returns c = numbers_not _ _ _ _ c.before.before.before.before.numbers.ensures _ c.before.before.f.given.1 c.wrong.ensures
 
 returns-2 : tie.Need-returns-2
-unfolding sizesLine
-returns-2 c = numbers-read _ _ _ _ c.before.before.before.before.before.before.numbers.ensures _ _ _ c.before.before.before.before.m.given.1 (sizes-made _ _ _ _ _ _ c.before.before.reel-bytes.ensures c.before.table-bytes.ensures c.arranges.ensures)
+unfolding sizes_line
+returns-2 c = numbers_read _ _ _ _ c.before.before.before.before.before.before.numbers.ensures _ _ _ c.before.before.before.before.m.given.1 (sizes_made _ _ _ _ _ _ c.before.before.reel-bytes.ensures c.before.table-bytes.ensures c.arranges.ensures)
 
 pub sizes-line-spec : {M : Type 1} → statement M
 sizes-line-spec =

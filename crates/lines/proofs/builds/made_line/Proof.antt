@@ -1,6 +1,6 @@
 -- `made_line` meets its contract.
-use Rattle.lines.specs.Building.{madeLine}
-use Rattle.lines.proofs.Asked.{numbers-not, numbers-read}
+use Rattle.lines.specs.Building.{made_line}
+use Rattle.lines.proofs.Asked.{numbers_not, numbers_read}
 use borrow.Author.Rules.{rules}
 use Rattle.lines.proofs.builds.made_line.Statement.{statement}
 use Rattle.lines.proofs.builds.made_line.Tie as tie
@@ -21,12 +21,12 @@ builds-requires : tie.Need-builds-requires
 builds-requires c κs = search rules
 
 returns : tie.Need-returns
-unfolding madeLine
-returns c = numbers-not _ _ _ _ c.before.before.before.before.numbers.ensures _ c.before.before.f.given.1 c.wrong.ensures
+unfolding made_line
+returns c = numbers_not _ _ _ _ c.before.before.before.before.numbers.ensures _ c.before.before.f.given.1 c.wrong.ensures
 
 returns-2 : tie.Need-returns-2
-unfolding madeLine
-returns-2 c = numbers-read _ _ _ _ c.before.before.before.before.numbers.ensures _ _ _ c.before.before.n.given.1 c.builds.ensures
+unfolding made_line
+returns-2 c = numbers_read _ _ _ _ c.before.before.before.before.numbers.ensures _ _ _ c.before.before.n.given.1 c.builds.ensures
 
 pub made-line-spec : {M : Type 1} → statement M
 made-line-spec =

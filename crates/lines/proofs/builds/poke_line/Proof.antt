@@ -1,6 +1,6 @@
 -- `poke_line` meets its contract.
-use Rattle.lines.specs.Building.{pokeLine}
-use Rattle.lines.proofs.Asked.{number-not, number_read}
+use Rattle.lines.specs.Building.{poke_line}
+use Rattle.lines.proofs.Asked.{number_not, number_read}
 use borrow.Author.Rules.{rules}
 use Rattle.lines.proofs.builds.poke_line.Statement.{statement}
 use Rattle.lines.proofs.builds.poke_line.Tie as tie
@@ -21,18 +21,18 @@ builds-requires : tie.Need-builds-requires
 builds-requires c κs = search rules
 
 returns : tie.Need-returns
-unfolding pokeLine
+unfolding poke_line
 returns c = number_read _ _ _ _ c.before.before.before.before.before.argument.ensures _ c.before.before.before.at.given.1 (rw c.before.if1.true c.builds.ensures)
 
 builds-requires-2 : tie.Need-builds-requires-2
 builds-requires-2 c κs = search rules
 
 returns-2 : tie.Need-returns-2
-unfolding pokeLine
-returns-2 c = number-not _ _ _ _ c.before.before.before.before.argument.ensures _ c.before.before.f.given.1 c.wrong.ensures
+unfolding poke_line
+returns-2 c = number_not _ _ _ _ c.before.before.before.before.argument.ensures _ c.before.before.f.given.1 c.wrong.ensures
 
 returns-3 : tie.Need-returns-3
-unfolding pokeLine
+unfolding poke_line
 returns-3 c = number_read _ _ _ _ c.before.before.before.before.before.argument.ensures _ c.before.before.before.at.given.1 (rw c.before.if1.false c.builds2.ensures)
 
 pub poke-line-spec : {M : Type 1} → statement M

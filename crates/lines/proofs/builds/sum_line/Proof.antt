@@ -1,6 +1,6 @@
 -- `sum_line` meets its contract.
-use Rattle.lines.specs.Building.{sumLine}
-use Rattle.lines.proofs.Asked.{number-not, number_read}
+use Rattle.lines.specs.Building.{sum_line}
+use Rattle.lines.proofs.Asked.{number_not, number_read}
 use borrow.Author.Rules.{rules}
 use Rattle.lines.proofs.builds.sum_line.Statement.{statement}
 use Rattle.lines.proofs.builds.sum_line.Tie as tie
@@ -21,11 +21,11 @@ builds-requires : tie.Need-builds-requires
 builds-requires c κs = search rules
 
 returns : tie.Need-returns
-unfolding sumLine
-returns c = number-not _ _ _ _ c.before.before.before.before.argument.ensures _ c.before.before.f.given.1 c.wrong.ensures
+unfolding sum_line
+returns c = number_not _ _ _ _ c.before.before.before.before.argument.ensures _ c.before.before.f.given.1 c.wrong.ensures
 
 returns-2 : tie.Need-returns-2
-unfolding sumLine
+unfolding sum_line
 returns-2 c = number_read _ _ _ _ c.before.before.before.before.argument.ensures _ c.before.before.k.given.1 c.builds.ensures
 
 pub sum-line-spec : {M : Type 1} → statement M

@@ -1,6 +1,6 @@
 -- `word_line` meets its contract.
 use Rattle.lines.specs.Building.{word_line}
-use Rattle.lines.proofs.Asked.{numbers-not, numbers-read}
+use Rattle.lines.proofs.Asked.{numbers_not, numbers_read}
 use borrow.Author.Rules.{rules}
 use Rattle.lines.proofs.builds.word_line.Statement.{statement}
 use Rattle.lines.proofs.builds.word_line.Tie as tie
@@ -22,11 +22,11 @@ builds-requires c κs = search rules
 
 returns : tie.Need-returns
 unfolding word_line
-returns c = numbers-not _ _ _ _ c.before.before.before.before.numbers.ensures _ c.before.before.f.given.1 c.wrong.ensures
+returns c = numbers_not _ _ _ _ c.before.before.before.before.numbers.ensures _ c.before.before.f.given.1 c.wrong.ensures
 
 returns-2 : tie.Need-returns-2
 unfolding word_line
-returns-2 c = numbers-read _ _ _ _ c.before.before.before.before.numbers.ensures _ _ _ c.before.before.at.given.1 c.builds.ensures
+returns-2 c = numbers_read _ _ _ _ c.before.before.before.before.numbers.ensures _ _ _ c.before.before.at.given.1 c.builds.ensures
 
 pub word-line-spec : {M : Type 1} → statement M
 word-line-spec =

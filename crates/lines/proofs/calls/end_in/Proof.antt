@@ -1,6 +1,6 @@
 -- `end_in` meets its contract: the word `cursor`, or a number.
 use Rattle.lines.specs.Calling.{end_of}
-use Rattle.lines.proofs.Asked.{is-place, no_place}
+use Rattle.lines.proofs.Asked.{is_place, no_place}
 use borrow.Author.Rules.{rules}
 use Rattle.lines.proofs.calls.end_in.Statement.{statement}
 use Rattle.lines.proofs.calls.end_in.Tie as tie
@@ -13,7 +13,7 @@ find-word-requires c κs = search rules
 
 returns : tie.Need-returns
 unfolding end_of
-returns c = rw (is-place _ _ c.before.find-word.ensures c.if1.true)
+returns c = rw (is_place _ _ c.before.find-word.ensures c.if1.true)
 
 argument-requires : tie.Need-argument-requires
 argument-requires c κs = search rules

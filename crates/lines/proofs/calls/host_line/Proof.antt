@@ -1,6 +1,6 @@
 -- `host_line` meets its contract.
-use Rattle.lines.specs.Calling.{hostLine}
-use Rattle.lines.proofs.Asked.{number-not, number_read}
+use Rattle.lines.specs.Calling.{host_line}
+use Rattle.lines.proofs.Asked.{number_not, number_read}
 use borrow.Author.Rules.{rules}
 use Rattle.lines.proofs.calls.host_line.Statement.{statement}
 use Rattle.lines.proofs.calls.host_line.Tie as tie
@@ -21,11 +21,11 @@ asks-requires : tie.Need-asks-requires
 asks-requires c κs = search rules
 
 returns : tie.Need-returns
-unfolding hostLine
-returns c = number-not _ _ _ _ c.before.before.before.before.argument.ensures _ c.before.before.f.given.1 c.wrong.ensures
+unfolding host_line
+returns c = number_not _ _ _ _ c.before.before.before.before.argument.ensures _ c.before.before.f.given.1 c.wrong.ensures
 
 returns-2 : tie.Need-returns-2
-unfolding hostLine
+unfolding host_line
 returns-2 c = number_read _ _ _ _ c.before.before.before.before.argument.ensures _ c.before.before.at.given.1 c.asks.ensures
 
 pub host-line-spec : {M : Type 1} → statement M

@@ -1,6 +1,6 @@
 -- `hostn_line` meets its contract.
-use Rattle.lines.specs.Calling.{hostnLine}
-use Rattle.lines.proofs.Asked.{numbers-not, numbers-read}
+use Rattle.lines.specs.Calling.{hostn_line}
+use Rattle.lines.proofs.Asked.{numbers_not, numbers_read}
 use borrow.Author.Rules.{rules}
 use Rattle.lines.proofs.calls.hostn_line.Statement.{statement}
 use Rattle.lines.proofs.calls.hostn_line.Tie as tie
@@ -21,12 +21,12 @@ asks-requires : tie.Need-asks-requires
 asks-requires c κs = search rules
 
 returns : tie.Need-returns
-unfolding hostnLine
-returns c = numbers-not _ _ _ _ c.before.before.before.before.numbers.ensures _ c.before.before.f.given.1 c.wrong.ensures
+unfolding hostn_line
+returns c = numbers_not _ _ _ _ c.before.before.before.before.numbers.ensures _ c.before.before.f.given.1 c.wrong.ensures
 
 returns-2 : tie.Need-returns-2
-unfolding hostnLine
-returns-2 c = numbers-read _ _ _ _ c.before.before.before.before.numbers.ensures _ _ _ c.before.before.at.given.1 c.asks.ensures
+unfolding hostn_line
+returns-2 c = numbers_read _ _ _ _ c.before.before.before.before.numbers.ensures _ _ _ c.before.before.at.given.1 c.asks.ensures
 
 pub hostn-line-spec : {M : Type 1} → statement M
 hostn-line-spec =

@@ -1,6 +1,6 @@
 -- `mount_line` meets its contract.
-use Rattle.lines.specs.Calling.{mountLine}
-use Rattle.lines.proofs.Asked.{number-not, number_read, numbers-not, numbers-read}
+use Rattle.lines.specs.Calling.{mount_line}
+use Rattle.lines.proofs.Asked.{number_not, number_read, numbers_not, numbers_read}
 use borrow.Author.Rules.{rules}
 use Rattle.lines.proofs.calls.mount_line.Statement.{statement}
 use Rattle.lines.proofs.calls.mount_line.Tie as tie
@@ -33,16 +33,16 @@ calls-requires : tie.Need-calls-requires
 calls-requires c κs = search rules
 
 returns : tie.Need-returns
-unfolding mountLine
-returns c = number-not _ _ _ _ c.before.before.before.before.end-in.ensures _ c.before.before.f.given.1 c.wrong.ensures
+unfolding mount_line
+returns c = number_not _ _ _ _ c.before.before.before.before.end-in.ensures _ c.before.before.f.given.1 c.wrong.ensures
 
 returns-2 : tie.Need-returns-2
-unfolding mountLine
-returns-2 c = number_read _ _ _ _ c.before.before.before.before.before.before.before.before.end-in.ensures _ c.before.before.before.before.before.before.e.given.1 (numbers-not _ _ _ _ c.before.before.before.before.numbers.ensures _ c.before.before.f2.given.1 c.wrong2.ensures)
+unfolding mount_line
+returns-2 c = number_read _ _ _ _ c.before.before.before.before.before.before.before.before.end-in.ensures _ c.before.before.before.before.before.before.e.given.1 (numbers_not _ _ _ _ c.before.before.before.before.numbers.ensures _ c.before.before.f2.given.1 c.wrong2.ensures)
 
 returns-3 : tie.Need-returns-3
-unfolding mountLine
-returns-3 c = number_read _ _ _ _ c.before.before.before.before.before.before.before.before.end-in.ensures _ c.before.before.before.before.before.before.e.given.1 (numbers-read _ _ _ _ c.before.before.before.before.numbers.ensures _ _ _ c.before.before.online.given.1 c.calls.ensures)
+unfolding mount_line
+returns-3 c = number_read _ _ _ _ c.before.before.before.before.before.before.before.before.end-in.ensures _ c.before.before.before.before.before.before.e.given.1 (numbers_read _ _ _ _ c.before.before.before.before.numbers.ensures _ _ _ c.before.before.online.given.1 c.calls.ensures)
 
 pub mount-line-spec : {M : Type 1} → statement M
 mount-line-spec =

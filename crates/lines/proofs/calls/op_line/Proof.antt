@@ -1,6 +1,6 @@
 -- `op_line` meets its contract, for each act.
-use Rattle.lines.specs.Calling.{opLine, operateBy}
-use Rattle.lines.proofs.Asked.{at_place, operate-none}
+use Rattle.lines.specs.Calling.{op_line, operate_by}
+use Rattle.lines.proofs.Asked.{at_place, operate_none}
 use borrow.Author.Rules.{rules}
 use Rattle.lines.proofs.calls.op_line.Statement.{statement}
 use Rattle.lines.proofs.calls.op_line.Tie as tie
@@ -27,24 +27,24 @@ wrong-requires : tie.Need-wrong-requires
 wrong-requires c κs = search rules
 
 returns : tie.Need-returns
-unfolding opLine operateBy
-returns c = at_place operateBy _ _ _ _ c.before.before.find-word.ensures c.before.match.keys1 c.asks.ensures
+unfolding op_line operate_by
+returns c = at_place operate_by _ _ _ _ c.before.before.find-word.ensures c.before.match.keys1 c.asks.ensures
 
 returns-2 : tie.Need-returns-2
-unfolding opLine operateBy
-returns-2 c = at_place operateBy _ _ _ _ c.before.before.find-word.ensures c.before.match.keys2 c.asks2.ensures
+unfolding op_line operate_by
+returns-2 c = at_place operate_by _ _ _ _ c.before.before.find-word.ensures c.before.match.keys2 c.asks2.ensures
 
 returns-3 : tie.Need-returns-3
-unfolding opLine operateBy
-returns-3 c = at_place operateBy _ _ _ _ c.before.before.find-word.ensures c.before.match.keys3 c.asks3.ensures
+unfolding op_line operate_by
+returns-3 c = at_place operate_by _ _ _ _ c.before.before.find-word.ensures c.before.match.keys3 c.asks3.ensures
 
 returns-4 : tie.Need-returns-4
-unfolding opLine operateBy
-returns-4 c = at_place operateBy _ _ _ _ c.before.before.find-word.ensures c.before.match.keys4 c.asks4.ensures
+unfolding op_line operate_by
+returns-4 c = at_place operate_by _ _ _ _ c.before.before.find-word.ensures c.before.match.keys4 c.asks4.ensures
 
 returns-5 : tie.Need-returns-5
-unfolding opLine operateBy
-returns-5 c = rw (← c.before.before.find-word.ensures) (operate-none _ _ c.before.match.rest.0.0.0.1 c.before.match.rest.0.0.1 c.before.match.rest.0.1 c.before.match.rest.1 c.wrong.ensures)
+unfolding op_line operate_by
+returns-5 c = rw (← c.before.before.find-word.ensures) (operate_none _ _ c.before.match.rest.0.0.0.1 c.before.match.rest.0.0.1 c.before.match.rest.0.1 c.before.match.rest.1 c.wrong.ensures)
 
 pub op-line-spec : {M : Type 1} → statement M
 op-line-spec =

@@ -1,6 +1,6 @@
 -- `reg_line` meets its contract, for each register.
-use Rattle.lines.specs.Calling.{regLine, registerBy}
-use Rattle.lines.proofs.Asked.{at_place, register-none}
+use Rattle.lines.specs.Calling.{reg_line, register_by}
+use Rattle.lines.proofs.Asked.{at_place, register_none}
 use borrow.Author.Rules.{rules}
 use Rattle.lines.proofs.calls.reg_line.Statement.{statement}
 use Rattle.lines.proofs.calls.reg_line.Tie as tie
@@ -21,16 +21,16 @@ wrong-requires : tie.Need-wrong-requires
 wrong-requires c κs = search rules
 
 returns : tie.Need-returns
-unfolding regLine registerBy
-returns c = at_place registerBy _ _ _ _ c.before.before.find-word.ensures c.before.match.keys1 c.calls.ensures
+unfolding reg_line register_by
+returns c = at_place register_by _ _ _ _ c.before.before.find-word.ensures c.before.match.keys1 c.calls.ensures
 
 returns-2 : tie.Need-returns-2
-unfolding regLine registerBy
-returns-2 c = at_place registerBy _ _ _ _ c.before.before.find-word.ensures c.before.match.keys2 c.calls2.ensures
+unfolding reg_line register_by
+returns-2 c = at_place register_by _ _ _ _ c.before.before.find-word.ensures c.before.match.keys2 c.calls2.ensures
 
 returns-3 : tie.Need-returns-3
-unfolding regLine registerBy
-returns-3 c = rw (← c.before.before.find-word.ensures) (register-none _ _ c.before.match.rest.0.1 c.before.match.rest.1 c.wrong.ensures)
+unfolding reg_line register_by
+returns-3 c = rw (← c.before.before.find-word.ensures) (register_none _ _ c.before.match.rest.0.1 c.before.match.rest.1 c.wrong.ensures)
 
 pub reg-line-spec : {M : Type 1} → statement M
 reg-line-spec =

@@ -1,6 +1,6 @@
 -- `tsdb_line` meets its contract.
-use Rattle.lines.specs.Calling.{tsdbLine}
-use Rattle.lines.proofs.Asked.{number-not, number_read}
+use Rattle.lines.specs.Calling.{tsdb_line}
+use Rattle.lines.proofs.Asked.{number_not, number_read}
 use borrow.Author.Rules.{rules}
 use Rattle.lines.proofs.calls.tsdb_line.Statement.{statement}
 use Rattle.lines.proofs.calls.tsdb_line.Tie as tie
@@ -21,11 +21,11 @@ tsdb-to-requires : tie.Need-tsdb-to-requires
 tsdb-to-requires c κs = search rules
 
 returns : tie.Need-returns
-unfolding tsdbLine
-returns c = number-not _ _ _ _ c.before.before.before.before.argument.ensures _ c.before.before.f.given.1 c.wrong.ensures
+unfolding tsdb_line
+returns c = number_not _ _ _ _ c.before.before.before.before.argument.ensures _ c.before.before.f.given.1 c.wrong.ensures
 
 returns-2 : tie.Need-returns-2
-unfolding tsdbLine
+unfolding tsdb_line
 returns-2 c = number_read _ _ _ _ c.before.before.before.before.argument.ensures _ c.before.before.w.given.1 c.tsdb-to.ensures
 
 pub tsdb-line-spec : {M : Type 1} → statement M

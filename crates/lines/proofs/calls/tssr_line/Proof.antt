@@ -1,6 +1,6 @@
 -- `tssr_line` meets its contract.
-use Rattle.lines.specs.Calling.{tssrLine}
-use Rattle.lines.proofs.Asked.{number-not, number_read}
+use Rattle.lines.specs.Calling.{tssr_line}
+use Rattle.lines.proofs.Asked.{number_not, number_read}
 use borrow.Author.Rules.{rules}
 use Rattle.lines.proofs.calls.tssr_line.Statement.{statement}
 use Rattle.lines.proofs.calls.tssr_line.Tie as tie
@@ -21,11 +21,11 @@ asks-requires : tie.Need-asks-requires
 asks-requires c κs = search rules
 
 returns : tie.Need-returns
-unfolding tssrLine
-returns c = number-not _ _ _ _ c.before.before.before.before.argument.ensures _ c.before.before.f.given.1 c.wrong.ensures
+unfolding tssr_line
+returns c = number_not _ _ _ _ c.before.before.before.before.argument.ensures _ c.before.before.f.given.1 c.wrong.ensures
 
 returns-2 : tie.Need-returns-2
-unfolding tssrLine
+unfolding tssr_line
 returns-2 c = number_read _ _ _ _ c.before.before.before.argument.ensures _ c.before.enum_told.given.1 c.asks.ensures
 
 pub tssr-line-spec : {M : Type 1} → statement M

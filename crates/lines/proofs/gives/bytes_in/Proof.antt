@@ -3,8 +3,8 @@ use mathlib.Core.Path.{ap, ◌∙◌}
 use mathlib.Core.List.{List}
 use Prim.Native.Nat.{ℕ}
 use lib.ListN.{length}
-use Rattle.script.specs.Fills.{hexAnswer, hexFilled}
-use Rattle.script.proofs.Passing.{part-word}
+use Rattle.script.specs.Fills.{hex_answer, hex_filled}
+use Rattle.script.proofs.Passing.{part_word}
 use borrow.Author.Rules.{rules}
 use Rattle.lines.proofs.gives.bytes_in.Statement.{statement}
 use Rattle.lines.proofs.gives.bytes_in.Tie as tie
@@ -31,9 +31,9 @@ returns : tie.Need-returns
 returns c =
     let a = c.before.before.before.before.before.before.before.before.args in
     let n = c.before.before.before.before.before.nth.ensures in
-    let w = part-word a.text.now a.k _ _ n.0 n.1.0 in
+    let w = part_word a.text.now a.k _ _ n.0 n.1.0 in
     let h = c.before.before.hex-bytes.ensures in
-    (h.0 ∙ ap (λ (t : List ℕ). hexAnswer t (length a.«data».now)) w, h.1 ∙ ap (λ (t : List ℕ). hexFilled t a.«data».now) w)
+    (h.0 ∙ ap (λ (t : List ℕ). hex_answer t (length a.«data».now)) w, h.1 ∙ ap (λ (t : List ℕ). hex_filled t a.«data».now) w)
 
 pub bytes-in-spec : {M : Type 1} → statement M
 bytes-in-spec =

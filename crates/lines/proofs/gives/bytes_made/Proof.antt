@@ -1,12 +1,12 @@
 -- `bytes_made` meets its contract: there is room, or nothing is made.
 use native.Mathlib.Omega.{arith}
-use Rattle.lines.proofs.Made.{made-done, made-not}
+use Rattle.lines.proofs.Made.{made_done, made_not}
 use borrow.Author.Rules.{rules}
 use Rattle.lines.proofs.gives.bytes_made.Statement.{statement}
 use Rattle.lines.proofs.gives.bytes_made.Tie as tie
 
 returns : tie.Need-returns
-returns c = made-not _ c.before.before.args.seed _ (omega arith)
+returns c = made_not _ c.before.before.args.seed _ (omega arith)
 
 sub-generate : tie.Need-overflow-sub-generate
 sub-generate c = search rules
@@ -24,7 +24,7 @@ same_length : tie.Need-same-length
 same_length c = search rules
 
 returns-2 : tie.Need-returns-2
-returns-2 c = made-done _ c.before.before.before.before.before.before.args.seed _ _ (omega arith) c.before.before.generate.ensures
+returns-2 c = made_done _ c.before.before.before.before.before.before.args.seed _ _ (omega arith) c.before.before.generate.ensures
 
 pub bytes-made-spec : {M : Type 1} → statement M
 bytes-made-spec =

@@ -1,5 +1,5 @@
 -- `takes_unit` meets its contract: the line proper is there, and starts with none of the six.
-use Rattle.lines.specs.Prefixes.{bareWords, takesUnit}
+use Rattle.lines.specs.Prefixes.{bare_words, takes_unit}
 use borrow.Author.Rules.{rules}
 use Rattle.lines.proofs.prefixes.takes_unit.Statement.{statement}
 use Rattle.lines.proofs.prefixes.takes_unit.Tie as tie
@@ -14,7 +14,7 @@ find-word-requires : tie.Need-find-word-requires
 find-word-requires c κs = search rules
 
 returns : tie.Need-returns
-unfolding takesUnit bareWords
+unfolding takes_unit bare_words
 returns c = rw (c.before.before.Has-word.ensures, c.find-word.ensures)
 
 pub takes-unit-spec : {M : Type 1} → statement M

@@ -1,5 +1,5 @@
 -- `unit_in` meets its contract.
-use Rattle.lines.specs.Prefixes.{unitIn, unitWords}
+use Rattle.lines.specs.Prefixes.{unit_in, unit_words}
 use borrow.Author.Rules.{rules}
 use Rattle.lines.proofs.prefixes.unit_in.Statement.{statement}
 use Rattle.lines.proofs.prefixes.unit_in.Tie as tie
@@ -11,7 +11,7 @@ find-word-requires : tie.Need-find-word-requires
 find-word-requires c κs = search rules
 
 returns : tie.Need-returns
-unfolding unitIn unitWords
+unfolding unit_in unit_words
 returns c = c.find-word.ensures
 
 pub unit-in-spec : {M : Type 1} → statement M

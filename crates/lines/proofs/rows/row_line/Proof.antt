@@ -1,7 +1,7 @@
 -- `row_line` meets its contract.
 use borrow.Author.Tests.{eq-eqb, ne_eqb}
 use Rattle.lines.specs.Rowing.{rowing}
-use Rattle.lines.proofs.Asked.{number-not, number_read, reel-made}
+use Rattle.lines.proofs.Asked.{number_not, number_read, reel_made}
 use borrow.Author.Rules.{rules}
 use Rattle.lines.proofs.rows.row_line.Statement.{statement}
 use Rattle.lines.proofs.rows.row_line.Tie as tie
@@ -33,11 +33,11 @@ arranges-requires c κs = search rules
 
 returns-2 : tie.Need-returns-2
 unfolding rowing
-returns-2 c = number-not _ _ _ _ c.before.before.before.before.argument.ensures _ c.before.before.f.given.1 c.wrong.ensures
+returns-2 c = number_not _ _ _ _ c.before.before.before.before.argument.ensures _ c.before.before.f.given.1 c.wrong.ensures
 
 returns-3 : tie.Need-returns-3
 unfolding rowing
-returns-3 c = number_read _ _ _ _ c.before.before.before.before.before.before.argument.ensures _ c.before.before.before.before.n.given.1 (rw (ne_eqb c.before.before.before.before.before.before.before.before.args.k 24 c.before.before.if1.false) (reel-made _ _ _ c.before.reel-bytes.ensures c.arranges.ensures))
+returns-3 c = number_read _ _ _ _ c.before.before.before.before.before.before.argument.ensures _ c.before.before.before.before.n.given.1 (rw (ne_eqb c.before.before.before.before.before.before.before.before.args.k 24 c.before.before.if1.false) (reel_made _ _ _ c.before.reel-bytes.ensures c.arranges.ensures))
 
 pub row-line-spec : {M : Type 1} → statement M
 row-line-spec =

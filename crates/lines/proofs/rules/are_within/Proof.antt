@@ -1,7 +1,7 @@
 -- `are_within` meets its contract. All that the words behind word k name is held.
 use mathlib.Core.Path.{◌≡◌, refl, sym, ◌∙◌}
 use Rattle.lines.specs.Rules.{requests, within}
-use Rattle.lines.proofs.Ruled.{within_none, within_on, within-stop}
+use Rattle.lines.proofs.Ruled.{within_none, within_on, within_stop}
 use borrow.Author.Rules.{rules}
 use native.Mathlib.Omega.{arith}
 use Rattle.lines.proofs.rules.are_within.Statement.{statement}
@@ -29,7 +29,7 @@ returns : tie.Need-returns invariant-loop decreases-loop
 returns c =
     let l = c.before.before.before.before.before.loop in
     let a = c.before.before.before.before.before.before.before.before.args in
-    sym (l.invariant ∙ within-stop a.a.now a.b.now c.before.before.before.Has-word.result c.before.before.argument.result c.before.is_held_lem.result l.k (omega arith) c.before.before.before.Has-word.ensures c.before.before.argument.ensures c.before.is_held_lem.ensures c.if1.true)
+    sym (l.invariant ∙ within_stop a.a.now a.b.now c.before.before.before.Has-word.result c.before.before.argument.result c.before.is_held_lem.result l.k (omega arith) c.before.before.before.Has-word.ensures c.before.before.argument.ensures c.before.is_held_lem.ensures c.if1.true)
 
 sub-k : tie.Need-overflow-sub-k invariant-loop decreases-loop
 sub-k c = search rules

@@ -1,5 +1,5 @@
 -- `is_held` meets its contract.
-use Rattle.lines.specs.Rules.{heldBy}
+use Rattle.lines.specs.Rules.{held_by}
 use borrow.Author.Rules.{rules}
 use Rattle.lines.proofs.rules.is_held.Statement.{statement}
 use Rattle.lines.proofs.rules.is_held.Tie as tie
@@ -17,11 +17,11 @@ enum_told : tie.Need-enum-told
 enum_told c = search rules
 
 returns : tie.Need-returns
-unfolding heldBy
+unfolding held_by
 returns c = rw (c.before.before.before.v.given.1, c.names.ensures, c.before.is-unseen.ensures)
 
 returns-2 : tie.Need-returns-2
-unfolding heldBy
+unfolding held_by
 returns-2 c = rw c.enum_told.given.1
 
 pub is-held-spec : {M : Type 1} → statement M

@@ -1,7 +1,7 @@
 -- `names` meets its contract. None of the words behind word k says n.
 use mathlib.Core.Path.{◌≡◌, refl, sym, ◌∙◌}
 use Rattle.lines.specs.Rules.{named, requests}
-use Rattle.lines.proofs.Ruled.{named_none, named-on, named-stop}
+use Rattle.lines.proofs.Ruled.{named_none, named_on, named_stop}
 use borrow.Author.Rules.{rules}
 use native.Mathlib.Omega.{arith}
 use Rattle.lines.proofs.rules.names.Statement.{statement}
@@ -26,7 +26,7 @@ returns : tie.Need-returns invariant-loop decreases-loop
 returns c =
     let l = c.before.before.before.before.loop in
     let a = c.before.before.before.before.before.before.args in
-    sym (l.invariant ∙ named-stop a.text.now a.n c.before.before.argument.result c.before.is_number.result l.k (omega arith) c.before.before.argument.ensures c.before.is_number.ensures c.if1.true)
+    sym (l.invariant ∙ named_stop a.text.now a.n c.before.before.argument.result c.before.is_number.result l.k (omega arith) c.before.before.argument.ensures c.before.is_number.ensures c.if1.true)
 
 sub-k : tie.Need-overflow-sub-k invariant-loop decreases-loop
 sub-k c = search rules
@@ -38,7 +38,7 @@ loop-again : tie.Need-loop-preserved invariant-loop decreases-loop
 loop-again c =
     let l = c.before.before.before.before.loop in
     let a = c.before.before.before.before.before.before.args in
-    l.invariant ∙ named-on a.text.now a.n c.before.before.argument.result c.before.is_number.result l.k (omega arith) c.before.before.argument.ensures c.before.is_number.ensures c.if1.false
+    l.invariant ∙ named_on a.text.now a.n c.before.before.argument.result c.before.is_number.result l.k (omega arith) c.before.before.argument.ensures c.before.is_number.ensures c.if1.false
 
 returns-2 : tie.Need-returns-2 invariant-loop decreases-loop
 returns-2 c =

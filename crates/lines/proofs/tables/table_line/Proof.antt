@@ -1,7 +1,7 @@
 -- `table_line` meets its contract.
 use borrow.Author.Tests.{eq-eqb, ne_eqb}
 use Rattle.lines.specs.Tabling.{tabling}
-use Rattle.lines.proofs.Asked.{number-not, number_read}
+use Rattle.lines.proofs.Asked.{number_not, number_read}
 use borrow.Author.Rules.{rules}
 use Rattle.lines.proofs.tables.table_line.Statement.{statement}
 use Rattle.lines.proofs.tables.table_line.Tie as tie
@@ -30,7 +30,7 @@ tables-requires-2 c κs = search rules
 
 returns-2 : tie.Need-returns-2
 unfolding tabling
-returns-2 c = number-not _ _ _ _ c.before.before.before.before.argument.ensures _ c.before.before.f.given.1 c.wrong.ensures
+returns-2 c = number_not _ _ _ _ c.before.before.before.before.argument.ensures _ c.before.before.f.given.1 c.wrong.ensures
 
 returns-3 : tie.Need-returns-3
 unfolding tabling

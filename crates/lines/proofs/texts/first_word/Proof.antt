@@ -1,5 +1,5 @@
 -- `first_word` meets its contract.
-use Rattle.lines.specs.Starts.{start_of, startWords}
+use Rattle.lines.specs.Starts.{start_of, start_words}
 use borrow.Author.Rules.{rules}
 use Rattle.lines.proofs.texts.first_word.Statement.{statement}
 use Rattle.lines.proofs.texts.first_word.Tie as tie
@@ -11,7 +11,7 @@ find-word-requires : tie.Need-find-word-requires
 find-word-requires c κs = search rules
 
 returns : tie.Need-returns
-unfolding start_of startWords
+unfolding start_of start_words
 returns c = c.find-word.ensures
 
 pub first-word-spec : {M : Type 1} → statement M

@@ -1,5 +1,5 @@
 -- `has_word` meets its contract.
-use Rattle.lines.specs.Starts.{hasWord}
+use Rattle.lines.specs.Starts.{has_word}
 use borrow.Author.Rules.{rules}
 use Rattle.lines.proofs.texts.has_word.Statement.{statement}
 use Rattle.lines.proofs.texts.has_word.Tie as tie
@@ -8,7 +8,7 @@ nth-requires : tie.Need-nth-requires
 nth-requires c κs = search rules
 
 returns : tie.Need-returns
-unfolding hasWord
+unfolding has_word
 returns c = rw (c.before.nth.ensures.0, c.before.nth.ensures.1.0)
 
 pub has-word-spec : {M : Type 1} → statement M

@@ -1,7 +1,7 @@
 -- `line_from` meets its contract, by its two tests.
 use native.Mathlib.Omega.{arith}
 use borrow.Author.Tests.{lt-ltb, le-ltb}
-use Rattle.lines.specs.Lines.{lineFrom}
+use Rattle.lines.specs.Lines.{line_from}
 use Rattle.lines.proofs.Asked.{word_more}
 use borrow.Author.Rules.{rules}
 use Rattle.lines.proofs.texts.line_from.Statement.{statement}
@@ -11,7 +11,7 @@ wrong-requires : tie.Need-wrong-requires
 wrong-requires c κs = search rules
 
 returns : tie.Need-returns
-unfolding lineFrom
+unfolding line_from
 returns c = rw (lt-ltb 25 c.before.before.before.args.k c.before.if1.true) c.wrong.ensures
 
 most-words-requires : tie.Need-most-words-requires
@@ -24,14 +24,14 @@ wrong-requires-2 : tie.Need-wrong-requires-2
 wrong-requires-2 c κs = search rules
 
 returns-2 : tie.Need-returns-2
-unfolding lineFrom
+unfolding line_from
 returns-2 c = rw (le-ltb 25 c.before.before.before.before.before.before.args.k (omega arith), word_more _ _ _ _ _ c.before.before.before.most-words.ensures c.before.before.Has-word.ensures c.before.if2.true) c.wrong2.ensures
 
 line-by-requires : tie.Need-line-by-requires
 line-by-requires c κs = search rules
 
 returns-3 : tie.Need-returns-3
-unfolding lineFrom
+unfolding line_from
 returns-3 c = rw (le-ltb 25 c.before.before.before.before.before.before.args.k (omega arith), word_more _ _ _ _ _ c.before.before.before.most-words.ensures c.before.before.Has-word.ensures c.before.if2.false) c.line-by.ensures
 
 pub line-from-spec : {M : Type 1} → statement M

@@ -1,5 +1,5 @@
 -- `most_words` meets its contract.
-use Rattle.lines.specs.Starts.{mostWords}
+use Rattle.lines.specs.Starts.{most_words}
 use borrow.Author.Rules.{rules}
 use Rattle.lines.proofs.texts.most_words.Statement.{statement}
 use Rattle.lines.proofs.texts.most_words.Tie as tie
@@ -11,7 +11,7 @@ array-read-result : tie.Need-array-read-result
 array-read-result c = search rules
 
 returns : tie.Need-returns
-unfolding mostWords
+unfolding most_words
 returns c = search rules
 
 pub most-words-spec : {M : Type 1} → statement M

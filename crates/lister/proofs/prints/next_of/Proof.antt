@@ -1,6 +1,6 @@
 -- `next_of` meets its contract: each variant says where the next object is met.
 use borrow.Author.Rules.{rules}
-use Rattle.lister.specs.Listed.{metNext}
+use Rattle.lister.specs.Listed.{met_next}
 use Rattle.lister.proofs.prints.next_of.Statement.{statement}
 use Rattle.lister.proofs.prints.next_of.Tie as tie
 
@@ -20,23 +20,23 @@ enum-told-2 : tie.Need-enum-told-2
 enum-told-2 c = search rules
 
 returns : tie.Need-returns
-unfolding metNext
+unfolding met_next
 returns c = search rules
 
 returns-2 : tie.Need-returns-2
-unfolding metNext
+unfolding met_next
 returns-2 c = search rules
 
 returns-3 : tie.Need-returns-3
-unfolding metNext
+unfolding met_next
 returns-3 c = search rules
 
 returns-4 : tie.Need-returns-4
-unfolding metNext
+unfolding met_next
 returns-4 c = search rules
 
 returns-5 : tie.Need-returns-5
-unfolding metNext
+unfolding met_next
 returns-5 c = search rules
 
 pub next-of-spec : {M : Type 1} → statement M

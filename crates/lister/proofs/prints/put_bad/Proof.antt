@@ -1,7 +1,7 @@
 -- `put_bad` meets its contract: its texts go in a row.
 use borrow.Author.Rules.{rules}
-use Rattle.script.proofs.Printed.{put-more}
-use Rattle.lister.specs.Lines.{badLine}
+use Rattle.script.proofs.Printed.{put_more}
+use Rattle.lister.specs.Lines.{bad_line}
 use Rattle.lister.proofs.prints.put_bad.Statement.{statement}
 use Rattle.lister.proofs.prints.put_bad.Tie as tie
 
@@ -33,12 +33,12 @@ same_length : tie.Need-same-length
 same_length c = search rules
 
 returns : tie.Need-returns
-unfolding badLine
+unfolding bad_line
 returns c =
     let e = c.before.before.put-bytes2.ensures in
-    let d = put-more _ _ _ _ _ _ _ _ c.before.before.before.before.before.before.before.put_byte.ensures e in
-    let b = put-more _ _ _ _ _ _ _ _ c.before.before.before.before.before.before.before.before.before.before.before.before.put-bytes.ensures d in
-    rw c.before.before.before.before.before.before.before.before.letter.ensures at (put-more _ _ _ _ _ _ _ _ c.before.before.before.before.before.before.before.before.before.before.before.before.before.before.before.before.before.put-labelled.ensures b)
+    let d = put_more _ _ _ _ _ _ _ _ c.before.before.before.before.before.before.before.put_byte.ensures e in
+    let b = put_more _ _ _ _ _ _ _ _ c.before.before.before.before.before.before.before.before.before.before.before.before.put-bytes.ensures d in
+    rw c.before.before.before.before.before.before.before.before.letter.ensures at (put_more _ _ _ _ _ _ _ _ c.before.before.before.before.before.before.before.before.before.before.before.before.before.before.before.before.before.put-labelled.ensures b)
 
 pub put-bad-spec : {M : Type 1} → statement M
 put-bad-spec =

@@ -1,6 +1,6 @@
 -- `put_line` meets its contract: the line end goes behind the label and the number.
 use borrow.Author.Rules.{rules}
-use Rattle.lister.proofs.Putting.{put-number}
+use Rattle.lister.proofs.Putting.{put_number}
 use Rattle.lister.proofs.prints.put_line.Statement.{statement}
 use Rattle.lister.proofs.prints.put_line.Tie as tie
 
@@ -19,7 +19,7 @@ same_length c = search rules
 returns : tie.Need-returns
 returns c =
     let a = c.before.before.before.before.before.before.before.before.before.before.before.args in
-    put-number a.label.now a.k c.before.before.before.before.before.before.before.put-labelled.ensures c.before.before.put-bytes.ensures
+    put_number a.label.now a.k c.before.before.before.before.before.before.before.put-labelled.ensures c.before.before.put-bytes.ensures
 
 pub put-line-spec : {M : Type 1} → statement M
 put-line-spec =

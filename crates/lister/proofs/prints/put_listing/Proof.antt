@@ -1,9 +1,9 @@
 -- `put_listing` meets its contract: the listing goes by what the image was examined to be.
 use borrow.Author.Rules.{rules}
-use Rattle.script.proofs.Printed.{put-more}
-use Rattle.lister.specs.Lines.{numberLine}
-use Rattle.lister.specs.Listed.{listedAs}
-use Rattle.lister.proofs.Putting.{put-listed}
+use Rattle.script.proofs.Printed.{put_more}
+use Rattle.lister.specs.Lines.{number_line}
+use Rattle.lister.specs.Listed.{listed_as}
+use Rattle.lister.proofs.Putting.{put_listed}
 use Rattle.lister.proofs.prints.put_listing.Statement.{statement}
 use Rattle.lister.proofs.prints.put_listing.Tie as tie
 
@@ -50,29 +50,29 @@ same_length : tie.Need-same-length
 same_length c = search rules
 
 returns : tie.Need-returns
-unfolding listedAs
-returns c = put-listed _ c.before.before.before.before.before.before.before.examine.ensures c.before.before.before.before.before.enum_told.given.1 c.before.before.put-bytes.ensures
+unfolding listed_as
+returns c = put_listed _ c.before.before.before.before.before.before.before.examine.ensures c.before.before.before.before.before.enum_told.given.1 c.before.before.put-bytes.ensures
 
 same-length-2 : tie.Need-same-length-2
 same-length-2 c = search rules
 
 returns-2 : tie.Need-returns-2
-unfolding listedAs
-returns-2 c = put-listed _ c.before.before.before.before.before.before.before.examine.ensures c.before.before.before.before.before.enum-told2.given.1 c.before.before.put-bytes2.ensures
+unfolding listed_as
+returns-2 c = put_listed _ c.before.before.before.before.before.before.before.examine.ensures c.before.before.before.before.before.enum-told2.given.1 c.before.before.put-bytes2.ensures
 
 same-length-3 : tie.Need-same-length-3
 same-length-3 c = search rules
 
 returns-3 : tie.Need-returns-3
-unfolding listedAs
-returns-3 c = put-listed _ c.before.before.before.before.before.before.before.examine.ensures c.before.before.before.before.before.fault.given.1 c.before.before.put-bad.ensures
+unfolding listed_as
+returns-3 c = put_listed _ c.before.before.before.before.before.before.before.examine.ensures c.before.before.before.before.before.fault.given.1 c.before.before.put-bad.ensures
 
 same-length-4 : tie.Need-same-length-4
 same-length-4 c = search rules
 
 returns-4 : tie.Need-returns-4
-unfolding listedAs numberLine
-returns-4 c = put-listed _ c.before.before.before.before.before.before.before.before.before.before.before.before.examine.ensures c.before.before.before.before.before.before.before.before.before.before.e.given.1 (put-more _ _ _ _ _ _ _ _ c.before.before.before.before.before.before.before.put-objects.ensures c.before.before.put-line.ensures)
+unfolding listed_as number_line
+returns-4 c = put_listed _ c.before.before.before.before.before.before.before.before.before.before.before.before.examine.ensures c.before.before.before.before.before.before.before.before.before.before.e.given.1 (put_more _ _ _ _ _ _ _ _ c.before.before.before.before.before.before.before.put-objects.ensures c.before.before.put-line.ensures)
 
 pub put-listing-spec : {M : Type 1} → statement M
 put-listing-spec =

@@ -1,8 +1,8 @@
 -- `put_met` meets its contract: a line for each variant that is an object, and nothing for the others.
 use borrow.Author.Rules.{rules}
-use Rattle.lister.specs.Lines.{numberLine}
-use Rattle.lister.specs.Listed.{metLine}
-use Rattle.lister.proofs.Putting.{put-nothing}
+use Rattle.lister.specs.Lines.{number_line}
+use Rattle.lister.specs.Listed.{met_line}
+use Rattle.lister.proofs.Putting.{put_nothing}
 use Rattle.lister.proofs.prints.put_met.Statement.{statement}
 use Rattle.lister.proofs.prints.put_met.Tie as tie
 
@@ -40,30 +40,30 @@ same_length : tie.Need-same-length
 same_length c = search rules
 
 returns : tie.Need-returns
-unfolding metLine
+unfolding met_line
 returns c = rw c.before.before.before.before.before.m.given.1 c.before.before.put_record.ensures
 
 same-length-2 : tie.Need-same-length-2
 same-length-2 c = search rules
 
 returns-2 : tie.Need-returns-2
-unfolding metLine numberLine
+unfolding met_line number_line
 returns-2 c = rw c.before.before.before.before.before.enum_told.given.1 c.before.before.put-line.ensures
 
 same-length-3 : tie.Need-same-length-3
 same-length-3 c = search rules
 
 returns-3 : tie.Need-returns-3
-unfolding metLine numberLine
+unfolding met_line number_line
 returns-3 c = rw c.before.before.before.before.before.enum-told2.given.1 c.before.before.put-line2.ensures
 
 returns-4 : tie.Need-returns-4
-unfolding metLine
-returns-4 c = rw c.enum-told3.given.1 (put-nothing _ _)
+unfolding met_line
+returns-4 c = rw c.enum-told3.given.1 (put_nothing _ _)
 
 returns-5 : tie.Need-returns-5
-unfolding metLine
-returns-5 c = rw c.enum-told4.given.1 (put-nothing _ _)
+unfolding met_line
+returns-5 c = rw c.enum-told4.given.1 (put_nothing _ _)
 
 pub put-met-spec : {M : Type 1} → statement M
 put-met-spec =

@@ -3,7 +3,7 @@ use mathlib.Core.Path.{◌≡◌}
 use borrow.Author.Rules.{rules}
 use native.Mathlib.Omega.{arith}
 use lib.ListN.{length}
-use Rattle.lister.proofs.Putting.{Left, left-more, left-none}
+use Rattle.lister.proofs.Putting.{Left, left_more, left_none}
 use Rattle.lister.proofs.prints.put_objects.Statement.{statement}
 use Rattle.lister.proofs.prints.put_objects.Tie as tie
 
@@ -35,7 +35,7 @@ loop-again : tie.Need-loop-preserved invariant-loop decreases-loop
 loop-again c =
     let a = c.before.before.before.before.before.before.before.before.before.before.args in
     let l = c.before.before.before.before.before.before.before.loop in
-    (search rules, left-more a.out.now a.image.now a.e l.out l.at l.p l.turns l.invariant.1 _ _ _ _ _ (omega arith) c.before.before.before.before.before.pass.ensures c.before.before.before.put-met.ensures c.next_of.ensures)
+    (search rules, left_more a.out.now a.image.now a.e l.out l.at l.p l.turns l.invariant.1 _ _ _ _ _ (omega arith) c.before.before.before.before.before.pass.ensures c.before.before.before.put-met.ensures c.next_of.ensures)
 
 same_length : tie.Need-same-length invariant-loop decreases-loop
 same_length c = search rules
@@ -44,7 +44,7 @@ returns : tie.Need-returns invariant-loop decreases-loop
 returns c =
     let a = c.before.before.before.before.args in
     let l = c.before.loop in
-    left-none a.out.now a.image.now a.e l.out l.at l.p l.turns l.invariant.1 (omega arith)
+    left_none a.out.now a.image.now a.e l.out l.at l.p l.turns l.invariant.1 (omega arith)
 
 pub put-objects-spec : {M : Type 1} → statement M
 put-objects-spec =

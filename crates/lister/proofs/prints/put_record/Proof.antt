@@ -1,6 +1,6 @@
 -- `put_record` meets its contract: a letter and a number, and a second number behind them.
 use borrow.Author.Rules.{rules}
-use Rattle.lister.proofs.Putting.{put-pair}
+use Rattle.lister.proofs.Putting.{put_pair}
 use Rattle.lister.proofs.prints.put_record.Statement.{statement}
 use Rattle.lister.proofs.prints.put_record.Tie as tie
 
@@ -22,7 +22,7 @@ same_length c = search rules
 returns : tie.Need-returns
 returns c =
     let a = c.before.before.before.before.before.before.before.before.before.before.before.args in
-    put-pair a.p a.n c.before.before.before.before.before.before.before.put-labelled.ensures c.before.before.put-line.ensures
+    put_pair a.p a.n c.before.before.before.before.before.before.before.put-labelled.ensures c.before.before.put-line.ensures
 
 pub put-record-spec : {M : Type 1} → statement M
 put-record-spec =

@@ -3,7 +3,7 @@ use borrow.Author.Rules.{rules}
 use mathlib.Core.Path.{refl}
 use Prim.Native.Nat.{◌+◌, ◌/◌, ◌%◌}
 use Rattle.lists.specs.Words.{word_bytes}
-use Rattle.lists.proofs.Stores.{sets-at}
+use Rattle.lists.proofs.Stores.{sets_at}
 use Rattle.lists.proofs.numbers.put_number.Statement.{statement}
 use Rattle.lists.proofs.numbers.put_number.Tie as tie
 
@@ -25,7 +25,7 @@ returns c =
     let v = w.before.before.before.before in
     let a = v.before.before.before.args in
     let n = a.n in
-    rw (w.put-word2.ensures, v.put_word.ensures) (sets-at (word_bytes (n % 65536)) (word_bytes (n / 65536)) a.b.now a.at (a.at + 2) refl)
+    rw (w.put-word2.ensures, v.put_word.ensures) (sets_at (word_bytes (n % 65536)) (word_bytes (n / 65536)) a.b.now a.at (a.at + 2) refl)
 
 pub put-number-spec : {M : Type 1} → statement M
 put-number-spec =

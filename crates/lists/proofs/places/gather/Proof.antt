@@ -3,8 +3,8 @@ use borrow.Author.Rules.{rules}
 use native.Mathlib.Omega.{arith}
 use mathlib.Core.Path.{refl}
 use lib.ListN.{length}
-use Rattle.lists.proofs.Copied.{part-whole}
-use Rattle.lists.proofs.Placed.{gathered-plain}
+use Rattle.lists.proofs.Copied.{part_whole}
+use Rattle.lists.proofs.Placed.{gathered_plain}
 use Rattle.lists.proofs.places.gather.Statement.{statement}
 use Rattle.lists.proofs.places.gather.Tie as tie
 
@@ -30,7 +30,7 @@ returns-2 c =
     let s = c.before.before in
     let a = s.before.before.before.before.before.args in
     let n = length a.b.now in
-    rw (s.before.before.if1.false, gathered-plain a.mem.now a.a n (omega arith)) (rw (part-whole a.b.now a.mem.now a.a n (omega arith) refl) at s.copy.ensures)
+    rw (s.before.before.if1.false, gathered_plain a.mem.now a.a n (omega arith)) (rw (part_whole a.b.now a.mem.now a.a n (omega arith) refl) at s.copy.ensures)
 
 pub gather-spec : {M : Type 1} → statement M
 gather-spec =

@@ -8,8 +8,8 @@ use Prim.Native.Nat.{◌≤◌, ◌-◌, ◌+◌, ◌%◌}
 use lib.ListN.{length}
 use lib.Seq.{sets}
 use Rattle.lists.specs.Places.{gathered}
-use Rattle.lists.proofs.Placed.{gather-more, gathered_none, place_in}
-use Rattle.lists.proofs.Swapped.{Gathering, gather-first, gather_none, gather-words, odd-test, word_test}
+use Rattle.lists.proofs.Placed.{gather_more, gathered_none, place_in}
+use Rattle.lists.proofs.Swapped.{Gathering, gather_first, gather_none, gather_words, odd_test, word_test}
 use Rattle.lists.proofs.places.gather_swapped.Statement.{statement}
 use Rattle.lists.proofs.places.gather_swapped.Tie as tie
 use Rattle.lists.proofs.places.gather_swapped.Reads as reads
@@ -34,7 +34,7 @@ decreases-loop2 b₀ mem a n i₀ b i = decreases-loop b₀ mem a n i₀ b i
 begun : (c : lts.Joined1 (run-at-reads.Asked, run-at-reads.Learnt, put-swapped-reads.Asked, put-swapped-reads.Learnt, place-of-reads.Asked, place-of-reads.Learnt) reads.Pre reads.Post invariant-loop decreases-loop invariant-loop2 decreases-loop2) → Gathering c.before.before.before.args.b.now c.before.before.before.args.mem.now c.before.before.before.args.a c.if1.b c.if1.i
 begun c =
     let a = c.before.before.before.args in
-    ⊎_elim (λ w. gather-first a.b.now a.mem.now a.a w.0.taken w.2 w.3) (λ w. gather_none a.b.now a.mem.now a.a w.1 w.2) c.if1.branch
+    ⊎_elim (λ w. gather_first a.b.now a.mem.now a.a w.0.taken w.2 w.3) (λ w. gather_none a.b.now a.mem.now a.a w.1 w.2) c.if1.branch
 
 -- what the first loop's test says
 tested : (c : lts.In-loop (run-at-reads.Asked, run-at-reads.Learnt, put-swapped-reads.Asked, put-swapped-reads.Learnt, place-of-reads.Asked, place-of-reads.Learnt) reads.Pre reads.Post invariant-loop decreases-loop invariant-loop2 decreases-loop2) → (64 ≤ length c.before.before.before.before.before.args.b.now - c.before.loop.i) × ((c.before.before.before.before.before.args.a + c.before.loop.i) % 2 ≡ 0)
@@ -46,17 +46,17 @@ tested c =
 sub-b : tie.Need-overflow-sub-b invariant-loop decreases-loop invariant-loop2 decreases-loop2
 sub-b c =
     let a = c.before.before.before.args in
-    omega (arith, odd-test a.a (length a.b.now) c.if1.true)
+    omega (arith, odd_test a.a (length a.b.now) c.if1.true)
 
 shared-slice-read-b : tie.Need-shared-slice-read-b invariant-loop decreases-loop invariant-loop2 decreases-loop2
 shared-slice-read-b c =
     let a = c.before.before.before.before.args in
-    omega (arith, odd-test a.a (length a.b.now) c.before.if1.true)
+    omega (arith, odd_test a.a (length a.b.now) c.before.if1.true)
 
 slice-write-b : tie.Need-slice-write-b invariant-loop decreases-loop invariant-loop2 decreases-loop2
 slice-write-b c =
     let a = c.before.before.before.before.args in
-    omega (arith, odd-test a.a (length a.b.now) c.before.if1.true)
+    omega (arith, odd_test a.a (length a.b.now) c.before.if1.true)
 
 loop-holds : tie.Need-loop-init invariant-loop decreases-loop invariant-loop2 decreases-loop2
 loop-holds c =
@@ -91,7 +91,7 @@ loop-again c =
     let a = l.before.before.before.before.args in
     let t = tested p.before.before.before.before in
     let n = length a.b.now in
-    (omega arith, search rules, gather-words l.loop.b a.mem.now a.a l.loop.i 64 (n - (l.loop.i + 64)) (n - l.loop.i) p.before.run_at.ensures p.put-swapped.ensures t.1 refl (omega arith) ∙ l.loop.invariant.2)
+    (omega arith, search rules, gather_words l.loop.b a.mem.now a.a l.loop.i 64 (n - (l.loop.i + 64)) (n - l.loop.i) p.before.run_at.ensures p.put-swapped.ensures t.1 refl (omega arith) ∙ l.loop.invariant.2)
 
 loop2-holds : tie.Need-loop2-init invariant-loop decreases-loop invariant-loop2 decreases-loop2
 loop2-holds c = search rules
@@ -122,7 +122,7 @@ loop2-again c =
     let l = c.before.before.before.before in
     let a = l.before.before.before.before.before.before.args in
     let n = length a.b.now in
-    (search rules, search rules, gather-more true l.loop2.b a.mem.now a.a l.loop2.i (n - (l.loop2.i + 1)) (n - l.loop2.i) c.before.place_of.ensures (omega arith) ∙ l.loop2.invariant.2)
+    (search rules, search rules, gather_more true l.loop2.b a.mem.now a.a l.loop2.i (n - (l.loop2.i + 1)) (n - l.loop2.i) c.before.place_of.ensures (omega arith) ∙ l.loop2.invariant.2)
 
 same_length : tie.Need-same-length invariant-loop decreases-loop invariant-loop2 decreases-loop2
 same_length c = search rules

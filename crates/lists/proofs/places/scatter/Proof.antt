@@ -1,7 +1,7 @@
 -- `scatter` meets its contract: with no swap a run is a part of the memory.
 use borrow.Author.Rules.{rules}
 use lib.Seq.{take-length}
-use Rattle.lists.proofs.Placed.{placed-plain}
+use Rattle.lists.proofs.Placed.{placed_plain}
 use Rattle.lists.proofs.places.scatter.Statement.{statement}
 use Rattle.lists.proofs.places.scatter.Tie as tie
 
@@ -26,7 +26,7 @@ returns-2 : tie.Need-returns-2
 returns-2 c =
     let s = c.before.before in
     let a = s.before.before.before.before.before.args in
-    rw (s.before.before.if1.false, placed-plain a.mem.now a.a a.d.now) (rw (take-length a.d.now) at s.copy.ensures)
+    rw (s.before.before.if1.false, placed_plain a.mem.now a.a a.d.now) (rw (take-length a.d.now) at s.copy.ensures)
 
 pub scatter-spec : {M : Type 1} → statement M
 scatter-spec =

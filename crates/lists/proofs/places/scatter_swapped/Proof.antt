@@ -7,8 +7,8 @@ use mathlib.Core.Logic.{⊎_elim}
 use Prim.Native.Nat.{◌≤◌, ◌-◌, ◌+◌, ◌%◌}
 use lib.ListN.{length, drop}
 use Rattle.lists.specs.Places.{placed}
-use Rattle.lists.proofs.Placed.{place_in, place-more, placed-none}
-use Rattle.lists.proofs.Swapped.{Scattering, odd-test, scatter-first, scatter-none, scatter-words, word_test}
+use Rattle.lists.proofs.Placed.{place_in, place_more, placed_none_lem}
+use Rattle.lists.proofs.Swapped.{Scattering, odd_test, scatter_first, scatter_none, scatter_words, word_test}
 use Rattle.lists.proofs.places.scatter_swapped.Statement.{statement}
 use Rattle.lists.proofs.places.scatter_swapped.Tie as tie
 use Rattle.lists.proofs.places.scatter_swapped.Reads as reads
@@ -33,7 +33,7 @@ decreases-loop2 d mem₀ a i₀ mem i = decreases-loop d mem₀ a i₀ mem i
 begun : (c : lts.Joined1 (run-at-reads.Asked, run-at-reads.Learnt, put-swapped-reads.Asked, put-swapped-reads.Learnt, place-of-reads.Asked, place-of-reads.Learnt) reads.Pre reads.Post invariant-loop decreases-loop invariant-loop2 decreases-loop2) → Scattering c.before.before.before.args.mem.now c.before.before.before.args.d.now c.before.before.before.args.a c.if1.mem c.if1.i
 begun c =
     let a = c.before.before.before.args in
-    ⊎_elim (λ w. scatter-first a.mem.now a.d.now a.a w.0.taken w.2 w.3) (λ w. scatter-none a.mem.now a.d.now a.a w.1 w.2) c.if1.branch
+    ⊎_elim (λ w. scatter_first a.mem.now a.d.now a.a w.0.taken w.2 w.3) (λ w. scatter_none a.mem.now a.d.now a.a w.1 w.2) c.if1.branch
 
 -- what the first loop's test says
 tested : (c : lts.In-loop (run-at-reads.Asked, run-at-reads.Learnt, put-swapped-reads.Asked, put-swapped-reads.Learnt, place-of-reads.Asked, place-of-reads.Learnt) reads.Pre reads.Post invariant-loop decreases-loop invariant-loop2 decreases-loop2) → (64 ≤ length c.before.before.before.before.before.args.d.now - c.before.loop.i) × ((c.before.before.before.before.before.args.a + c.before.loop.i) % 2 ≡ 0)
@@ -45,17 +45,17 @@ tested c =
 shared-slice-read-mem : tie.Need-shared-slice-read-mem invariant-loop decreases-loop invariant-loop2 decreases-loop2
 shared-slice-read-mem c =
     let a = c.before.before.before.before.args in
-    omega (arith, odd-test a.a (length a.d.now) c.before.if1.true)
+    omega (arith, odd_test a.a (length a.d.now) c.before.if1.true)
 
 sub-mem : tie.Need-overflow-sub-mem invariant-loop decreases-loop invariant-loop2 decreases-loop2
 sub-mem c =
     let a = c.before.before.before.before.args in
-    omega (arith, odd-test a.a (length a.d.now) c.before.if1.true)
+    omega (arith, odd_test a.a (length a.d.now) c.before.if1.true)
 
 slice-write-mem : tie.Need-slice-write-mem invariant-loop decreases-loop invariant-loop2 decreases-loop2
 slice-write-mem c =
     let a = c.before.before.before.before.args in
-    omega (arith, odd-test a.a (length a.d.now) c.before.if1.true)
+    omega (arith, odd_test a.a (length a.d.now) c.before.if1.true)
 
 loop-holds : tie.Need-loop-init invariant-loop decreases-loop invariant-loop2 decreases-loop2
 loop-holds c =
@@ -89,7 +89,7 @@ loop-again c =
     let l = p.before.before.before.before.before in
     let a = l.before.before.before.before.args in
     let t = tested p.before.before.before.before in
-    (omega arith, search rules, search rules, search rules, scatter-words l.loop.mem a.d.now a.a l.loop.i 64 p.before.run_at.ensures p.put-swapped.ensures t.1 refl (omega arith) ∙ l.loop.invariant.4)
+    (omega arith, search rules, search rules, search rules, scatter_words l.loop.mem a.d.now a.a l.loop.i 64 p.before.run_at.ensures p.put-swapped.ensures t.1 refl (omega arith) ∙ l.loop.invariant.4)
 
 loop2-holds : tie.Need-loop2-init invariant-loop decreases-loop invariant-loop2 decreases-loop2
 loop2-holds c = search rules
@@ -119,7 +119,7 @@ loop2-again : tie.Need-loop2-preserved invariant-loop decreases-loop invariant-l
 loop2-again c =
     let l = c.before.before.before.before in
     let a = l.before.before.before.before.before.before.args in
-    (search rules, search rules, search rules, search rules, place-more true l.loop2.mem a.d.now a.a l.loop2.i c.before.place_of.ensures (omega arith) ∙ l.loop2.invariant.4)
+    (search rules, search rules, search rules, search rules, place_more true l.loop2.mem a.d.now a.a l.loop2.i c.before.place_of.ensures (omega arith) ∙ l.loop2.invariant.4)
 
 same_length : tie.Need-same-length invariant-loop decreases-loop invariant-loop2 decreases-loop2
 same_length c =
@@ -131,7 +131,7 @@ returns c =
     let l₂ = c.before in
     let l = l₂.before.before in
     let a = l.before.before.before.before.args in
-    sym (placed-none true l₂.loop2.mem a.d.now (a.a + l₂.loop2.i) l₂.loop2.i (omega arith)) ∙ l₂.loop2.invariant.4 ∙ l.loop.invariant.4 ∙ (begun l.before).1
+    sym (placed_none_lem true l₂.loop2.mem a.d.now (a.a + l₂.loop2.i) l₂.loop2.i (omega arith)) ∙ l₂.loop2.invariant.4 ∙ l.loop.invariant.4 ∙ (begun l.before).1
 
 pub scatter-swapped-spec : {M : Type 1} → statement M
 scatter-swapped-spec =

@@ -6,7 +6,7 @@ use Prim.Native.Nat.{◌≤◌, ◌-◌}
 use lib.ListN.{length, replicate, length-replicate}
 use lib.Seq.{sets}
 use native.Mathlib.Nat.{zero-add}
-use Rattle.lists.proofs.Stores.{fill_more, sets-whole}
+use Rattle.lists.proofs.Stores.{fill_more, sets_whole}
 use Rattle.lists.proofs.places.zero_fill.Statement.{statement}
 use Rattle.lists.proofs.places.zero_fill.Tie as tie
 
@@ -42,7 +42,7 @@ returns c =
     let b = c.before.before.args.b.now in
     let i = c.before.loop.i in
     let e : i ≡ length b = omega arith in
-    cc (sets-whole (replicate i 0) b (length-replicate i 0 ∙ e))
+    cc (sets_whole (replicate i 0) b (length-replicate i 0 ∙ e))
 
 pub zero-fill-spec : {M : Type 1} → statement M
 zero-fill-spec =

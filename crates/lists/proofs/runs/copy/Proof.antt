@@ -5,7 +5,7 @@ use mathlib.Core.Path.{◌≡◌, refl}
 use Prim.Native.Nat.{◌≤◌, ◌-◌, ◌+◌}
 use lib.ListN.{length, take, drop}
 use lib.Seq.{sets}
-use Rattle.lists.proofs.Copied.{copy-byte}
+use Rattle.lists.proofs.Copied.{copy_byte}
 use Rattle.lists.proofs.runs.copy.Statement.{statement}
 use Rattle.lists.proofs.runs.copy.Tie as tie
 
@@ -58,7 +58,7 @@ loop-again : tie.Need-loop-preserved invariant-loop decreases-loop
 loop-again c =
     let l = c.before.before in
     let a = l.before.before.before.before.before.args in
-    (omega arith, rw l.loop.invariant.1 (copy-byte a.b.now a.d.now a.from a.at l.loop.i (a.at + l.loop.i) (a.from + l.loop.i) refl refl (omega arith)), search rules)
+    (omega arith, rw l.loop.invariant.1 (copy_byte a.b.now a.d.now a.from a.at l.loop.i (a.at + l.loop.i) (a.from + l.loop.i) refl refl (omega arith)), search rules)
 
 same-length-3 : tie.Need-same-length-3 invariant-loop decreases-loop
 same-length-3 c = search rules

@@ -5,7 +5,7 @@ use mathlib.Core.Path.{◌≡◌}
 use Prim.Native.Nat.{◌≤◌, ◌-◌}
 use lib.ListN.{length, take, drop}
 use lib.Seq.{sets}
-use Rattle.lists.proofs.Copied.{copied-last, copied_more}
+use Rattle.lists.proofs.Copied.{copied_last, copied_more}
 use Rattle.lists.proofs.runs.copy_eights.Statement.{statement}
 use Rattle.lists.proofs.runs.copy_eights.Tie as tie
 
@@ -66,7 +66,7 @@ returns c =
     let p = c.before.before in
     let l = p.before.before.before.before in
     let a = l.before.before.before.args in
-    copied-last a.b.now a.d.now a.from a.at l.loop.i 8 l.loop.invariant.1 (a.n - 8) a.n p.before.eight-at2.ensures p.put-eight2.ensures (omega arith) (omega arith) (omega arith) (omega arith)
+    copied_last a.b.now a.d.now a.from a.at l.loop.i 8 l.loop.invariant.1 (a.n - 8) a.n p.before.eight-at2.ensures p.put-eight2.ensures (omega arith) (omega arith) (omega arith) (omega arith)
 
 pub copy-eights-spec : {M : Type 1} → statement M
 copy-eights-spec =

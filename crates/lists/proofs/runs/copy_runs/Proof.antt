@@ -5,7 +5,7 @@ use mathlib.Core.Path.{◌≡◌}
 use Prim.Native.Nat.{◌≤◌, ◌-◌}
 use lib.ListN.{length, take, drop}
 use lib.Seq.{sets}
-use Rattle.lists.proofs.Copied.{copied-last, copied_more}
+use Rattle.lists.proofs.Copied.{copied_last, copied_more}
 use Rattle.lists.proofs.runs.copy_runs.Statement.{statement}
 use Rattle.lists.proofs.runs.copy_runs.Tie as tie
 
@@ -66,7 +66,7 @@ returns c =
     let p = c.before.before in
     let l = p.before.before.before.before in
     let a = l.before.before.before.args in
-    copied-last a.b.now a.d.now a.from a.at l.loop.i 64 l.loop.invariant.1 (a.n - 64) a.n p.before.run-at2.ensures p.put-run2.ensures (omega arith) (omega arith) (omega arith) (omega arith)
+    copied_last a.b.now a.d.now a.from a.at l.loop.i 64 l.loop.invariant.1 (a.n - 64) a.n p.before.run-at2.ensures p.put-run2.ensures (omega arith) (omega arith) (omega arith) (omega arith)
 
 pub copy-runs-spec : {M : Type 1} → statement M
 copy-runs-spec =

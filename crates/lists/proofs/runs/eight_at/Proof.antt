@@ -5,7 +5,7 @@ use mathlib.Core.Path.{◌≡◌}
 use Prim.Native.Nat.{◌≤◌, ◌-◌, ◌+◌}
 use lib.ListN.{length, take, drop}
 use lib.Seq.{sets}
-use Rattle.lists.proofs.Copied.{copy-byte, part-whole}
+use Rattle.lists.proofs.Copied.{copy_byte, part_whole}
 use Rattle.lists.proofs.runs.eight_at.Statement.{statement}
 use Rattle.lists.proofs.runs.eight_at.Tie as tie
 
@@ -41,14 +41,14 @@ loop-again c =
     let l = c.before.before in
     let a = l.before.before.before.args in
     let r = l.before.blank-eight.result in
-    (search rules, cc (copy-byte r a.b.now a.at 0 l.loop.i l.loop.i (a.at + l.loop.i) (omega arith) (omega arith) (omega arith)), search rules, search rules)
+    (search rules, cc (copy_byte r a.b.now a.at 0 l.loop.i l.loop.i (a.at + l.loop.i) (omega arith) (omega arith) (omega arith)), search rules, search rules)
 
 returns : tie.Need-returns invariant-loop decreases-loop
 returns c =
     let l = c.before in
     let a = l.before.before.before.args in
     let e : l.loop.i ≡ 8 = omega arith in
-    cc (part-whole l.before.blank-eight.result a.b.now a.at 8 (omega arith) (search rules))
+    cc (part_whole l.before.blank-eight.result a.b.now a.at 8 (omega arith) (search rules))
 
 pub eight-at-spec : {M : Type 1} → statement M
 eight-at-spec =

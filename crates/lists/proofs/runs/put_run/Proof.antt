@@ -5,7 +5,7 @@ use mathlib.Core.Path.{◌≡◌}
 use Prim.Native.Nat.{◌≤◌, ◌-◌, ◌+◌}
 use lib.ListN.{length, take}
 use lib.Seq.{sets, take-length}
-use Rattle.lists.proofs.Copied.{copy-byte}
+use Rattle.lists.proofs.Copied.{copy_byte}
 use Rattle.lists.proofs.runs.put_run.Statement.{statement}
 use Rattle.lists.proofs.runs.put_run.Tie as tie
 
@@ -37,7 +37,7 @@ loop-again : tie.Need-loop-preserved invariant-loop decreases-loop
 loop-again c =
     let l = c.before in
     let a = l.before.args in
-    (search rules, cc (copy-byte a.b.now a.t3 0 a.at l.loop.i (a.at + l.loop.i) l.loop.i (omega arith) (omega arith) (omega arith)), search rules)
+    (search rules, cc (copy_byte a.b.now a.t3 0 a.at l.loop.i (a.at + l.loop.i) l.loop.i (omega arith) (omega arith) (omega arith)), search rules)
 
 same_length : tie.Need-same-length invariant-loop decreases-loop
 same_length c = search rules

@@ -9,7 +9,7 @@ use lib.ListN.{length, length-set}
 use lib.Seq.{sets}
 use Rattle.lists.specs.Places.{gathered}
 use Rattle.lists.proofs.Placed.{gathered_none}
-use Rattle.lists.proofs.Swapped.{swap-word}
+use Rattle.lists.proofs.Swapped.{swap_word}
 use Rattle.lists.proofs.runs.put_swapped.Statement.{statement}
 use Rattle.lists.proofs.runs.put_swapped.Tie as tie
 
@@ -57,7 +57,7 @@ loop-again c =
     let l = c.before in
     let a = l.before.args in
     let k : 64 - l.loop.i ≡ suc (suc (64 - (l.loop.i + 2))) = omega arith in
-    (omega arith, omega arith, swap-word l.loop.b a.t3 a.at l.loop.i (64 - (l.loop.i + 2)) l.loop.invariant.1 ∙ rw (← k) l.loop.invariant.2, search rules)
+    (omega arith, omega arith, swap_word l.loop.b a.t3 a.at l.loop.i (64 - (l.loop.i + 2)) l.loop.invariant.1 ∙ rw (← k) l.loop.invariant.2, search rules)
 
 same_length : tie.Need-same-length invariant-loop decreases-loop
 same_length c = search rules

@@ -4,19 +4,19 @@ use native.Mathlib.Omega.{arith}
 use mathlib.Core.Path.{◌≡◌}
 use Prim.Native.Nat.{◌≤◌, ◌-◌, ◌*◌}
 use lib.ListN.{take}
-use Rattle.lists.specs.Words.{wordLimit, wordSum}
+use Rattle.lists.specs.Words.{word_limit, word_sum}
 use Rattle.lists.proofs.Sums.{sum_more}
 use Rattle.lists.proofs.words.word_sum.Statement.{statement}
 use Rattle.lists.proofs.words.word_sum.Tie as tie
 
 abbrev invariant-loop : tie.invariant-loop
-invariant-loop b n sum₀ j₀ sum j = (j ≤ n) × (sum ≡ wordSum (take (2 * j) b)) × (sum ≤ (wordLimit - 1) * j)
+invariant-loop b n sum₀ j₀ sum j = (j ≤ n) × (sum ≡ word_sum (take (2 * j) b)) × (sum ≤ (word_limit - 1) * j)
 
 abbrev decreases-loop : tie.decreases-loop
 decreases-loop b n sum₀ j₀ sum j = n - j
 
 loop-holds : tie.Need-loop-init invariant-loop decreases-loop
-unfolding wordSum
+unfolding word_sum
 loop-holds c = search rules
 
 mul-word : tie.Need-overflow-mul-word invariant-loop decreases-loop

@@ -1,6 +1,6 @@
 -- `moved_bytes` meets its contract.
 use borrow.Author.Rules.{rules}
-use Rattle.motions.specs.Parts.{movedLength}
+use Rattle.motions.specs.Parts.{moved_length}
 use Rattle.motions.proofs.parts.moved_bytes.Statement.{statement}
 use Rattle.motions.proofs.parts.moved_bytes.Tie as tie
 
@@ -11,7 +11,7 @@ least-requires : tie.Need-least-requires
 least-requires c κs = search rules
 
 returns : tie.Need-returns
-unfolding movedLength
+unfolding moved_length
 returns c = c.least.ensures
 
 pub moved-bytes-spec : {M : Type 1} → statement M

@@ -1,7 +1,7 @@
 -- `object_blocks` meets its contract: an arm for each object.
 use borrow.Author.Rules.{rules}
 use native.Mathlib.Omega.{arith}
-use Rattle.motions.specs.Parts.{objectBlocks}
+use Rattle.motions.specs.Parts.{object_blocks}
 use Rattle.motions.proofs.parts.object_blocks.Statement.{statement}
 use Rattle.motions.proofs.parts.object_blocks.Tie as tie
 
@@ -21,19 +21,19 @@ pieces-requires : tie.Need-pieces-requires
 pieces-requires c κs = search rules
 
 returns : tie.Need-returns
-unfolding objectBlocks
+unfolding object_blocks
 returns c = (rw c.enum_told.given.1, omega arith)
 
 returns-2 : tie.Need-returns-2
-unfolding objectBlocks
+unfolding object_blocks
 returns-2 c = (rw c.enum-told2.given.1, omega arith)
 
 returns-3 : tie.Need-returns-3
-unfolding objectBlocks
+unfolding object_blocks
 returns-3 c = (rw c.enum-told3.given.1, omega arith)
 
 returns-4 : tie.Need-returns-4
-unfolding objectBlocks
+unfolding object_blocks
 returns-4 c = (rw c.before.enum-told4.given.1 c.pieces.ensures, omega arith)
 
 pub object-blocks-spec : {M : Type 1} → statement M

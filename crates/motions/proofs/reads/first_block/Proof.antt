@@ -1,23 +1,23 @@
 -- `first_block` meets its contract.
 use borrow.Author.Rules.{rules}
 use native.Mathlib.Omega.{arith}
-use Rattle.motions.specs.Reads.{firstBlock}
+use Rattle.motions.specs.Reads.{first_block}
 use Rattle.motions.proofs.reads.first_block.Statement.{statement}
 use Rattle.motions.proofs.reads.first_block.Tie as tie
 
 returns : tie.Need-returns
-unfolding firstBlock
+unfolding first_block
 returns c = rw c.if1.true
 
 pieces-requires : tie.Need-pieces-requires
 pieces-requires c κs = search rules
 
 returns-2 : tie.Need-returns-2
-unfolding firstBlock
+unfolding first_block
 returns-2 c = rw c.before.before.if1.false (omega arith)
 
 returns-3 : tie.Need-returns-3
-unfolding firstBlock
+unfolding first_block
 returns-3 c = rw c.before.before.if1.false (omega arith)
 
 pub first-block-spec : {M : Type 1} → statement M

@@ -1,6 +1,6 @@
 -- `mark_end` meets its contract.
 use borrow.Author.Rules.{rules}
-use Rattle.motions.specs.Reads.{markEnd}
+use Rattle.motions.specs.Reads.{mark_end}
 use Rattle.motions.proofs.reads.mark_end.Statement.{statement}
 use Rattle.motions.proofs.reads.mark_end.Tie as tie
 
@@ -11,7 +11,7 @@ add-t5 : tie.Need-overflow-add-t5
 add-t5 c = search rules
 
 returns : tie.Need-returns
-unfolding markEnd
+unfolding mark_end
 returns c = rw c.flag.ensures.0
 
 pub mark-end-spec : {M : Type 1} → statement M

@@ -5,7 +5,7 @@ use mathlib.Core.Path.{◌≡◌, ◌∙◌}
 use borrow.Author.Tests.{eq-eqb, ne_eqb}
 use lib.Dec.{eqb}
 use Rattle.lists.specs.Pick.{pick}
-use Rattle.motions.specs.Reads.{readEnd}
+use Rattle.motions.specs.Reads.{read_end}
 use Rattle.motions.proofs.reads.read_end.Statement.{statement}
 use Rattle.motions.proofs.reads.read_end.Tie as tie
 
@@ -34,7 +34,7 @@ cast-left : tie.Need-overflow-cast-left
 cast-left c = search rules
 
 returns : tie.Need-returns
-unfolding readEnd
+unfolding read_end
 returns c =
     let a = c.before.before.before.before.before.before.args in
     let i = c.before.before.before.before.if1 in

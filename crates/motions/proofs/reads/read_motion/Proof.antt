@@ -1,6 +1,6 @@
 -- `read_motion` meets its contract.
 use borrow.Author.Rules.{rules}
-use Rattle.motions.specs.Reads.{readMotion}
+use Rattle.motions.specs.Reads.{read_motion}
 use Rattle.motions.proofs.reads.read_motion.Statement.{statement}
 use Rattle.motions.proofs.reads.read_motion.Tie as tie
 
@@ -14,7 +14,7 @@ no-lay-requires : tie.Need-no-lay-requires
 no-lay-requires c κs = search rules
 
 returns : tie.Need-returns
-unfolding readMotion
+unfolding read_motion
 returns c = rw (c.no-lay.ensures, c.before.first_block.ensures, c.before.before.read-end.ensures)
 
 pub read-motion-spec : {M : Type 1} → statement M

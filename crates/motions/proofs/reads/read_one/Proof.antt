@@ -1,6 +1,6 @@
 -- `read_one` meets its contract: a record goes on, and anything else is the end.
 use borrow.Author.Rules.{rules}
-use Rattle.motions.specs.Reads.{onRecord, readOneUnder}
+use Rattle.motions.specs.Reads.{on_record, read_one_under}
 use Rattle.motions.proofs.reads.read_one.Statement.{statement}
 use Rattle.motions.proofs.reads.read_one.Tie as tie
 
@@ -20,15 +20,15 @@ enum-known-fault : tie.Need-enum-known-fault
 enum-known-fault c = search rules
 
 returns : tie.Need-returns
-unfolding readOneUnder onRecord
+unfolding read_one_under on_record
 returns c = rw (← c.before.before.before.before.run-stage.ensures, c.before.before.n.given.1) c.read-motion.ensures
 
 returns-2 : tie.Need-returns-2
-unfolding readOneUnder onRecord
+unfolding read_one_under on_record
 returns-2 c = rw (← c.before.before.before.run-stage.ensures, c.before.x.given.1)
 
 returns-3 : tie.Need-returns-3
-unfolding readOneUnder onRecord
+unfolding read_one_under on_record
 returns-3 c = rw (← c.before.before.before.run-stage.ensures, c.before.fault.given.1)
 
 pub read-one-spec : {M : Type 1} → statement M

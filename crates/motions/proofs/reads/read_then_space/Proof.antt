@@ -1,6 +1,6 @@
 -- `read_then_space` meets its contract: a record goes on, and anything else is the end.
 use borrow.Author.Rules.{rules}
-use Rattle.motions.specs.Reads.{onRecord, readThenSpaceUnder}
+use Rattle.motions.specs.Reads.{on_record, read_then_space_under}
 use Rattle.motions.proofs.reads.read_then_space.Statement.{statement}
 use Rattle.motions.proofs.reads.read_then_space.Tie as tie
 
@@ -20,15 +20,15 @@ enum-known-fault : tie.Need-enum-known-fault
 enum-known-fault c = search rules
 
 returns : tie.Need-returns
-unfolding readThenSpaceUnder onRecord
+unfolding read_then_space_under on_record
 returns c = rw (← c.before.before.before.before.run-stage.ensures, c.before.before.n.given.1) c.space-back.ensures
 
 returns-2 : tie.Need-returns-2
-unfolding readThenSpaceUnder onRecord
+unfolding read_then_space_under on_record
 returns-2 c = rw (← c.before.before.before.run-stage.ensures, c.before.x.given.1)
 
 returns-3 : tie.Need-returns-3
-unfolding readThenSpaceUnder onRecord
+unfolding read_then_space_under on_record
 returns-3 c = rw (← c.before.before.before.run-stage.ensures, c.before.fault.given.1)
 
 pub read-then-space-spec : {M : Type 1} → statement M

@@ -1,6 +1,6 @@
 -- `run_stage` meets its contract: an arm for each thing found.
 use borrow.Author.Rules.{rules}
-use Rattle.motions.specs.Reads.{stageBy, stageOfUnder}
+use Rattle.motions.specs.Reads.{stage_by, stage_of_under}
 use Rattle.motions.proofs.reads.run_stage.Statement.{statement}
 use Rattle.motions.proofs.reads.run_stage.Tie as tie
 
@@ -32,19 +32,19 @@ enum-known-fault : tie.Need-enum-known-fault
 enum-known-fault c = search rules
 
 returns : tie.Need-returns
-unfolding stageOfUnder stageBy
+unfolding stage_of_under stage_by
 returns c = rw (← c.before.before.before.seek.ensures, c.before.n.given.1)
 
 returns-2 : tie.Need-returns-2
-unfolding stageOfUnder stageBy
+unfolding stage_of_under stage_by
 returns-2 c = rw (← c.before.before.before.before.before.seek.ensures, c.before.before.before.q.given.1, c.rest.ensures, c.before.mark-end.ensures)
 
 returns-3 : tie.Need-returns-3
-unfolding stageOfUnder stageBy
+unfolding stage_of_under stage_by
 returns-3 c = rw (← c.before.before.before.before.before.seek.ensures, c.before.before.before.q2.given.1, c.rest2.ensures, c.before.nothing-end.ensures)
 
 returns-4 : tie.Need-returns-4
-unfolding stageOfUnder stageBy
+unfolding stage_of_under stage_by
 returns-4 c = rw (← c.before.before.before.seek.ensures, c.before.fault.given.1)
 
 pub run-stage-spec : {M : Type 1} → statement M

@@ -1,6 +1,6 @@
 -- `space_back` meets its contract: a record goes on, and anything else is the end.
 use borrow.Author.Rules.{rules}
-use Rattle.motions.specs.Reads.{onRecord, spaceBackUnder}
+use Rattle.motions.specs.Reads.{on_record, space_back_under}
 use Rattle.motions.proofs.reads.space_back.Statement.{statement}
 use Rattle.motions.proofs.reads.space_back.Tie as tie
 
@@ -20,15 +20,15 @@ enum-known-fault : tie.Need-enum-known-fault
 enum-known-fault c = search rules
 
 returns : tie.Need-returns
-unfolding spaceBackUnder onRecord
+unfolding space_back_under on_record
 returns c = rw (← c.before.before.before.before.run-stage.ensures, c.before.before.b.given.1) c.read-motion.ensures
 
 returns-2 : tie.Need-returns-2
-unfolding spaceBackUnder onRecord
+unfolding space_back_under on_record
 returns-2 c = rw (← c.before.before.before.run-stage.ensures, c.before.x.given.1)
 
 returns-3 : tie.Need-returns-3
-unfolding spaceBackUnder onRecord
+unfolding space_back_under on_record
 returns-3 c = rw (← c.before.before.before.run-stage.ensures, c.before.fault.given.1)
 
 pub space-back-spec : {M : Type 1} → statement M

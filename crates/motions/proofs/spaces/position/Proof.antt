@@ -1,6 +1,6 @@
 -- `position` meets its contract.
 use borrow.Author.Rules.{rules}
-use Rattle.motions.specs.Spaces.{positionedUnder}
+use Rattle.motions.specs.Spaces.{positioned_under}
 use Rattle.motions.proofs.spaces.position.Statement.{statement}
 use Rattle.motions.proofs.spaces.position.Tie as tie
 
@@ -17,7 +17,7 @@ no-lay-requires : tie.Need-no-lay-requires
 no-lay-requires c κs = search rules
 
 returns : tie.Need-returns
-unfolding positionedUnder
+unfolding positioned_under
 returns c =
     rw (← c.before.before.before.before.none_left.ensures, c.before.before.before.if1.true, c.no-lay.ensures, c.before.no_move.ensures, c.before.before.residual-of.ensures)
 
@@ -28,7 +28,7 @@ space-motion-requires : tie.Need-space-motion-requires
 space-motion-requires c κs = search rules
 
 returns-2 : tie.Need-returns-2
-unfolding positionedUnder
+unfolding positioned_under
 returns-2 c =
     rw (← c.before.before.before.before.none_left.ensures, c.before.before.before.if1.false, ← c.before.space.ensures) c.space-motion.ensures
 

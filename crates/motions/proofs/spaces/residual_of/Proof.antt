@@ -1,6 +1,6 @@
 -- `residual_of` meets its contract.
 use borrow.Author.Rules.{rules}
-use Rattle.motions.specs.Spaces.{residualOf}
+use Rattle.motions.specs.Spaces.{residual_of}
 use Rattle.motions.proofs.spaces.residual_of.Statement.{statement}
 use Rattle.motions.proofs.spaces.residual_of.Tie as tie
 
@@ -11,11 +11,11 @@ enum-known-left-2 : tie.Need-enum-known-left-2
 enum-known-left-2 c = search rules
 
 returns : tie.Need-returns
-unfolding residualOf
+unfolding residual_of
 returns c = rw c.before.left.given.1
 
 returns-2 : tie.Need-returns-2
-unfolding residualOf
+unfolding residual_of
 returns-2 c = rw c.before.left2.given.1
 
 pub residual-of-spec : {M : Type 1} → statement M

@@ -1,6 +1,6 @@
 -- `space_end` meets its contract: an arm for each stop.
 use borrow.Author.Rules.{rules}
-use Rattle.motions.specs.Spaces.{spaceEnd}
+use Rattle.motions.specs.Spaces.{space_end}
 use Rattle.motions.proofs.spaces.space_end.Statement.{statement}
 use Rattle.motions.proofs.spaces.space_end.Tie as tie
 
@@ -50,27 +50,27 @@ enum-told-5 : tie.Need-enum-told-5
 enum-told-5 c = search rules
 
 returns : tie.Need-returns
-unfolding spaceEnd
+unfolding space_end
 returns c = rw (c.enum_told.given.1, c.before.before.before.before.flag2.ensures.0, c.before.before.before.before.before.flag.ensures.0, c.before.before.before.before.before.before.residual-of.ensures)
 
 returns-2 : tie.Need-returns-2
-unfolding spaceEnd
+unfolding space_end
 returns-2 c = rw (c.enum-told2.given.1, c.before.before.before.before.before.flag.ensures.0, c.before.before.before.before.before.before.residual-of.ensures)
 
 returns-3 : tie.Need-returns-3
-unfolding spaceEnd
+unfolding space_end
 returns-3 c = rw (c.enum-told3.given.1, c.before.before.flag3.ensures.0, c.before.before.before.none_left.ensures, c.before.before.before.before.flag2.ensures.0, c.before.before.before.before.before.flag.ensures.0, c.before.before.before.before.before.before.residual-of.ensures)
 
 returns-4 : tie.Need-returns-4
-unfolding spaceEnd
+unfolding space_end
 returns-4 c = rw (c.before.enum-told4.given.1, c.if1.true, c.before.before.before.flag3.ensures.0, c.before.before.before.before.none_left.ensures, c.before.before.before.before.before.flag2.ensures.0, c.before.before.before.before.before.before.before.residual-of.ensures)
 
 returns-5 : tie.Need-returns-5
-unfolding spaceEnd
+unfolding space_end
 returns-5 c = rw (c.before.enum-told4.given.1, c.if1.false, c.before.before.before.before.before.flag2.ensures.0, c.before.before.before.before.before.before.before.residual-of.ensures)
 
 returns-6 : tie.Need-returns-6
-unfolding spaceEnd
+unfolding space_end
 returns-6 c = rw (c.enum-told5.given.1, c.before.before.before.before.before.before.residual-of.ensures)
 
 pub space-end-spec : {M : Type 1} → statement M

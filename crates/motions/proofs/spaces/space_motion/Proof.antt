@@ -1,7 +1,7 @@
 -- `space_motion` meets its contract.
 use borrow.Author.Rules.{rules}
-use Rattle.motions.specs.Spaces.{spaceMotion, spaceMotionBy}
-use Rattle.motions.proofs.Stops.{not-bad}
+use Rattle.motions.specs.Spaces.{space_motion, space_motion_by}
+use Rattle.motions.proofs.Stops.{not_bad}
 use Rattle.motions.proofs.spaces.space_motion.Statement.{statement}
 use Rattle.motions.proofs.spaces.space_motion.Tie as tie
 
@@ -9,7 +9,7 @@ enum-known-stop : tie.Need-enum-known-stop
 enum-known-stop c = search rules
 
 returns : tie.Need-returns
-unfolding spaceMotion spaceMotionBy
+unfolding space_motion space_motion_by
 returns c = rw c.before.stop.given.1
 
 space-end-requires : tie.Need-space-end-requires
@@ -22,8 +22,8 @@ no-lay-requires : tie.Need-no-lay-requires
 no-lay-requires c κs = search rules
 
 returns-2 : tie.Need-returns-2
-unfolding spaceMotion
-returns-2 c = rw (c.no-lay.ensures, c.before.no_move.ensures, c.before.before.space-end.ensures) (not-bad _ _ _ _ c.before.before.before.match.keys2)
+unfolding space_motion
+returns-2 c = rw (c.no-lay.ensures, c.before.no_move.ensures, c.before.before.space-end.ensures) (not_bad _ _ _ _ c.before.before.before.match.keys2)
 
 pub space-motion-spec : {M : Type 1} → statement M
 space-motion-spec =

@@ -1,6 +1,6 @@
 -- `retry` meets its contract: an arm for each thing found.
 use borrow.Author.Rules.{rules}
-use Rattle.motions.specs.Writes.{retriedUnder, retriedByUnder}
+use Rattle.motions.specs.Writes.{retried_under, retried_by_under}
 use Rattle.motions.proofs.writes.retry.Statement.{statement}
 use Rattle.motions.proofs.writes.retry.Tie as tie
 
@@ -41,19 +41,19 @@ enum-known-fault : tie.Need-enum-known-fault
 enum-known-fault c = search rules
 
 returns : tie.Need-returns
-unfolding retriedUnder retriedByUnder
+unfolding retried_under retried_by_under
 returns c = rw (← c.before.before.before.before.before.seek.ensures, c.before.before.before.q.given.1, ← c.before.behind-gap.ensures) c.write-at.ensures
 
 returns-2 : tie.Need-returns-2
-unfolding retriedUnder retriedByUnder
+unfolding retried_under retried_by_under
 returns-2 c = rw (← c.before.before.before.before.before.seek.ensures, c.before.before.before.q2.given.1, ← c.before.behind-gap2.ensures) c.write-at2.ensures
 
 returns-3 : tie.Need-returns-3
-unfolding retriedUnder retriedByUnder
+unfolding retried_under retried_by_under
 returns-3 c = rw (← c.before.before.before.before.before.seek.ensures, c.before.before.before.q3.given.1, c.no-lay.ensures, c.before.no_move.ensures)
 
 returns-4 : tie.Need-returns-4
-unfolding retriedUnder retriedByUnder
+unfolding retried_under retried_by_under
 returns-4 c = rw (← c.before.before.before.seek.ensures, c.before.fault.given.1)
 
 pub retry-spec : {M : Type 1} → statement M

@@ -7,9 +7,9 @@ use borrow.Author.Tests.{le-leb, lt-leb}
 use native.Mathlib.Omega.{arith}
 use lib.Dec.{leb}
 use Rattle.lists.specs.Pick.{pick}
-use Rattle.tape.specs.Numbers.{eotMarker}
-use Rattle.motions.specs.Parts.{laidBlocks}
-use Rattle.motions.specs.Writes.{writtenMotionUnder}
+use Rattle.tape.specs.Numbers.{eot_marker}
+use Rattle.motions.specs.Parts.{laid_blocks}
+use Rattle.motions.specs.Writes.{written_motion_under}
 use Rattle.motions.proofs.writes.written_motion.Statement.{statement}
 use Rattle.motions.proofs.writes.written_motion.Tie as tie
 
@@ -29,11 +29,11 @@ no-move-requires : tie.Need-no-move-requires
 no-move-requires c κs = search rules
 
 returns : tie.Need-returns
-unfolding writtenMotionUnder
+unfolding written_motion_under
 returns c =
     let a = c.before.before.before.before.before.before.args in
     let i = c.before.before.if1 in
-    let k : i.class ≡ pick (leb (eotMarker a.blocks) (a.l.at + laidBlocks a.l)) 2 0 = ⊎_elim (λ w. w.1 ∙ rw (le-leb (eotMarker a.blocks) (a.l.at + laidBlocks a.l) (omega arith))) (λ w. w.1 ∙ rw (lt-leb (eotMarker a.blocks) (a.l.at + laidBlocks a.l) (omega arith))) i.branch in
+    let k : i.class ≡ pick (leb (eot_marker a.blocks) (a.l.at + laid_blocks a.l)) 2 0 = ⊎_elim (λ w. w.1 ∙ rw (le-leb (eot_marker a.blocks) (a.l.at + laid_blocks a.l) (omega arith))) (λ w. w.1 ∙ rw (lt-leb (eot_marker a.blocks) (a.l.at + laid_blocks a.l) (omega arith))) i.branch in
     rw (k, c.before.flag.ensures.0, c.before.before.before.before.before.laid-blocks.ensures.0, c.no_move.ensures)
 
 pub written-motion-spec : {M : Type 1} → statement M

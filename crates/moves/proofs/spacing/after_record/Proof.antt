@@ -2,7 +2,7 @@
 use borrow.Author.Rules.{rules}
 use mathlib.Core.Path.{ap}
 use native.Mathlib.Omega.{arith}
-use Rattle.moves.specs.Counting.{howMany}
+use Rattle.moves.specs.Counting.{how_many}
 use Rattle.moves.proofs.spacing.after_record.Statement.{statement}
 use Rattle.moves.proofs.spacing.after_record.Tie as tie
 
@@ -10,7 +10,7 @@ enum-known-c : tie.Need-enum-known-c
 enum-known-c c = search rules
 
 sub-t5 : tie.Need-overflow-sub-t5
-sub-t5 c = omega (arith, ap howMany c.before.before.c.given.1)
+sub-t5 c = omega (arith, ap how_many c.before.before.c.given.1)
 
 enum-known-c-2 : tie.Need-enum-known-c-2
 enum-known-c-2 c = search rules

@@ -1,6 +1,6 @@
 -- `record_turn` meets its contract.
 use borrow.Author.Rules.{rules}
-use Rattle.moves.specs.Spacing.{recordTurn}
+use Rattle.moves.specs.Spacing.{record_turn}
 use Rattle.moves.proofs.spacing.record_turn.Statement.{statement}
 use Rattle.moves.proofs.spacing.record_turn.Tie as tie
 
@@ -8,7 +8,7 @@ after-record-requires : tie.Need-after-record-requires
 after-record-requires c κs = search rules
 
 returns : tie.Need-returns
-unfolding recordTurn
+unfolding record_turn
 returns c = rw c.after-record.ensures
 
 pub record-turn-spec : {M : Type 1} → statement M

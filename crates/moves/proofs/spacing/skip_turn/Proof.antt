@@ -1,6 +1,6 @@
 -- `skip_turn` meets its contract.
 use borrow.Author.Rules.{rules}
-use Rattle.moves.specs.Spacing.{skipTurn}
+use Rattle.moves.specs.Spacing.{skip_turn}
 use Rattle.moves.proofs.spacing.skip_turn.Statement.{statement}
 use Rattle.moves.proofs.spacing.skip_turn.Tie as tie
 
@@ -8,11 +8,11 @@ sub-t6 : tie.Need-overflow-sub-t6
 sub-t6 c = search rules
 
 returns : tie.Need-returns
-unfolding skipTurn
+unfolding skip_turn
 returns c = rw c.if1.true
 
 returns-2 : tie.Need-returns-2
-unfolding skipTurn
+unfolding skip_turn
 returns-2 c = rw c.if1.false
 
 pub skip-turn-spec : {M : Type 1} → statement M

@@ -1,6 +1,6 @@
 -- `record_of` meets its contract, number by number.
 use mathlib.Core.List.{[], ◌∷◌}
-use Rattle.records.specs.Records.{numbersOf}
+use Rattle.records.specs.Records.{numbers_of}
 use borrow.Author.Rules.{rules}
 use Rattle.records.proofs.records.record_of.Statement.{statement}
 use Rattle.records.proofs.records.record_of.Tie as tie
@@ -63,7 +63,7 @@ low-requires-6 : tie.Need-low-requires-6
 low-requires-6 c κs = search rules
 
 returns : tie.Need-returns
-unfolding numbersOf
+unfolding numbers_of
 returns c =
     let s = c.before.before.before.before.before.before.before.before.before.before.before.before.before.before.before.before.before.before.before in
     λ i.

@@ -1,5 +1,5 @@
 -- `record_right` meets its contract.
-use Rattle.records.specs.Records.{isRecord}
+use Rattle.records.specs.Records.{is_record}
 use borrow.Author.Rules.{rules}
 use Rattle.records.proofs.records.record_right.Statement.{statement}
 use Rattle.records.proofs.records.record_right.Tie as tie
@@ -44,7 +44,7 @@ array-read-characteristics-3 : tie.Need-array-read-characteristics-3
 array-read-characteristics-3 c = search rules
 
 returns : tie.Need-returns
-unfolding isRecord
+unfolding is_record
 returns c = search rules
 
 pub record-right-spec : {M : Type 1} → statement M

@@ -1,6 +1,6 @@
 -- `transport_in` is its definition.
 use mathlib.Core.Path.{refl}
-use Rattle.records.specs.Records.{transportIn}
+use Rattle.records.specs.Records.{transport_in}
 use borrow.Author.Rules.{rules}
 use Rattle.records.proofs.records.transport_in.Statement.{statement}
 use Rattle.records.proofs.records.transport_in.Tie as tie
@@ -87,7 +87,7 @@ cast-t11-3 : tie.Need-overflow-cast-t11-3
 cast-t11-3 c = search rules
 
 returns : tie.Need-returns
-unfolding transportIn
+unfolding transport_in
 returns c = refl
 
 pub transport-in-spec : {M : Type 1} → statement M

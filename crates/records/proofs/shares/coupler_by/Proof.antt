@@ -1,6 +1,6 @@
 -- `coupler_by` is its definition.
 use mathlib.Core.Path.{refl}
-use Rattle.records.specs.Shares.{couplerIn}
+use Rattle.records.specs.Shares.{coupler_in}
 use borrow.Author.Rules.{rules}
 use Rattle.records.proofs.shares.coupler_by.Statement.{statement}
 use Rattle.records.proofs.shares.coupler_by.Tie as tie
@@ -24,7 +24,7 @@ cast-t14 : tie.Need-overflow-cast-t14
 cast-t14 c = search rules
 
 returns : tie.Need-returns
-unfolding couplerIn
+unfolding coupler_in
 returns c = refl
 
 pub coupler-by-spec : {M : Type 1} → statement M

@@ -5,14 +5,14 @@ use mathlib.Core.Path.{◌≡◌}
 use Prim.Native.Nat.{◌≤◌, ◌-◌}
 use lib.ListN.{length, take, drop}
 use Rattle.lists.specs.Places.{placed}
-use Rattle.tape.specs.Bytes.{recordBytes}
+use Rattle.tape.specs.Bytes.{record_bytes}
 use Rattle.reel.proofs.Moved.{copy_more}
 use Rattle.reel.proofs.copy.copy_out.Statement.{statement}
 use Rattle.reel.proofs.copy.copy_out.Tie as tie
 
 abbrev invariant-loop : tie.invariant-loop
 invariant-loop reel p n from count mem₀ a swb done₀ mem done =
-    (done ≤ count) × (mem ≡ placed swb mem₀ a (take done (drop from (recordBytes reel p n)))) × (length mem ≡ length mem₀)
+    (done ≤ count) × (mem ≡ placed swb mem₀ a (take done (drop from (record_bytes reel p n)))) × (length mem ≡ length mem₀)
 
 abbrev decreases-loop : tie.decreases-loop
 decreases-loop reel p n from count mem₀ a swb done₀ mem done = count - done

@@ -1,6 +1,6 @@
 -- `read_record` meets its contract: each way, the bytes that are copied out are those that the Read moves.
 use borrow.Author.Rules.{rules}
-use Rattle.reel.proofs.Moved.{read-forward, read-reverse}
+use Rattle.reel.proofs.Moved.{read_forward, read_reverse}
 use Rattle.reel.proofs.copy.read_record.Statement.{statement}
 use Rattle.reel.proofs.copy.read_record.Tie as tie
 
@@ -30,7 +30,7 @@ returns c =
     let room = c.before.before.before.before.before.before.before.before.requires.0 in
     let few = c.before.before.before.before.before.least.ensures in
     let way = c.before.before.before.before.if1.true in
-    read-reverse _ _ _ _ _ _ _ _ _ _ room few way c.before.before.copy-out.ensures
+    read_reverse _ _ _ _ _ _ _ _ _ _ room few way c.before.before.copy-out.ensures
 
 same-length-2 : tie.Need-same-length-2
 same-length-2 c = search rules
@@ -40,7 +40,7 @@ returns-2 c =
     let room = c.before.before.before.before.before.before.before.before.requires.0 in
     let few = c.before.before.before.before.before.least.ensures in
     let way = c.before.before.before.before.if1.false in
-    read-forward _ _ _ _ _ _ _ _ _ _ room few way c.before.before.copy-out2.ensures
+    read_forward _ _ _ _ _ _ _ _ _ _ room few way c.before.before.copy-out2.ensures
 
 pub read-record-spec : {M : Type 1} → statement M
 read-record-spec =

@@ -3,8 +3,8 @@ use borrow.Author.Rules.{rules}
 use native.Mathlib.Omega.{arith}
 use mathlib.Core.List.{[]}
 use Rattle.lists.specs.Places.{gathered}
-use Rattle.tape.proofs.Blocks.{length-block}
-use Rattle.reel.proofs.Laid.{part-laid}
+use Rattle.tape.proofs.Blocks.{length_block}
+use Rattle.reel.proofs.Laid.{part_laid}
 use Rattle.reel.proofs.lay.lay_bare.Statement.{statement}
 use Rattle.reel.proofs.lay.lay_bare.Tie as tie
 
@@ -35,7 +35,7 @@ same_length c = search rules
 returns : tie.Need-returns
 unfolding gathered
 returns c =
-    part-laid _ _ _ _ (length-block _ 0 0 [] (omega arith)) (omega arith) c.before.before.lay-block.ensures
+    part_laid _ _ _ _ (length_block _ 0 0 [] (omega arith)) (omega arith) c.before.before.lay-block.ensures
 
 pub lay-bare-spec : {M : Type 1} → statement M
 lay-bare-spec =

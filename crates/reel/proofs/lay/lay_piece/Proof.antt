@@ -1,8 +1,8 @@
 -- `lay_piece` meets its contract: the bytes gathered for the piece are the record's.
 use borrow.Author.Rules.{rules}
 use native.Mathlib.Omega.{arith}
-use Rattle.tape.proofs.PieceRun.{length-piece}
-use Rattle.reel.proofs.Laid.{part-laid, piece-laid}
+use Rattle.tape.proofs.PieceRun.{length_piece}
+use Rattle.reel.proofs.Laid.{part_laid, piece_laid}
 use Rattle.reel.proofs.lay.lay_piece.Statement.{statement}
 use Rattle.reel.proofs.lay.lay_piece.Tie as tie
 
@@ -45,7 +45,7 @@ same_length c = search rules
 returns : tie.Need-returns
 returns c =
     let used = c.before.before.before.before.least.ensures in
-    part-laid _ _ _ _ (length-piece _ _) (omega arith) (piece-laid _ _ _ _ _ _ _ (omega arith) used c.before.before.lay-block.ensures)
+    part_laid _ _ _ _ (length_piece _ _) (omega arith) (piece_laid _ _ _ _ _ _ _ (omega arith) used c.before.before.lay-block.ensures)
 
 pub lay-piece-spec : {M : Type 1} → statement M
 lay-piece-spec =

@@ -6,15 +6,15 @@ use Prim.Native.Nat.{◌*◌, ◌≤◌, ◌-◌}
 use lib.ListN.{length}
 use lib.Seq.{sets}
 use Rattle.lists.specs.Places.{gathered}
-use Rattle.tape.specs.Numbers.{blockBytes}
-use Rattle.tape.specs.Objects.{piecesTo}
+use Rattle.tape.specs.Numbers.{block_bytes}
+use Rattle.tape.specs.Objects.{pieces_to}
 use Rattle.reel.proofs.Laid.{pieces_more, pieces_whole}
 use Rattle.reel.proofs.lay.lay_record.Statement.{statement}
 use Rattle.reel.proofs.lay.lay_record.Tie as tie
 
 abbrev invariant-loop : tie.invariant-loop
 invariant-loop reel₀ p mem a n swb m i₀ reel i =
-    (i ≤ m) × (reel ≡ sets reel₀ (blockBytes * p) (piecesTo (gathered swb mem a n) i)) × (length reel ≡ length reel₀)
+    (i ≤ m) × (reel ≡ sets reel₀ (block_bytes * p) (pieces_to (gathered swb mem a n) i)) × (length reel ≡ length reel₀)
 
 abbrev decreases-loop : tie.decreases-loop
 decreases-loop reel₀ p mem a n swb m i₀ reel i = m - i
@@ -23,7 +23,7 @@ pieces-requires : tie.Need-pieces-requires invariant-loop decreases-loop
 pieces-requires c κs = search rules
 
 loop-holds : tie.Need-loop-init invariant-loop decreases-loop
-unfolding piecesTo
+unfolding pieces_to
 loop-holds c = search rules
 
 lay-piece-requires : tie.Need-lay-piece-requires invariant-loop decreases-loop

@@ -1,6 +1,6 @@
 -- `is_piece` meets its contract, by what the block is.
 use borrow.Author.Rules.{rules}
-use Rattle.tape.specs.Pass.{isPiece}
+use Rattle.tape.specs.Pass.{is_piece}
 use Rattle.reel.proofs.passing.is_piece.Statement.{statement}
 use Rattle.reel.proofs.passing.is_piece.Tie as tie
 
@@ -17,19 +17,19 @@ enum-told-3 : tie.Need-enum-told-3
 enum-told-3 c = search rules
 
 returns : tie.Need-returns
-unfolding isPiece
+unfolding is_piece
 returns c = rw c.before.b.given.1
 
 returns-2 : tie.Need-returns-2
-unfolding isPiece
+unfolding is_piece
 returns-2 c = rw c.enum_told.given.1
 
 returns-3 : tie.Need-returns-3
-unfolding isPiece
+unfolding is_piece
 returns-3 c = rw c.enum-told2.given.1
 
 returns-4 : tie.Need-returns-4
-unfolding isPiece
+unfolding is_piece
 returns-4 c = rw c.enum-told3.given.1
 
 pub is-piece-spec : {M : Type 1} → statement M

@@ -1,9 +1,9 @@
 -- `pass` meets its contract: nothing ahead, or what the first block met says.
 use borrow.Author.Rules.{rules}
 use native.Mathlib.Omega.{arith}
-use Rattle.reel.proofs.Meetings.{pass-met, pass-nothing}
-use Rattle.reel.proofs.Pieces.{piece-counts}
-use Rattle.tape.specs.Pass.{metByUnder}
+use Rattle.reel.proofs.Meetings.{pass_met, pass_nothing}
+use Rattle.reel.proofs.Pieces.{piece_counts}
+use Rattle.tape.specs.Pass.{met_by_under}
 use Rattle.reel.proofs.passing.pass.Statement.{statement}
 use Rattle.reel.proofs.passing.pass.Tie as tie
 
@@ -11,7 +11,7 @@ ahead-of-requires : tie.Need-ahead-of-requires
 ahead-of-requires c κs = search rules
 
 returns : tie.Need-returns
-returns c = pass-nothing _ _ _ _ c.before.ahead_of_lem.ensures c.if1.true
+returns c = pass_nothing _ _ _ _ c.before.ahead_of_lem.ensures c.if1.true
 
 first-met-requires : tie.Need-first-met-requires
 first-met-requires c κs = search rules
@@ -23,7 +23,7 @@ enum-known-b : tie.Need-enum-known-b
 enum-known-b c = search rules
 
 record-met-requires : tie.Need-record-met-requires
-record-met-requires c κs = omega (arith, piece-counts _ _ _ _ c.before.before.before.read-block.ensures c.before.b.given.1)
+record-met-requires c κs = omega (arith, piece_counts _ _ _ _ c.before.before.before.read-block.ensures c.before.b.given.1)
 
 enum_told : tie.Need-enum-told
 enum_told c = search rules
@@ -41,22 +41,22 @@ enum-known-b-2 : tie.Need-enum-known-b-2
 enum-known-b-2 c = search rules
 
 returns-2 : tie.Need-returns-2
-unfolding metByUnder
-returns-2 c = pass-met _ _ _ _ c.before.before.before.before.before.before.before.ahead_of_lem.ensures c.before.before.before.before.before.before.if1.false c.before.before.before.before.before.first-met.ensures c.before.before.before.before.read-block.ensures (rw c.before.before.b.given.1 c.record-met.ensures)
+unfolding met_by_under
+returns-2 c = pass_met _ _ _ _ c.before.before.before.before.before.before.before.ahead_of_lem.ensures c.before.before.before.before.before.before.if1.false c.before.before.before.before.before.first-met.ensures c.before.before.before.before.read-block.ensures (rw c.before.before.b.given.1 c.record-met.ensures)
 
 returns-3 : tie.Need-returns-3
-unfolding metByUnder
-returns-3 c = pass-met _ _ _ _ c.before.before.before.before.before.before.ahead_of_lem.ensures c.before.before.before.before.before.if1.false c.before.before.before.before.first-met.ensures c.before.before.before.read-block.ensures (rw (c.before.enum_told.given.1, c.beyond-of.ensures))
+unfolding met_by_under
+returns-3 c = pass_met _ _ _ _ c.before.before.before.before.before.before.ahead_of_lem.ensures c.before.before.before.before.before.if1.false c.before.before.before.before.first-met.ensures c.before.before.before.read-block.ensures (rw (c.before.enum_told.given.1, c.beyond-of.ensures))
 
 returns-4 : tie.Need-returns-4
-unfolding metByUnder
-returns-4 c = pass-met _ _ _ _ c.before.before.before.before.before.before.ahead_of_lem.ensures c.before.before.before.before.before.if1.false c.before.before.before.before.first-met.ensures c.before.before.before.read-block.ensures (rw (c.before.enum-told2.given.1, c.beyond-of2.ensures))
+unfolding met_by_under
+returns-4 c = pass_met _ _ _ _ c.before.before.before.before.before.before.ahead_of_lem.ensures c.before.before.before.before.before.if1.false c.before.before.before.before.first-met.ensures c.before.before.before.read-block.ensures (rw (c.before.enum-told2.given.1, c.beyond-of2.ensures))
 
 returns-5 : tie.Need-returns-5
-unfolding metByUnder
+unfolding met_by_under
 returns-5 c =
     let d = c.before in
-    pass-met _ _ _ _ d.before.before.before.before.before.ahead_of_lem.ensures d.before.before.before.before.if1.false d.before.before.before.first-met.ensures d.before.before.read-block.ensures (rw (d.b2.given.1, d.before.before.before.first-met.ensures))
+    pass_met _ _ _ _ d.before.before.before.before.before.ahead_of_lem.ensures d.before.before.before.before.if1.false d.before.before.before.first-met.ensures d.before.before.read-block.ensures (rw (d.b2.given.1, d.before.before.before.first-met.ensures))
 
 pub pass_spec : {M : Type 1} → statement M
 pass_spec =

@@ -1,5 +1,5 @@
 -- `also` is its definition.
-use Rattle.replayer.specs.Tells.{stepAlso}
+use Rattle.replayer.specs.Tells.{step_also}
 use borrow.Author.Rules.{rules}
 use Rattle.replayer.proofs.asks.also.Statement.{statement}
 use Rattle.replayer.proofs.asks.also.Tie as tie
@@ -17,19 +17,19 @@ enum-told-4 : tie.Need-enum-told-4
 enum-told-4 c = search rules
 
 returns : tie.Need-returns
-unfolding stepAlso
+unfolding step_also
 returns c = rw c.enum_told.given.1
 
 returns-2 : tie.Need-returns-2
-unfolding stepAlso
+unfolding step_also
 returns-2 c = rw c.enum-told2.given.1
 
 returns-3 : tie.Need-returns-3
-unfolding stepAlso
+unfolding step_also
 returns-3 c = rw c.enum-told3.given.1
 
 returns-4 : tie.Need-returns-4
-unfolding stepAlso
+unfolding step_also
 returns-4 c = rw c.enum-told4.given.1
 
 pub also-spec : {M : Type 1} → statement M

@@ -1,5 +1,5 @@
 -- `ask` meets its contract: each step is the call of the journal that takes it.
-use Rattle.replayer.specs.Asks.{askOf}
+use Rattle.replayer.specs.Asks.{ask_of}
 use borrow.Author.Rules.{rules}
 use Rattle.replayer.proofs.asks.ask.Statement.{statement}
 use Rattle.replayer.proofs.asks.ask.Tie as tie
@@ -41,7 +41,7 @@ same-length-4 : tie.Need-same-length-4
 same-length-4 c = search rules
 
 returns : tie.Need-returns
-unfolding askOf
+unfolding ask_of
 returns c = rw c.before.before.before.before.before.before.before.before.before.before.before.before.a.given.1 c.before.before.before.before.before.before.write-tsdb.ensures
 
 same-length-5 : tie.Need-same-length-5
@@ -57,7 +57,7 @@ same-length-8 : tie.Need-same-length-8
 same-length-8 c = search rules
 
 returns-2 : tie.Need-returns-2
-unfolding askOf
+unfolding ask_of
 returns-2 c = rw c.before.before.before.before.before.before.before.before.before.before.before.enum_told.given.1 c.before.before.before.before.before.before.write-tssr.ensures
 
 same-length-9 : tie.Need-same-length-9
@@ -73,7 +73,7 @@ same-length-12 : tie.Need-same-length-12
 same-length-12 c = search rules
 
 returns-3 : tie.Need-returns-3
-unfolding askOf
+unfolding ask_of
 returns-3 c = rw c.before.before.before.before.before.before.before.before.before.before.before.before.a2.given.1 c.before.before.before.before.before.before.operate.ensures
 
 same-length-13 : tie.Need-same-length-13
@@ -89,7 +89,7 @@ same-length-16 : tie.Need-same-length-16
 same-length-16 c = search rules
 
 returns-4 : tie.Need-returns-4
-unfolding askOf
+unfolding ask_of
 returns-4 c = rw c.before.before.before.before.before.before.before.before.before.before.before.before.before.enum-told2.given.1 c.before.before.before.before.before.before.before.before.advance.ensures
 
 pub ask-spec : {M : Type 1} → statement M

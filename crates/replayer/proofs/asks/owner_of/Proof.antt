@@ -1,5 +1,5 @@
 -- `owner_of` is its definition.
-use Rattle.replayer.specs.Asks.{whoseOf}
+use Rattle.replayer.specs.Asks.{whose_of}
 use borrow.Author.Rules.{rules}
 use Rattle.replayer.proofs.asks.owner_of.Statement.{statement}
 use Rattle.replayer.proofs.asks.owner_of.Tie as tie
@@ -23,23 +23,23 @@ enum-told-3 : tie.Need-enum-told-3
 enum-told-3 c = search rules
 
 returns : tie.Need-returns
-unfolding whoseOf
+unfolding whose_of
 returns c = rw c.before.c.given.1
 
 returns-2 : tie.Need-returns-2
-unfolding whoseOf
+unfolding whose_of
 returns-2 c = rw c.enum_told.given.1
 
 returns-3 : tie.Need-returns-3
-unfolding whoseOf
+unfolding whose_of
 returns-3 c = rw c.enum-told2.given.1
 
 returns-4 : tie.Need-returns-4
-unfolding whoseOf
+unfolding whose_of
 returns-4 c = rw c.before.before.c2.given.1 c.whose-ask.ensures
 
 returns-5 : tie.Need-returns-5
-unfolding whoseOf
+unfolding whose_of
 returns-5 c = rw c.enum-told3.given.1
 
 pub owner-of-spec : {M : Type 1} → statement M

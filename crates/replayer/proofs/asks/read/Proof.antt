@@ -1,5 +1,5 @@
 -- `read` is its definition.
-use Rattle.replayer.specs.Tells.{readTold}
+use Rattle.replayer.specs.Tells.{read_told}
 use borrow.Author.Rules.{rules}
 use Rattle.replayer.proofs.asks.read.Statement.{statement}
 use Rattle.replayer.proofs.asks.read.Tie as tie
@@ -11,7 +11,7 @@ cast-t6 : tie.Need-overflow-cast-t6
 cast-t6 c = search rules
 
 returns : tie.Need-returns
-unfolding readTold
+unfolding read_told
 returns c = rw c.before.read-register.ensures
 
 pub read_spec : {M : Type 1} → statement M

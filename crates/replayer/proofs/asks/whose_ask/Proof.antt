@@ -1,5 +1,5 @@
 -- `whose_ask` is its definition.
-use Rattle.replayer.specs.Asks.{whoseAsk}
+use Rattle.replayer.specs.Asks.{whose_ask}
 use borrow.Author.Rules.{rules}
 use Rattle.replayer.proofs.asks.whose_ask.Statement.{statement}
 use Rattle.replayer.proofs.asks.whose_ask.Tie as tie
@@ -32,23 +32,23 @@ own-step-requires-4 : tie.Need-own-step-requires-4
 own-step-requires-4 c κs = search rules
 
 returns : tie.Need-returns
-unfolding whoseAsk
+unfolding whose_ask
 returns c = rw c.before.before.a.given.1 c.own-step.ensures
 
 returns-2 : tie.Need-returns-2
-unfolding whoseAsk
+unfolding whose_ask
 returns-2 c = rw c.before.enum_told.given.1 c.own-step2.ensures
 
 returns-3 : tie.Need-returns-3
-unfolding whoseAsk
+unfolding whose_ask
 returns-3 c = rw c.before.before.a2.given.1 c.own-step3.ensures
 
 returns-4 : tie.Need-returns-4
-unfolding whoseAsk
+unfolding whose_ask
 returns-4 c = rw c.before.a3.given.1
 
 returns-5 : tie.Need-returns-5
-unfolding whoseAsk
+unfolding whose_ask
 returns-5 c = rw c.before.enum-told2.given.1 c.own-step4.ensures
 
 pub whose-ask-spec : {M : Type 1} → statement M

@@ -1,5 +1,5 @@
 -- `carry` meets its contract: the task, then the zeros.
-use Rattle.replayer.proofs.Handing.{kept-call}
+use Rattle.replayer.proofs.Handing.{kept_call}
 use borrow.Author.Rules.{rules}
 use Rattle.replayer.proofs.hands.carry.Statement.{statement}
 use Rattle.replayer.proofs.hands.carry.Tie as tie
@@ -23,7 +23,7 @@ same-length-4 : tie.Need-same-length-4
 same-length-4 c = search rules
 
 returns : tie.Need-returns
-returns c = kept-call _ _ _ _ _ _ _ _ _ _ _ _ _ _ _ _ c.before.before.before.before.before.before.before.before.before.before.before.before.before.before.before.before.before.before.before.before.before.before.before.hand.ensures c.before.before.before.before.before.before.before.before.trim.ensures
+returns c = kept_call _ _ _ _ _ _ _ _ _ _ _ _ _ _ _ _ c.before.before.before.before.before.before.before.before.before.before.before.before.before.before.before.before.before.before.before.before.before.before.before.hand.ensures c.before.before.before.before.before.before.before.before.trim.ensures
 
 pub carry-spec : {M : Type 1} → statement M
 carry-spec = tie.close (tie.spec hand-requires trim-requires same_length same-length-2 same-length-3 same-length-4 returns)

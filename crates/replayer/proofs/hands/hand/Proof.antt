@@ -1,6 +1,6 @@
 -- `hand` meets its contract: the parts that the task is handed come back.
 use native.Mathlib.Omega.{arith}
-use Rattle.replayer.proofs.Handing.{fit-lent, handed}
+use Rattle.replayer.proofs.Handing.{fit_lent, handed}
 use borrow.Author.Rules.{rules}
 use Rattle.replayer.proofs.hands.hand.Statement.{statement}
 use Rattle.replayer.proofs.hands.hand.Tie as tie
@@ -54,7 +54,7 @@ part-call-end-4 : tie.Need-slice-bounds-call-end-4
 part-call-end-4 c = search rules
 
 call-requires : tie.Need-call-requires
-call-requires c κs = fit-lent c.before.before.before.before.before.before.before.before.before.before.before.before.before.before.args.d c.before.before.before.before.before.before.before.before.before.before.before.before.before.before.args.c c.before.before.before.before.before.before.before.before.before.before.before.before.before.before.args.mem.now c.before.before.before.before.before.before.before.before.before.before.before.before.before.before.args.reel.now c.before.before.before.before.before.before.before.before.before.before.before.before.before.before.args.jrnl.now _ _ _ c.before.before.before.before.before.before.before.before.least.ensures c.before.before.before.before.before.before.before.least2.ensures c.before.before.before.before.before.least4.ensures c.before.before.before.before.before.before.before.before.before.before.before.before.before.before.requires
+call-requires c κs = fit_lent c.before.before.before.before.before.before.before.before.before.before.before.before.before.before.args.d c.before.before.before.before.before.before.before.before.before.before.before.before.before.before.args.c c.before.before.before.before.before.before.before.before.before.before.before.before.before.before.args.mem.now c.before.before.before.before.before.before.before.before.before.before.before.before.before.before.args.reel.now c.before.before.before.before.before.before.before.before.before.before.before.before.before.before.args.jrnl.now _ _ _ c.before.before.before.before.before.before.before.before.least.ensures c.before.before.before.before.before.before.before.least2.ensures c.before.before.before.before.before.least4.ensures c.before.before.before.before.before.before.before.before.before.before.before.before.before.before.requires
 
 same_length : tie.Need-same-length
 same_length c = search rules

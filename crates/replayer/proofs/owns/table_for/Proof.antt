@@ -1,6 +1,6 @@
 -- `table_for` meets its contract: the unit's part of the tables comes back.
 use native.Mathlib.Omega.{arith}
-use Rattle.replayer.proofs.Owning.{table-beyond, table_done}
+use Rattle.replayer.proofs.Owning.{table_beyond, table_done}
 use borrow.Author.Rules.{rules}
 use Rattle.replayer.proofs.owns.table_for.Statement.{statement}
 use Rattle.replayer.proofs.owns.table_for.Tie as tie
@@ -9,7 +9,7 @@ refused-requires : tie.Need-refused-requires
 refused-requires c κs = search rules
 
 returns : tie.Need-returns
-returns c = table-beyond _ _ _ _ _ _ c.before.if1.true c.refused.ensures
+returns c = table_beyond _ _ _ _ _ _ c.before.if1.true c.refused.ensures
 
 mul-p : tie.Need-overflow-mul-p
 mul-p c = search rules

@@ -1,6 +1,6 @@
 -- `hand_store` meets its contract: the parts that the store is handed come back.
 use native.Mathlib.Omega.{arith}
-use Rattle.replayer.proofs.Sharing.{store-handed}
+use Rattle.replayer.proofs.Sharing.{store_handed}
 use borrow.Author.Rules.{rules}
 use Rattle.replayer.proofs.shares.hand_store.Statement.{statement}
 use Rattle.replayer.proofs.shares.hand_store.Tie as tie
@@ -44,7 +44,7 @@ same-length-2 c = search rules
 returns : tie.Need-returns
 returns c =
     let t = c.before.before.before.before.host-store in
-    store-handed _ _ _ _ _ (rw c.before.before.before.before.before.before.before.before.before.before.handed-at.ensures at c.before.before.before.before.before.before.before.before.before.least.ensures) (rw c.before.before.before.before.before.before.before.before.before.before.handed-at.ensures at c.before.before.before.before.before.before.before.before.least2.ensures) _ t.new.1.0 (omega (arith, t.auto)) _ _ t.new.1.1.0 (omega (arith, t.auto)) t.ensures
+    store_handed _ _ _ _ _ (rw c.before.before.before.before.before.before.before.before.before.before.handed-at.ensures at c.before.before.before.before.before.before.before.before.before.least.ensures) (rw c.before.before.before.before.before.before.before.before.before.before.handed-at.ensures at c.before.before.before.before.before.before.before.before.least2.ensures) _ t.new.1.0 (omega (arith, t.auto)) _ _ t.new.1.1.0 (omega (arith, t.auto)) t.ensures
 
 pub hand-store-spec : {M : Type 1} → statement M
 hand-store-spec = tie.close (tie.spec handed-at-requires least-requires least-requires-2 sub-host-store part-host-store-start part-host-store-end sub-host-store-2 part-host-store-start-2 part-host-store-end-2 host-store-requires same_length same-length-2 returns)

@@ -1,6 +1,6 @@
 -- `hand_undo` meets its contract: the part of memory comes back.
 use native.Mathlib.Omega.{arith}
-use Rattle.replayer.proofs.Sharing.{none-handed, none_lent}
+use Rattle.replayer.proofs.Sharing.{none_handed, none_lent}
 use borrow.Author.Rules.{rules}
 use Rattle.replayer.proofs.shares.hand_undo.Statement.{statement}
 use Rattle.replayer.proofs.shares.hand_undo.Tie as tie
@@ -41,7 +41,7 @@ same_length c = search rules
 returns : tie.Need-returns
 returns c =
     let t = c.before.before.undo-none in
-    none-handed _ _ _ _ _ (rw c.before.before.before.before.before.before.before.before.handed-at.ensures at c.before.before.before.before.before.before.before.least.ensures) (rw c.before.before.before.before.before.before.before.before.handed-at.ensures at c.before.before.before.before.before.before.least2.ensures) _ t.new.1.0 (omega (arith, t.auto)) t.ensures
+    none_handed _ _ _ _ _ (rw c.before.before.before.before.before.before.before.before.handed-at.ensures at c.before.before.before.before.before.before.before.least.ensures) (rw c.before.before.before.before.before.before.before.before.handed-at.ensures at c.before.before.before.before.before.before.least2.ensures) _ t.new.1.0 (omega (arith, t.auto)) t.ensures
 
 pub hand-undo-spec : {M : Type 1} → statement M
 hand-undo-spec = tie.close (tie.spec handed-at-requires least-requires least-requires-2 sub-undo-none part-undo-none-start part-undo-none-end sub-undo-none-2 part-undo-none-start-2 part-undo-none-end-2 undo-none-requires same_length returns)

@@ -1,7 +1,7 @@
 -- `carry_out` meets its contract, for each kind of line.
 use mathlib.Core.Path.{refl}
 use native.Mathlib.Nat.{sub-zero}
-use Rattle.replayer.specs.Turns.{JournalOn, memoryOn, reelsOn, roundOn, tablesOn}
+use Rattle.replayer.specs.Turns.{JournalOn, memory_on, reels_on, round_on, tables_on}
 use borrow.Author.Rules.{rules}
 use Rattle.replayer.proofs.turns.carry_out.Statement.{statement}
 use Rattle.replayer.proofs.turns.carry_out.Tie as tie
@@ -55,29 +55,29 @@ wrong-requires : tie.Need-wrong-requires
 wrong-requires c κs = search rules
 
 returns : tie.Need-returns
-unfolding roundOn memoryOn reelsOn tablesOn JournalOn
+unfolding round_on memory_on reels_on tables_on JournalOn
 returns c = rw c.before.enum_told.given.1 (c.nothing.ensures, (refl, (refl, (refl, refl))))
 
 returns-2 : tie.Need-returns-2
-unfolding roundOn memoryOn reelsOn tablesOn JournalOn
+unfolding round_on memory_on reels_on tables_on JournalOn
 returns-2 c = rw c.before.before.before.before.before.before.does.given.1 c.arrange.ensures
 
 returns-3 : tie.Need-returns-3
-unfolding roundOn memoryOn reelsOn tablesOn JournalOn
+unfolding round_on memory_on reels_on tables_on JournalOn
 returns-3 c = rw c.before.before.before.before.does2.given.1 (c.build-for.ensures.0, (c.build-for.ensures.1.0, (c.build-for.ensures.1.1, (refl, refl))))
 
 returns-4 : tie.Need-returns-4
-unfolding roundOn memoryOn reelsOn tablesOn JournalOn
+unfolding round_on memory_on reels_on tables_on JournalOn
 returns-4 c = rw c.before.before.before.does3.given.1 (c.table-for.ensures.0, (refl, (refl, (c.table-for.ensures.1, refl))))
 
 returns-5 : tie.Need-returns-5
-unfolding roundOn memoryOn reelsOn tablesOn JournalOn
+unfolding round_on memory_on reels_on tables_on JournalOn
 returns-5 c =
     let e = rw (sub-zero c.before.before.before.before.before.before.before.before.before.before.before.args.n, c.before.before.before.before.before.before.owner_of.ensures) at c.make-call.ensures in
     rw c.before.before.before.before.before.before.before.before.does4.given.1 e
 
 returns-6 : tie.Need-returns-6
-unfolding roundOn memoryOn reelsOn tablesOn JournalOn
+unfolding round_on memory_on reels_on tables_on JournalOn
 returns-6 c = rw c.before.before.does5.given.1 (c.wrong.ensures, (refl, (refl, (refl, refl))))
 
 pub carry-out-spec : {M : Type 1} → statement M

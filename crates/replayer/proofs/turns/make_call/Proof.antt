@@ -1,6 +1,6 @@
 -- `make_call` meets its contract, by whose the call is.
 use mathlib.Core.Path.{refl}
-use Rattle.replayer.specs.Turns.{CallJournal, callMemory, callReels, callRound, callTables}
+use Rattle.replayer.specs.Turns.{CallJournal, call_memory, call_reels, call_round, call_tables}
 use borrow.Author.Rules.{rules}
 use Rattle.replayer.proofs.turns.make_call.Statement.{statement}
 use Rattle.replayer.proofs.turns.make_call.Tie as tie
@@ -36,7 +36,7 @@ same-length-4 : tie.Need-same-length-4
 same-length-4 c = search rules
 
 returns : tie.Need-returns
-unfolding callRound callMemory callReels callTables CallJournal
+unfolding call_round call_memory call_reels call_tables CallJournal
 returns c = rw c.before.before.before.before.before.before.before.before.before.before.before.before.before.before.w.given.1 c.before.before.before.before.before.before.before.before.own.ensures
 
 same-length-5 : tie.Need-same-length-5
@@ -46,7 +46,7 @@ same-length-6 : tie.Need-same-length-6
 same-length-6 c = search rules
 
 returns-2 : tie.Need-returns-2
-unfolding callRound callMemory callReels callTables CallJournal
+unfolding call_round call_memory call_reels call_tables CallJournal
 returns-2 c = rw c.before.before.before.before.before.before.before.before.w2.given.1 (c.before.before.before.before.store.ensures.0, (c.before.before.before.before.store.ensures.1.0, (refl, (refl, c.before.before.before.before.store.ensures.1.1))))
 
 same-length-7 : tie.Need-same-length-7
@@ -62,7 +62,7 @@ same-length-10 : tie.Need-same-length-10
 same-length-10 c = search rules
 
 returns-3 : tie.Need-returns-3
-unfolding callRound callMemory callReels callTables CallJournal
+unfolding call_round call_memory call_reels call_tables CallJournal
 returns-3 c = rw c.before.before.before.before.before.before.before.before.before.before.before.before.before.enum_told.given.1 c.before.before.before.before.before.before.before.before.back.ensures
 
 pub make-call-spec : {M : Type 1} → statement M

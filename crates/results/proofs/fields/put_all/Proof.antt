@@ -3,22 +3,22 @@ use mathlib.Core.Path.{◌≡◌, ap}
 use Prim.Native.Nat.{ℕ, ◌≤◌, ◌-◌}
 use lib.ListN.{length, take}
 use Rattle.script.specs.Prints.{Put}
-use Rattle.results.specs.Lines.{numbersText}
-use Rattle.results.proofs.Texts.{numbers_more, put-empty, put_same}
+use Rattle.results.specs.Lines.{numbers_text}
+use Rattle.results.proofs.Texts.{numbers_more, put_empty, put_same}
 use borrow.Author.Rules.{rules}
 use native.Mathlib.Omega.{arith}
 use Rattle.results.proofs.fields.put_all.Statement.{statement}
 use Rattle.results.proofs.fields.put_all.Tie as tie
 
 abbrev invariant-loop : tie.invariant-loop
-invariant-loop out₀ at f next₀ i₀ t7 out next i = (i ≤ 21) × (length out ≡ length out₀) × Put out₀ at (numbersText (take i f)) out next
+invariant-loop out₀ at f next₀ i₀ t7 out next i = (i ≤ 21) × (length out ≡ length out₀) × Put out₀ at (numbers_text (take i f)) out next
 
 abbrev decreases-loop : tie.decreases-loop
 decreases-loop out₀ at f next₀ i₀ t7 out next i = 21 - i
 
 loop-holds : tie.Need-loop-init invariant-loop decreases-loop
-unfolding numbersText
-loop-holds c = (search rules, search rules, put-empty _ _)
+unfolding numbers_text
+loop-holds c = (search rules, search rules, put_empty _ _)
 
 slice-aggregate-put-labelled : tie.Need-slice-aggregate-put-labelled invariant-loop decreases-loop
 slice-aggregate-put-labelled c = search rules
@@ -50,7 +50,7 @@ returns : tie.Need-returns invariant-loop decreases-loop
 returns c =
     let l = c.before.loop in
     let e : l.i ≡ 21 = omega arith in
-    put_same _ _ _ _ _ _ (ap (λ (n : ℕ). numbersText (take n c.before.before.before.args.t3)) e) l.invariant.2
+    put_same _ _ _ _ _ _ (ap (λ (n : ℕ). numbers_text (take n c.before.before.before.args.t3)) e) l.invariant.2
 
 pub put-all-spec : {M : Type 1} → statement M
 put-all-spec =

@@ -1,5 +1,5 @@
 -- `session_of` is its definition.
-use Rattle.results.specs.Fields.{sessionWith}
+use Rattle.results.specs.Fields.{session_with}
 use borrow.Author.Rules.{rules}
 use Rattle.results.proofs.fields.session_of.Statement.{statement}
 use Rattle.results.proofs.fields.session_of.Tie as tie
@@ -17,7 +17,7 @@ array-read-t13 : tie.Need-array-read-t13
 array-read-t13 c = search rules
 
 returns : tie.Need-returns
-unfolding sessionWith
+unfolding session_with
 returns c = rw c.unit-of.ensures
 
 pub session-of-spec : {M : Type 1} → statement M

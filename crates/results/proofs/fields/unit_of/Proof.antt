@@ -1,5 +1,5 @@
 -- `unit_of` is its definition.
-use Rattle.results.specs.Fields.{unitWith}
+use Rattle.results.specs.Fields.{unit_with}
 use borrow.Author.Rules.{rules}
 use Rattle.results.proofs.fields.unit_of.Statement.{statement}
 use Rattle.results.proofs.fields.unit_of.Tie as tie
@@ -74,7 +74,7 @@ array-read-t85 : tie.Need-array-read-t85
 array-read-t85 c = search rules
 
 returns : tie.Need-returns
-unfolding unitWith
+unfolding unit_with
 returns c = rw (c.before.low.ensures, c.low2.ensures)
 
 pub unit-of-spec : {M : Type 1} → statement M

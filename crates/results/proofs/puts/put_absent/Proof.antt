@@ -1,6 +1,6 @@
 -- `put_absent` meets its contract: its texts go in a row.
-use Rattle.script.proofs.Printed.{put-more}
-use Rattle.results.specs.Lines.{absentLine}
+use Rattle.script.proofs.Printed.{put_more}
+use Rattle.results.specs.Lines.{absent_line}
 use borrow.Author.Rules.{rules}
 use Rattle.results.proofs.puts.put_absent.Statement.{statement}
 use Rattle.results.proofs.puts.put_absent.Tie as tie
@@ -30,12 +30,12 @@ same_length : tie.Need-same-length
 same_length c = search rules
 
 returns : tie.Need-returns
-unfolding absentLine
+unfolding absent_line
 returns c =
-    let d = put-more _ _ _ _ _ _ _ _ c.before.before.before.before.before.before.before.put-hex.ensures c.before.before.put-bytes2.ensures in
-    let b = put-more _ _ _ _ _ _ _ _ c.before.before.before.before.before.before.before.before.before.before.before.put-bytes.ensures d in
-    let a = put-more _ _ _ _ _ _ _ _ c.before.before.before.before.before.before.before.before.before.before.before.before.before.before.before.before.put-word-read.ensures b in
-    put-more _ _ _ _ _ _ _ _ c.before.before.before.before.before.before.before.before.before.before.before.before.before.before.before.before.before.before.before.before.put-answer.ensures a
+    let d = put_more _ _ _ _ _ _ _ _ c.before.before.before.before.before.before.before.put-hex.ensures c.before.before.put-bytes2.ensures in
+    let b = put_more _ _ _ _ _ _ _ _ c.before.before.before.before.before.before.before.before.before.before.before.put-bytes.ensures d in
+    let a = put_more _ _ _ _ _ _ _ _ c.before.before.before.before.before.before.before.before.before.before.before.before.before.before.before.before.put-word-read.ensures b in
+    put_more _ _ _ _ _ _ _ _ c.before.before.before.before.before.before.before.before.before.before.before.before.before.before.before.before.before.before.before.before.put-answer.ensures a
 
 pub put-absent-spec : {M : Type 1} → statement M
 put-absent-spec =

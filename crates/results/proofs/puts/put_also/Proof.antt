@@ -1,6 +1,6 @@
 -- `put_also` meets its contract, for each thing that a line may tell.
-use Rattle.results.proofs.Texts.{put-empty}
-use Rattle.results.specs.Lines.{alsoText}
+use Rattle.results.proofs.Texts.{put_empty}
+use Rattle.results.specs.Lines.{also_text}
 use borrow.Author.Rules.{rules}
 use Rattle.results.proofs.puts.put_also.Statement.{statement}
 use Rattle.results.proofs.puts.put_also.Tie as tie
@@ -27,26 +27,26 @@ enum-told-2 : tie.Need-enum-told-2
 enum-told-2 c = search rules
 
 returns : tie.Need-returns
-unfolding alsoText
-returns c = rw c.enum_told.given.1 (put-empty _ _)
+unfolding also_text
+returns c = rw c.enum_told.given.1 (put_empty _ _)
 
 same_length : tie.Need-same-length
 same_length c = search rules
 
 returns-2 : tie.Need-returns-2
-unfolding alsoText
+unfolding also_text
 returns-2 c = rw c.before.before.before.before.before.before.also.given.1 c.before.before.put-labelled.ensures
 
 same-length-2 : tie.Need-same-length-2
 same-length-2 c = search rules
 
 returns-3 : tie.Need-returns-3
-unfolding alsoText
+unfolding also_text
 returns-3 c = rw c.before.before.before.before.before.also2.given.1 c.before.before.put-interrupt.ensures
 
 returns-4 : tie.Need-returns-4
-unfolding alsoText
-returns-4 c = rw c.enum-told2.given.1 (put-empty _ _)
+unfolding also_text
+returns-4 c = rw c.enum-told2.given.1 (put_empty _ _)
 
 pub put-also-spec : {M : Type 1} → statement M
 put-also-spec =

@@ -1,5 +1,5 @@
 -- `put_answer` meets its contract, for each answer.
-use Rattle.results.specs.Lines.{answerText}
+use Rattle.results.specs.Lines.{answer_text}
 use borrow.Author.Rules.{rules}
 use Rattle.results.proofs.puts.put_answer.Statement.{statement}
 use Rattle.results.proofs.puts.put_answer.Tie as tie
@@ -35,28 +35,28 @@ same_length : tie.Need-same-length
 same_length c = search rules
 
 returns : tie.Need-returns
-unfolding answerText
+unfolding answer_text
 returns c = rw c.before.before.before.before.before.answer.given.1 c.before.before.put-done.ensures
 
 same-length-2 : tie.Need-same-length-2
 same-length-2 c = search rules
 
 returns-2 : tie.Need-returns-2
-unfolding answerText
+unfolding answer_text
 returns-2 c = rw c.before.before.before.before.before.enum_told.given.1 c.before.before.put-bytes.ensures
 
 same-length-3 : tie.Need-same-length-3
 same-length-3 c = search rules
 
 returns-3 : tie.Need-returns-3
-unfolding answerText
+unfolding answer_text
 returns-3 c = rw c.before.before.before.before.before.answer2.given.1 c.before.before.put-decimal.ensures
 
 same-length-4 : tie.Need-same-length-4
 same-length-4 c = search rules
 
 returns-4 : tie.Need-returns-4
-unfolding answerText
+unfolding answer_text
 returns-4 c = rw c.before.before.before.before.before.answer3.given.1 c.before.before.put-bad.ensures
 
 pub put-answer-spec : {M : Type 1} → statement M

@@ -1,5 +1,5 @@
 -- `put_bad` meets its contract: its texts go in a row.
-use Rattle.script.proofs.Printed.{put-more}
+use Rattle.script.proofs.Printed.{put_more}
 use borrow.Author.Rules.{rules}
 use Rattle.results.proofs.puts.put_bad.Statement.{statement}
 use Rattle.results.proofs.puts.put_bad.Tie as tie
@@ -27,8 +27,8 @@ same_length c = search rules
 
 returns : tie.Need-returns
 returns c =
-    let d = put-more _ _ _ _ _ _ _ _ c.before.before.before.before.before.before.before.put-bytes.ensures c.before.before.put_byte.ensures in
-    rw c.before.before.before.letter.ensures at (put-more _ _ _ _ _ _ _ _ c.before.before.before.before.before.before.before.before.before.before.before.before.put-labelled.ensures d)
+    let d = put_more _ _ _ _ _ _ _ _ c.before.before.before.before.before.before.before.put-bytes.ensures c.before.before.put_byte.ensures in
+    rw c.before.before.before.letter.ensures at (put_more _ _ _ _ _ _ _ _ c.before.before.before.before.before.before.before.before.before.before.before.before.put-labelled.ensures d)
 
 pub put-bad-spec : {M : Type 1} → statement M
 put-bad-spec =

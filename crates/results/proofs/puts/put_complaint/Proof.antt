@@ -1,6 +1,6 @@
 -- `put_complaint` meets its contract: two texts go in a row.
-use Rattle.script.proofs.Printed.{put-more}
-use Rattle.results.specs.Complaints.{complaintLine}
+use Rattle.script.proofs.Printed.{put_more}
+use Rattle.results.specs.Complaints.{complaint_line}
 use borrow.Author.Rules.{rules}
 use Rattle.results.proofs.puts.put_complaint.Statement.{statement}
 use Rattle.results.proofs.puts.put_complaint.Tie as tie
@@ -18,8 +18,8 @@ same_length : tie.Need-same-length
 same_length c = search rules
 
 returns : tie.Need-returns
-unfolding complaintLine
-returns c = put-more _ _ _ _ _ _ _ _ c.before.before.before.before.before.before.put-labelled.ensures c.before.before.put-reason.ensures
+unfolding complaint_line
+returns c = put_more _ _ _ _ _ _ _ _ c.before.before.before.before.before.before.put-labelled.ensures c.before.before.put-reason.ensures
 
 pub put-complaint-spec : {M : Type 1} → statement M
 put-complaint-spec =

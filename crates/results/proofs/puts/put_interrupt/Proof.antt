@@ -1,5 +1,5 @@
 -- `put_interrupt` meets its contract: two texts go in a row.
-use Rattle.script.proofs.Printed.{put-more}
+use Rattle.script.proofs.Printed.{put_more}
 use borrow.Author.Rules.{rules}
 use Rattle.results.proofs.puts.put_interrupt.Statement.{statement}
 use Rattle.results.proofs.puts.put_interrupt.Tie as tie
@@ -23,7 +23,7 @@ same_length : tie.Need-same-length
 same_length c = search rules
 
 returns : tie.Need-returns
-returns c = rw (← c.before.before.before.before.before.before.before.before.flag.ensures) (put-more _ _ _ _ _ _ _ _ c.before.before.before.before.before.before.before.put-labelled.ensures c.before.before.put-labelled2.ensures)
+returns c = rw (← c.before.before.before.before.before.before.before.before.flag.ensures) (put_more _ _ _ _ _ _ _ _ c.before.before.before.before.before.before.before.put-labelled.ensures c.before.before.put-labelled2.ensures)
 
 pub put-interrupt-spec : {M : Type 1} → statement M
 put-interrupt-spec =

@@ -1,6 +1,6 @@
 -- `put_misplaced` meets its contract: two texts go in a row.
-use Rattle.script.proofs.Printed.{put-more}
-use Rattle.results.specs.Complaints.{misplacedLine, misplacedText}
+use Rattle.script.proofs.Printed.{put_more}
+use Rattle.results.specs.Complaints.{misplaced_line, misplaced_text}
 use borrow.Author.Rules.{rules}
 use Rattle.results.proofs.puts.put_misplaced.Statement.{statement}
 use Rattle.results.proofs.puts.put_misplaced.Tie as tie
@@ -21,8 +21,8 @@ same_length : tie.Need-same-length
 same_length c = search rules
 
 returns : tie.Need-returns
-unfolding misplacedLine misplacedText
-returns c = put-more _ _ _ _ _ _ _ _ c.before.before.before.before.before.before.before.put-labelled.ensures c.before.before.put-bytes.ensures
+unfolding misplaced_line misplaced_text
+returns c = put_more _ _ _ _ _ _ _ _ c.before.before.before.before.before.before.before.put-labelled.ensures c.before.before.put-bytes.ensures
 
 pub put-misplaced-spec : {M : Type 1} → statement M
 put-misplaced-spec =

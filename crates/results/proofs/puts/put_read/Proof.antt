@@ -1,5 +1,5 @@
 -- `put_read` meets its contract: two texts go in a row.
-use Rattle.script.proofs.Printed.{put-more}
+use Rattle.script.proofs.Printed.{put_more}
 use borrow.Author.Rules.{rules}
 use Rattle.results.proofs.puts.put_read.Statement.{statement}
 use Rattle.results.proofs.puts.put_read.Tie as tie
@@ -17,7 +17,7 @@ same_length : tie.Need-same-length
 same_length c = search rules
 
 returns : tie.Need-returns
-returns c = put-more _ _ _ _ _ _ _ _ c.before.before.before.before.before.before.put-bytes.ensures c.before.before.put-hex.ensures
+returns c = put_more _ _ _ _ _ _ _ _ c.before.before.before.before.before.before.put-bytes.ensures c.before.before.put-hex.ensures
 
 pub put-read-spec : {M : Type 1} → statement M
 put-read-spec =

@@ -1,6 +1,6 @@
 -- `put_reason` meets its contract, for each fault.
-use Rattle.lines.specs.Rules.{ownRules}
-use Rattle.results.specs.Complaints.{reasonText}
+use Rattle.lines.specs.Rules.{own_rules}
+use Rattle.results.specs.Complaints.{reason_text}
 use borrow.Author.Rules.{rules}
 use Rattle.results.proofs.puts.put_reason.Statement.{statement}
 use Rattle.results.proofs.puts.put_reason.Tie as tie
@@ -135,98 +135,98 @@ same_length : tie.Need-same-length
 same_length c = search rules
 
 returns : tie.Need-returns
-unfolding reasonText
+unfolding reason_text
 returns c = rw c.before.before.before.before.before.enum_told.given.1 c.before.before.put-bytes.ensures
 
 same-length-2 : tie.Need-same-length-2
 same-length-2 c = search rules
 
 returns-2 : tie.Need-returns-2
-unfolding reasonText
+unfolding reason_text
 returns-2 c = rw c.before.before.before.before.before.enum-told2.given.1 c.before.before.put-bytes2.ensures
 
 same-length-3 : tie.Need-same-length-3
 same-length-3 c = search rules
 
 returns-3 : tie.Need-returns-3
-unfolding reasonText
+unfolding reason_text
 returns-3 c = rw c.before.before.before.before.before.enum-told3.given.1 c.before.before.put-bytes3.ensures
 
 same-length-4 : tie.Need-same-length-4
 same-length-4 c = search rules
 
 returns-4 : tie.Need-returns-4
-unfolding reasonText
+unfolding reason_text
 returns-4 c = rw c.before.before.before.before.before.enum-told4.given.1 c.before.before.put-bytes4.ensures
 
 same-length-5 : tie.Need-same-length-5
 same-length-5 c = search rules
 
 returns-5 : tie.Need-returns-5
-unfolding reasonText
+unfolding reason_text
 returns-5 c = rw c.before.before.before.before.before.enum-told5.given.1 c.before.before.put-bytes5.ensures
 
 same-length-6 : tie.Need-same-length-6
 same-length-6 c = search rules
 
 returns-6 : tie.Need-returns-6
-unfolding reasonText
+unfolding reason_text
 returns-6 c = rw c.before.before.before.before.before.enum-told6.given.1 c.before.before.put-bytes6.ensures
 
 same-length-7 : tie.Need-same-length-7
 same-length-7 c = search rules
 
 returns-7 : tie.Need-returns-7
-unfolding reasonText
+unfolding reason_text
 returns-7 c = rw c.before.before.before.before.before.enum-told7.given.1 c.before.before.put-bytes7.ensures
 
 same-length-8 : tie.Need-same-length-8
 same-length-8 c = search rules
 
 returns-8 : tie.Need-returns-8
-unfolding reasonText
+unfolding reason_text
 returns-8 c = rw c.before.before.before.before.before.enum-told8.given.1 c.before.before.put-bytes8.ensures
 
 same-length-9 : tie.Need-same-length-9
 same-length-9 c = search rules
 
 returns-9 : tie.Need-returns-9
-unfolding reasonText
+unfolding reason_text
 returns-9 c = rw c.before.before.before.before.before.enum-told9.given.1 c.before.before.put-bytes9.ensures
 
 same-length-10 : tie.Need-same-length-10
 same-length-10 c = search rules
 
 returns-10 : tie.Need-returns-10
-unfolding reasonText
+unfolding reason_text
 returns-10 c = rw c.before.before.before.before.before.enum-told10.given.1 c.before.before.put-bytes10.ensures
 
 same-length-11 : tie.Need-same-length-11
 same-length-11 c = search rules
 
 returns-11 : tie.Need-returns-11
-unfolding reasonText
+unfolding reason_text
 returns-11 c = rw c.before.before.before.before.before.enum-told11.given.1 c.before.before.put-bytes11.ensures
 
 same-length-12 : tie.Need-same-length-12
 same-length-12 c = search rules
 
 returns-12 : tie.Need-returns-12
-unfolding reasonText
+unfolding reason_text
 returns-12 c = rw c.before.before.before.before.before.enum-told12.given.1 c.before.before.put-bytes12.ensures
 
 same-length-13 : tie.Need-same-length-13
 same-length-13 c = search rules
 
 returns-13 : tie.Need-returns-13
-unfolding reasonText
+unfolding reason_text
 returns-13 c = rw c.before.before.before.before.before.enum-told13.given.1 c.before.before.put-bytes13.ensures
 
 same-length-14 : tie.Need-same-length-14
 same-length-14 c = search rules
 
 returns-14 : tie.Need-returns-14
-unfolding reasonText ownRules
+unfolding reason_text own_rules
 returns-14 c = rw c.before.before.before.before.before.enum-told14.given.1 c.before.before.put-bytes14.ensures
 
 pub put-reason-spec : {M : Type 1} → statement M

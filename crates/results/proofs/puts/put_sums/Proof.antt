@@ -1,6 +1,6 @@
 -- `put_sums` meets its contract: its texts go in a row.
-use Rattle.script.proofs.Printed.{put-more}
-use Rattle.results.specs.Lines.{sumsText}
+use Rattle.script.proofs.Printed.{put_more}
+use Rattle.results.specs.Lines.{sums_text}
 use borrow.Author.Rules.{rules}
 use Rattle.results.proofs.puts.put_sums.Statement.{statement}
 use Rattle.results.proofs.puts.put_sums.Tie as tie
@@ -42,14 +42,14 @@ same_length : tie.Need-same-length
 same_length c = search rules
 
 returns : tie.Need-returns
-unfolding sumsText
+unfolding sums_text
 returns c =
-    let g = put-more _ _ _ _ _ _ _ _ c.before.before.before.before.before.before.before.put-hex3.ensures c.before.before.put-bytes4.ensures in
-    let f = put-more _ _ _ _ _ _ _ _ c.before.before.before.before.before.before.before.before.before.before.before.put-bytes3.ensures g in
-    let e = put-more _ _ _ _ _ _ _ _ c.before.before.before.before.before.before.before.before.before.before.before.before.before.before.before.before.put-hex2.ensures f in
-    let b = put-more _ _ _ _ _ _ _ _ c.before.before.before.before.before.before.before.before.before.before.before.before.before.before.before.before.before.before.before.before.put-bytes2.ensures e in
-    let a = put-more _ _ _ _ _ _ _ _ c.before.before.before.before.before.before.before.before.before.before.before.before.before.before.before.before.before.before.before.before.before.before.before.before.before.put-hex.ensures b in
-    put-more _ _ _ _ _ _ _ _ c.before.before.before.before.before.before.before.before.before.before.before.before.before.before.before.before.before.before.before.before.before.before.before.before.before.before.before.before.before.put-bytes.ensures a
+    let g = put_more _ _ _ _ _ _ _ _ c.before.before.before.before.before.before.before.put-hex3.ensures c.before.before.put-bytes4.ensures in
+    let f = put_more _ _ _ _ _ _ _ _ c.before.before.before.before.before.before.before.before.before.before.before.put-bytes3.ensures g in
+    let e = put_more _ _ _ _ _ _ _ _ c.before.before.before.before.before.before.before.before.before.before.before.before.before.before.before.before.put-hex2.ensures f in
+    let b = put_more _ _ _ _ _ _ _ _ c.before.before.before.before.before.before.before.before.before.before.before.before.before.before.before.before.before.before.before.before.put-bytes2.ensures e in
+    let a = put_more _ _ _ _ _ _ _ _ c.before.before.before.before.before.before.before.before.before.before.before.before.before.before.before.before.before.before.before.before.before.before.before.before.before.put-hex.ensures b in
+    put_more _ _ _ _ _ _ _ _ c.before.before.before.before.before.before.before.before.before.before.before.before.before.before.before.before.before.before.before.before.before.before.before.before.before.before.before.before.before.put-bytes.ensures a
 
 pub put-sums-spec : {M : Type 1} → statement M
 put-sums-spec =

@@ -5,7 +5,7 @@ use lib.ListN.{length, take, set, get_or}
 use borrow.Author.Rules.{rules}
 use mathlib.Core.List.{List}
 use lib.Seq.{sets}
-use Rattle.script.proofs.Filled.{copy-end, store-more}
+use Rattle.script.proofs.Filled.{copy_end, store_more}
 use native.Mathlib.Omega.{arith}
 use Rattle.script.proofs.fills.copy.Statement.{statement}
 use Rattle.script.proofs.fills.copy.Tie as tie
@@ -38,7 +38,7 @@ loop-again : tie.Need-loop-preserved invariant-loop decreases-loop
 loop-again c =
     let a = c.before.before.before.before.before.before.args in
     let l = c.before.before.loop in
-    (search rules, search rules, ap (λ (b : List ℕ). set b l.i (get_or a.from.now l.i 0)) l.invariant.2 ∙ store-more a.to.now a.from.now l.i (omega arith))
+    (search rules, search rules, ap (λ (b : List ℕ). set b l.i (get_or a.from.now l.i 0)) l.invariant.2 ∙ store_more a.to.now a.from.now l.i (omega arith))
 
 same_length : tie.Need-same-length invariant-loop decreases-loop
 same_length c = search rules
@@ -47,7 +47,7 @@ returns : tie.Need-returns invariant-loop decreases-loop
 returns c =
     let a = c.before.before.before.before.before.args in
     let l = c.before.loop in
-    l.invariant.2 ∙ copy-end a.to.now a.from.now _ l.i c.before.before.least.ensures (omega arith) (omega arith)
+    l.invariant.2 ∙ copy_end a.to.now a.from.now _ l.i c.before.before.least.ensures (omega arith) (omega arith)
 
 pub copy_spec : {M : Type 1} → statement M
 copy_spec =

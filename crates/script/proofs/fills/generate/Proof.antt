@@ -5,7 +5,7 @@ use lib.ListN.{length}
 use borrow.Author.Rules.{rules}
 use lib.Seq.{sets}
 use Rattle.script.specs.Fills.{generated}
-use Rattle.script.proofs.Filled.{generate-end, generate-more}
+use Rattle.script.proofs.Filled.{generate_end, generate_more}
 use native.Mathlib.Omega.{arith}
 use Rattle.script.proofs.fills.generate.Statement.{statement}
 use Rattle.script.proofs.fills.generate.Tie as tie
@@ -48,7 +48,7 @@ loop-again : tie.Need-loop-preserved invariant-loop decreases-loop
 loop-again c =
     let a = c.before.before.args in
     let l = c.before.loop in
-    (search rules, search rules, generate-more a.b.now l.b a.seed l.i l.invariant.2)
+    (search rules, search rules, generate_more a.b.now l.b a.seed l.i l.invariant.2)
 
 same_length : tie.Need-same-length invariant-loop decreases-loop
 same_length c = search rules
@@ -57,7 +57,7 @@ returns : tie.Need-returns invariant-loop decreases-loop
 returns c =
     let a = c.before.before.args in
     let l = c.before.loop in
-    l.invariant.2 ∙ generate-end a.b.now a.seed l.i (omega arith)
+    l.invariant.2 ∙ generate_end a.b.now a.seed l.i (omega arith)
 
 pub generate-spec : {M : Type 1} → statement M
 generate-spec =

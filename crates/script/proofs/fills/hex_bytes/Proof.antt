@@ -3,7 +3,7 @@ use Prim.Native.Nat.{◌≤◌, ◌-◌}
 use mathlib.Core.Path.{◌≡◌}
 use lib.ListN.{length}
 use borrow.Author.Rules.{rules}
-use Rattle.script.proofs.Paired.{Read, read_all, read-full, read-high, read_low, read_more, read_none, read-odd}
+use Rattle.script.proofs.Paired.{Read, read_all, read_full, read_high, read_low, read_more, read_none, read_odd}
 use native.Mathlib.Omega.{arith}
 use Rattle.script.proofs.fills.hex_bytes.Statement.{statement}
 use Rattle.script.proofs.fills.hex_bytes.Tie as tie
@@ -15,10 +15,10 @@ abbrev decreases-loop : tie.decreases-loop
 decreases-loop text out₀ n i₀ out i = n - i
 
 returns : tie.Need-returns invariant-loop decreases-loop
-returns c = read-odd _ _ c.if1.true
+returns c = read_odd _ _ c.if1.true
 
 returns-2 : tie.Need-returns-2 invariant-loop decreases-loop
-returns-2 c = read-full _ _ c.before.if1.false (omega arith)
+returns-2 c = read_full _ _ c.before.if1.false (omega arith)
 
 loop-holds : tie.Need-loop-init invariant-loop decreases-loop
 loop-holds c = (search rules, search rules, read_none _ _)
@@ -51,7 +51,7 @@ returns-3 : tie.Need-returns-3 invariant-loop decreases-loop
 returns-3 c =
     let l = c.before.before.before.before.before.before.loop in
     let a = c.before.before.before.before.before.before.before.before.before.before.before.args in
-    read-high a.text.now a.out.now l.out l.i l.invariant.2 c.before.before.before.before.before.before.before.before.if1.false (omega arith) _ (omega arith) c.before.before.before.digit.ensures.0 (omega arith)
+    read_high a.text.now a.out.now l.out l.i l.invariant.2 c.before.before.before.before.before.before.before.before.if1.false (omega arith) _ (omega arith) c.before.before.before.digit.ensures.0 (omega arith)
 
 same-length-2 : tie.Need-same-length-2 invariant-loop decreases-loop
 same-length-2 c = search rules

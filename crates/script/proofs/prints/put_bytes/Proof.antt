@@ -1,12 +1,12 @@
 -- `put_bytes` meets its contract: what the part that is lent holds of the bytes.
 use borrow.Author.Rules.{rules}
 use native.Mathlib.Omega.{arith}
-use Rattle.script.proofs.Printed.{put-none, put_some}
+use Rattle.script.proofs.Printed.{put_none, put_some}
 use Rattle.script.proofs.prints.put_bytes.Statement.{statement}
 use Rattle.script.proofs.prints.put_bytes.Tie as tie
 
 returns : tie.Need-returns
-returns c = put-none _ _ _ (omega arith)
+returns c = put_none _ _ _ (omega arith)
 
 sub-copy : tie.Need-overflow-sub-copy
 sub-copy c = search rules

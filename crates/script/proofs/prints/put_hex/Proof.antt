@@ -1,6 +1,6 @@
 -- `put_hex` meets its contract: the digits that the library makes are the fewest.
 use native.Mathlib.Omega.{arith}
-use Rattle.script.proofs.Spelt.{put-spelt}
+use Rattle.script.proofs.Spelt.{put_spelt}
 use borrow.Author.Rules.{rules}
 use Rattle.script.proofs.prints.put_hex.Statement.{statement}
 use Rattle.script.proofs.prints.put_hex.Tie as tie
@@ -23,7 +23,7 @@ same_length c = search rules
 returns : tie.Need-returns
 returns c =
     let d = c.before.before.before.before.before.hex.ensures in
-    put-spelt 16 _ _ _ _ _ _ _ _ (omega arith) (omega arith) d.1.0 d.1.1 c.before.before.put-bytes.ensures
+    put_spelt 16 _ _ _ _ _ _ _ _ (omega arith) (omega arith) d.1.0 d.1.1 c.before.before.put-bytes.ensures
 
 pub put-hex-spec : {M : Type 1} → statement M
 put-hex-spec =

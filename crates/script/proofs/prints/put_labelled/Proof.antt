@@ -1,6 +1,6 @@
 -- `put_labelled` meets its contract: the label and the number go in a row.
 use borrow.Author.Rules.{rules}
-use Rattle.script.proofs.Printed.{put-more}
+use Rattle.script.proofs.Printed.{put_more}
 use Rattle.script.proofs.prints.put_labelled.Statement.{statement}
 use Rattle.script.proofs.prints.put_labelled.Tie as tie
 
@@ -14,7 +14,7 @@ same_length : tie.Need-same-length
 same_length c = search rules
 
 returns : tie.Need-returns
-returns c = put-more _ _ _ _ _ _ _ _ c.before.before.before.before.before.before.put-bytes.ensures c.before.before.put-decimal.ensures
+returns c = put_more _ _ _ _ _ _ _ _ c.before.before.before.before.before.before.put-bytes.ensures c.before.before.put-decimal.ensures
 
 pub put-labelled-spec : {M : Type 1} → statement M
 put-labelled-spec =

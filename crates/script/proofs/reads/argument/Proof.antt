@@ -2,7 +2,7 @@
 use borrow.Author.Rules.{rules}
 use mathlib.Core.Path.{ap, ◌∙◌}
 use Rattle.script.specs.Numbers.{number_in}
-use Rattle.script.proofs.Passing.{part-word}
+use Rattle.script.proofs.Passing.{part_word}
 use Rattle.script.proofs.reads.argument.Statement.{statement}
 use Rattle.script.proofs.reads.argument.Tie as tie
 
@@ -25,7 +25,7 @@ returns : tie.Need-returns
 returns c =
     let a = c.before.before.before.before.args in
     let n = c.before.before.nth.ensures in
-    c.number.ensures ∙ ap number_in (part-word a.text.now a.k _ _ n.0 n.1.0)
+    c.number.ensures ∙ ap number_in (part_word a.text.now a.k _ _ n.0 n.1.0)
 
 pub argument-spec : {M : Type 1} → statement M
 argument-spec =

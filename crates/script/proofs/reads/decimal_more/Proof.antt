@@ -2,15 +2,15 @@
 use borrow.Author.Rules.{rules}
 use mathlib.Core.Bool.{false}
 use native.Mathlib.Omega.{arith}
-use Rattle.script.proofs.Said.{joined_is, joined-large, joined-wrong}
+use Rattle.script.proofs.Said.{joined_is, joined_large, joined_wrong}
 use Rattle.script.proofs.reads.decimal_more.Statement.{statement}
 use Rattle.script.proofs.reads.decimal_more.Tie as tie
 
 returns : tie.Need-returns
-returns c = joined-wrong false _ _ (omega arith)
+returns c = joined_wrong false _ _ (omega arith)
 
 returns-2 : tie.Need-returns-2
-returns-2 c = joined-large false _ _ (omega arith) (omega arith)
+returns-2 c = joined_large false _ _ (omega arith) (omega arith)
 
 mul-tens : tie.Need-overflow-mul-tens
 mul-tens c = search rules
@@ -19,7 +19,7 @@ sub-if3 : tie.Need-overflow-sub-if3
 sub-if3 c = search rules
 
 returns-3 : tie.Need-returns-3
-returns-3 c = joined-large false _ _ (omega arith) (omega arith)
+returns-3 c = joined_large false _ _ (omega arith) (omega arith)
 
 add-t7 : tie.Need-overflow-add-t7
 add-t7 c = search rules

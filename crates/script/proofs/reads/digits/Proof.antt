@@ -3,7 +3,7 @@ use Prim.Native.Nat.{◌≤◌, ◌-◌}
 use mathlib.Core.Path.{◌≡◌, sym, ◌∙◌}
 use lib.ListN.{length, drop}
 use Rattle.script.specs.Numbers.{said}
-use Rattle.script.proofs.Said.{said-on, said-wrong, said-end}
+use Rattle.script.proofs.Said.{said_on, said_wrong, said_end}
 use borrow.Author.Rules.{rules}
 use native.Mathlib.Omega.{arith}
 use Rattle.script.proofs.reads.digits.Statement.{statement}
@@ -34,7 +34,7 @@ returns : tie.Need-returns invariant-loop decreases-loop
 returns c =
     let l = c.before.before.before.before.before.before.before.loop in
     let a = c.before.before.before.before.before.before.before.before.before.args in
-    sym (l.invariant.0 ∙ said-wrong a.hex l.value l.i a.text.now (omega arith) _ c.before.before.before.before.digit.ensures.0 _ c.before.before.before.more.ensures _ c.before.f.given.1)
+    sym (l.invariant.0 ∙ said_wrong a.hex l.value l.i a.text.now (omega arith) _ c.before.before.before.before.digit.ensures.0 _ c.before.before.before.more.ensures _ c.before.f.given.1)
 
 enum-known-v : tie.Need-enum-known-v invariant-loop decreases-loop
 enum-known-v c = search rules
@@ -49,13 +49,13 @@ loop-again : tie.Need-loop-preserved invariant-loop decreases-loop
 loop-again c =
     let l = c.before.before.before.before.before.before.before.loop in
     let a = c.before.before.before.before.before.before.before.before.before.args in
-    (l.invariant.0 ∙ said-on a.hex l.value l.i a.text.now (omega arith) _ c.before.before.before.before.digit.ensures.0 _ c.before.before.before.more.ensures _ c.before.v.given.1, search rules)
+    (l.invariant.0 ∙ said_on a.hex l.value l.i a.text.now (omega arith) _ c.before.before.before.before.digit.ensures.0 _ c.before.before.before.more.ensures _ c.before.v.given.1, search rules)
 
 returns-2 : tie.Need-returns-2 invariant-loop decreases-loop
 returns-2 c =
     let l = c.before.loop in
     let a = c.before.before.before.args in
-    sym (l.invariant.0 ∙ said-end a.hex l.value l.i a.text.now (omega arith) (omega arith))
+    sym (l.invariant.0 ∙ said_end a.hex l.value l.i a.text.now (omega arith) (omega arith))
 
 pub digits-spec : {M : Type 1} → statement M
 digits-spec =

@@ -2,15 +2,15 @@
 use borrow.Author.Rules.{rules}
 use mathlib.Core.Bool.{true}
 use native.Mathlib.Omega.{arith}
-use Rattle.script.proofs.Said.{joined_is, joined-large, joined-wrong}
+use Rattle.script.proofs.Said.{joined_is, joined_large, joined_wrong}
 use Rattle.script.proofs.reads.hex_more.Statement.{statement}
 use Rattle.script.proofs.reads.hex_more.Tie as tie
 
 returns : tie.Need-returns
-returns c = joined-wrong true _ _ (omega arith)
+returns c = joined_wrong true _ _ (omega arith)
 
 returns-2 : tie.Need-returns-2
-returns-2 c = joined-large true _ _ (omega arith) (omega arith)
+returns-2 c = joined_large true _ _ (omega arith) (omega arith)
 
 mul-t6 : tie.Need-overflow-mul-t6
 mul-t6 c = search rules

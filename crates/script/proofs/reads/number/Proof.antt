@@ -2,12 +2,12 @@
 use borrow.Author.Rules.{rules}
 use native.Mathlib.Omega.{arith}
 use Rattle.script.specs.declared.Value.TheVariants as value
-use Rattle.script.proofs.Said.{number-hex, number-missing, number_short, number-ten}
+use Rattle.script.proofs.Said.{number_hex, number_missing, number_short, number_ten}
 use Rattle.script.proofs.reads.number.Statement.{statement}
 use Rattle.script.proofs.reads.number.Tie as tie
 
 returns : tie.Need-returns
-returns c = number-missing _ (value.Is 0) c.if1.true
+returns c = number_missing _ (value.Is 0) c.if1.true
 
 digits-requires : tie.Need-digits-requires
 digits-requires c κs = search rules
@@ -25,13 +25,13 @@ digits-requires-2 : tie.Need-digits-requires-2
 digits-requires-2 c κs = search rules
 
 returns-3 : tie.Need-returns-3
-returns-3 c = number-hex _ _ (omega arith) c.before.if3.true c.digits2.ensures
+returns-3 c = number_hex _ _ (omega arith) c.before.if3.true c.digits2.ensures
 
 digits-requires-3 : tie.Need-digits-requires-3
 digits-requires-3 c κs = search rules
 
 returns-4 : tie.Need-returns-4
-returns-4 c = number-ten _ _ (omega arith) c.before.if3.false c.digits3.ensures
+returns-4 c = number_ten _ _ (omega arith) c.before.if3.false c.digits3.ensures
 
 pub number-spec : {M : Type 1} → statement M
 number-spec =

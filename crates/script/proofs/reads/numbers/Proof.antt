@@ -1,7 +1,7 @@
 -- `numbers` meets its contract: the arms say what each of the three words says.
 use borrow.Author.Rules.{rules}
 use mathlib.Core.Path.{sym, ◌∙◌}
-use Rattle.script.proofs.Said.{all_three, first-wrong, second-wrong, third-wrong}
+use Rattle.script.proofs.Said.{all_three, first_wrong, second_wrong, third_wrong}
 use Rattle.script.proofs.reads.numbers.Statement.{statement}
 use Rattle.script.proofs.reads.numbers.Tie as tie
 
@@ -39,13 +39,13 @@ enum-known-c : tie.Need-enum-known-c
 enum-known-c c = search rules
 
 returns : tie.Need-returns
-returns c = first-wrong _ _ _ _ (sym c.before.before.before.wanted.ensures ∙ c.before.f.given.1)
+returns c = first_wrong _ _ _ _ (sym c.before.before.before.wanted.ensures ∙ c.before.f.given.1)
 
 returns-2 : tie.Need-returns-2
-returns-2 c = second-wrong _ _ _ _ _ (sym c.before.before.before.before.before.before.before.wanted.ensures ∙ c.before.before.before.before.before.a.given.1) (sym c.before.before.before.wanted2.ensures ∙ c.before.f2.given.1)
+returns-2 c = second_wrong _ _ _ _ _ (sym c.before.before.before.before.before.before.before.wanted.ensures ∙ c.before.before.before.before.before.a.given.1) (sym c.before.before.before.wanted2.ensures ∙ c.before.f2.given.1)
 
 returns-3 : tie.Need-returns-3
-returns-3 c = third-wrong _ _ _ _ _ _ (sym c.before.before.before.before.before.before.before.before.before.before.before.wanted.ensures ∙ c.before.before.before.before.before.before.before.before.before.a.given.1) (sym c.before.before.before.before.before.before.before.wanted2.ensures ∙ c.before.before.before.before.before.b.given.1) (sym c.before.before.before.wanted3.ensures ∙ c.before.f3.given.1)
+returns-3 c = third_wrong _ _ _ _ _ _ (sym c.before.before.before.before.before.before.before.before.before.before.before.wanted.ensures ∙ c.before.before.before.before.before.before.before.before.before.a.given.1) (sym c.before.before.before.before.before.before.before.wanted2.ensures ∙ c.before.before.before.before.before.b.given.1) (sym c.before.before.before.wanted3.ensures ∙ c.before.f3.given.1)
 
 returns-4 : tie.Need-returns-4
 returns-4 c = all_three _ _ _ _ _ _ (sym c.before.before.before.before.before.before.before.before.before.before.before.wanted.ensures ∙ c.before.before.before.before.before.before.before.before.before.a.given.1) (sym c.before.before.before.before.before.before.before.wanted2.ensures ∙ c.before.before.before.before.before.b.given.1) (sym c.before.before.before.wanted3.ensures ∙ c.before.c.given.1)

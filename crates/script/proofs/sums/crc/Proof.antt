@@ -4,7 +4,7 @@ use mathlib.Core.Path.{◌≡◌, ◌∙◌}
 use lib.ListN.{length, drop}
 use Rattle.lists.specs.Words.{Bytes}
 use Rattle.script.specs.Sums.{tabled}
-use Rattle.script.proofs.Xors.{crc-by, right_by, tabled-end, tabled-on}
+use Rattle.script.proofs.Xors.{crc_by_lem, right_by, tabled_end, tabled_on}
 use borrow.Author.Rules.{rules}
 use native.Mathlib.Omega.{arith}
 use Rattle.script.proofs.sums.crc.Statement.{statement}
@@ -41,13 +41,13 @@ loop-again : tie.Need-loop-preserved invariant-loop decreases-loop
 loop-again c =
     let l = c.before.before.before.before.loop in
     let a = c.before.before.before.before.before.before.args in
-    (l.invariant.0 ∙ tabled-on a.table.now a.b.now l.c l.i _ (omega arith) c.before.wide.ensures.0, search rules)
+    (l.invariant.0 ∙ tabled_on a.table.now a.b.now l.c l.i _ (omega arith) c.before.wide.ensures.0, search rules)
 
 returns : tie.Need-returns invariant-loop decreases-loop
 returns c =
     let l = c.before.loop in
     let a = c.before.before.before.args in
-    let e = crc-by a.table.now a.b.now l.c (l.invariant.0 ∙ tabled-end a.table.now a.b.now l.c l.i (omega arith) (omega arith)) in
+    let e = crc_by_lem a.table.now a.b.now l.c (l.invariant.0 ∙ tabled_end a.table.now a.b.now l.c l.i (omega arith) (omega arith)) in
     let k : Bytes a.b.now = λ i. omega (arith, c.before.before.shared-slice-known.given i) in
     (e, right_by a.table.now a.b.now _ k e)
 

@@ -2,7 +2,7 @@
 use borrow.Author.Rules.{rules}
 use mathlib.Core.Path.{◌≡◌, sym, ◌∙◌}
 use Rattle.script.specs.Sums.{steps}
-use Rattle.script.proofs.Xors.{steps-end, steps_on}
+use Rattle.script.proofs.Xors.{steps_end, steps_on}
 use native.Mathlib.Omega.{arith}
 use Rattle.script.proofs.sums.crc_entry.Statement.{statement}
 use Rattle.script.proofs.sums.crc_entry.Tie as tie
@@ -29,7 +29,7 @@ loop-again : tie.Need-loop-preserved invariant-loop decreases-loop
 loop-again c = c.before.before.loop.invariant ∙ steps_on _ _ _ (omega arith) c.crc-step.ensures
 
 returns : tie.Need-returns invariant-loop decreases-loop
-returns c = sym (c.before.loop.invariant ∙ steps-end _ _ (omega arith))
+returns c = sym (c.before.loop.invariant ∙ steps_end _ _ (omega arith))
 
 pub crc-entry-spec : {M : Type 1} → statement M
 crc-entry-spec =

@@ -2,21 +2,21 @@
 use Prim.Native.Nat.{◌≤◌, ◌-◌}
 use mathlib.Core.Path.{◌≡◌}
 use lib.ListN.{length, take}
-use Rattle.script.specs.Sums.{tableTo}
-use Rattle.script.proofs.Xors.{table-end, table_more}
+use Rattle.script.specs.Sums.{table_to}
+use Rattle.script.proofs.Xors.{table_end, table_more}
 use borrow.Author.Rules.{rules}
 use native.Mathlib.Omega.{arith}
 use Rattle.script.proofs.sums.crc_table.Statement.{statement}
 use Rattle.script.proofs.sums.crc_table.Tie as tie
 
 abbrev invariant-loop : tie.invariant-loop
-invariant-loop table₀ i₀ table i = (i ≤ 256) × (length table ≡ 256) × (take i table ≡ tableTo i)
+invariant-loop table₀ i₀ table i = (i ≤ 256) × (length table ≡ 256) × (take i table ≡ table_to i)
 
 abbrev decreases-loop : tie.decreases-loop
 decreases-loop table₀ i₀ table i = 256 - i
 
 loop-holds : tie.Need-loop-init invariant-loop decreases-loop
-unfolding tableTo
+unfolding table_to
 loop-holds c = search rules
 
 crc-entry-requires : tie.Need-crc-entry-requires invariant-loop decreases-loop
@@ -42,7 +42,7 @@ loop-again c =
 returns : tie.Need-returns invariant-loop decreases-loop
 returns c =
     let l = c.before.loop in
-    table-end l.table l.i (omega arith) l.invariant.1 l.invariant.2
+    table_end l.table l.i (omega arith) l.invariant.1 l.invariant.2
 
 pub crc-table-spec : {M : Type 1} → statement M
 crc-table-spec =

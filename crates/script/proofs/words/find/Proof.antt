@@ -3,7 +3,7 @@ use Prim.Native.Nat.{◌+◌, ◌≤◌, ◌-◌}
 use mathlib.Core.Path.{◌≡◌, sym, ◌∙◌}
 use lib.ListN.{length, drop}
 use Rattle.script.specs.Words.{before}
-use Rattle.script.proofs.Passing.{find-on, find-stop, find-end}
+use Rattle.script.proofs.Passing.{find_on, find_stop, find_end}
 use borrow.Author.Rules.{rules}
 use native.Mathlib.Omega.{arith}
 use Rattle.script.proofs.words.find.Statement.{statement}
@@ -25,7 +25,7 @@ returns : tie.Need-returns invariant-loop decreases-loop
 returns c =
     let l = c.before.before.before.loop in
     let a = c.before.before.before.before.args in
-    (sym (l.invariant.0 ∙ find-stop a.text.now a.b l.i c.before.before.loop-test.true c.if1.true), search rules)
+    (sym (l.invariant.0 ∙ find_stop a.text.now a.b l.i c.before.before.loop-test.true c.if1.true), search rules)
 
 add-i : tie.Need-overflow-add-i invariant-loop decreases-loop
 add-i c = search rules
@@ -37,13 +37,13 @@ loop-again : tie.Need-loop-preserved invariant-loop decreases-loop
 loop-again c =
     let l = c.before.before.before.loop in
     let a = c.before.before.before.before.args in
-    (l.invariant.0 ∙ find-on a.text.now a.b l.i c.before.before.loop-test.true c.if1.false, search rules, search rules)
+    (l.invariant.0 ∙ find_on a.text.now a.b l.i c.before.before.loop-test.true c.if1.false, search rules, search rules)
 
 returns-2 : tie.Need-returns-2 invariant-loop decreases-loop
 returns-2 c =
     let l = c.before.loop in
     let a = c.before.before.args in
-    (sym (l.invariant.0 ∙ find-end a.text.now a.b l.i (omega arith) (omega arith)), search rules)
+    (sym (l.invariant.0 ∙ find_end a.text.now a.b l.i (omega arith) (omega arith)), search rules)
 
 pub find_spec : {M : Type 1} → statement M
 find_spec =

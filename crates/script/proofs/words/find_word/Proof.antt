@@ -2,7 +2,7 @@
 use borrow.Author.Rules.{rules}
 use mathlib.Core.Path.{ap, ◌∙◌}
 use Rattle.script.specs.Words.{place_of}
-use Rattle.script.proofs.Passing.{part-word}
+use Rattle.script.proofs.Passing.{part_word}
 use Rattle.script.proofs.words.find_word.Statement.{statement}
 use Rattle.script.proofs.words.find_word.Tie as tie
 
@@ -25,7 +25,7 @@ returns : tie.Need-returns
 returns c =
     let a = c.before.before.before.before.before.args in
     let n = c.before.before.nth.ensures in
-    c.place_in.ensures ∙ ap (place_of a.list.now) (part-word a.text.now a.k _ _ n.0 n.1.0)
+    c.place_in.ensures ∙ ap (place_of a.list.now) (part_word a.text.now a.k _ _ n.0 n.1.0)
 
 pub find-word-spec : {M : Type 1} → statement M
 find-word-spec =

@@ -4,7 +4,7 @@ use mathlib.Core.Path.{◌≡◌, ap, sym, ◌∙◌}
 use lib.ListN.{length, take}
 use lib.Seq.{take-length}
 use Rattle.script.specs.Words.{last_end}
-use Rattle.script.proofs.Found.{last_none, last_on, last-stop}
+use Rattle.script.proofs.Found.{last_none, last_on, last_stop}
 use borrow.Author.Rules.{rules}
 use native.Mathlib.Omega.{arith}
 use Rattle.script.proofs.words.last.Statement.{statement}
@@ -29,7 +29,7 @@ returns : tie.Need-returns invariant-loop decreases-loop
 returns c =
     let l = c.before.before.before.loop in
     let a = c.before.before.before.before.args in
-    (sym (l.invariant.0 ∙ last-stop a.text.now l.i (omega arith) (omega arith) c.if1.true), search rules)
+    (sym (l.invariant.0 ∙ last_stop a.text.now l.i (omega arith) (omega arith) c.if1.true), search rules)
 
 sub-i : tie.Need-overflow-sub-i invariant-loop decreases-loop
 sub-i c = search rules

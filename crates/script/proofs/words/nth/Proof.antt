@@ -3,7 +3,7 @@ use Prim.Native.Nat.{◌≤◌, ◌-◌}
 use mathlib.Core.Path.{◌≡◌}
 use lib.ListN.{length}
 use Rattle.script.specs.Words.{over}
-use Rattle.script.proofs.Passing.{over-more, word-starts, word-ends}
+use Rattle.script.proofs.Passing.{over_more, word_starts, word_ends}
 use borrow.Author.Rules.{rules}
 use native.Mathlib.Omega.{arith}
 use Rattle.script.proofs.words.nth.Statement.{statement}
@@ -35,7 +35,7 @@ loop-again : tie.Need-loop-preserved invariant-loop decreases-loop
 loop-again c =
     let l = c.before.before.before.loop in
     let t = c.before.before.before.before.before.args.text.now in
-    (over-more t l.i l.at _ _ l.invariant.0 c.before.pass.ensures.0 c.pass2.ensures.0, search rules, search rules)
+    (over_more t l.i l.at _ _ l.invariant.0 c.before.pass.ensures.0 c.pass2.ensures.0, search rules, search rules)
 
 pass-requires-3 : tie.Need-pass-requires-3 invariant-loop decreases-loop
 pass-requires-3 c κs = search rules
@@ -49,8 +49,8 @@ returns c =
     let a = c.before.before.before.before.before.args in
     let e : a.k ≡ l.i = omega arith in
     let s = c.before.pass3.ensures.0 in (
-      rw e (word-starts a.text.now l.i l.at _ 0 l.invariant.0 s),
-      (rw e (word-ends a.text.now l.i l.at _ _ l.invariant.0 s c.pass4.ensures.0), search rules),
+      rw e (word_starts a.text.now l.i l.at _ 0 l.invariant.0 s),
+      (rw e (word_ends a.text.now l.i l.at _ _ l.invariant.0 s c.pass4.ensures.0), search rules),
     )
 
 pub nth-spec : {M : Type 1} → statement M

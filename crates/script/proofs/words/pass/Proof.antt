@@ -3,7 +3,7 @@ use Prim.Native.Nat.{◌+◌, ◌≤◌, ◌-◌}
 use mathlib.Core.Path.{◌≡◌, sym, ◌∙◌}
 use lib.ListN.{length, drop}
 use Rattle.script.specs.Words.{spanned}
-use Rattle.script.proofs.Passing.{pass_on, pass-stop, pass-end}
+use Rattle.script.proofs.Passing.{pass_on, pass_stop, pass_end}
 use borrow.Author.Rules.{rules}
 use native.Mathlib.Omega.{arith}
 use Rattle.script.proofs.words.pass.Statement.{statement}
@@ -25,7 +25,7 @@ returns : tie.Need-returns invariant-loop decreases-loop
 returns c =
     let l = c.before.before.before.loop in
     let a = c.before.before.before.before.args in
-    (sym (l.invariant.0 ∙ pass-stop a.text.now a.blank l.i c.before.before.loop-test.true c.if1.true), search rules)
+    (sym (l.invariant.0 ∙ pass_stop a.text.now a.blank l.i c.before.before.loop-test.true c.if1.true), search rules)
 
 add-i : tie.Need-overflow-add-i invariant-loop decreases-loop
 add-i c = search rules
@@ -43,7 +43,7 @@ returns-2 : tie.Need-returns-2 invariant-loop decreases-loop
 returns-2 c =
     let l = c.before.loop in
     let a = c.before.before.args in
-    (sym (l.invariant.0 ∙ pass-end a.text.now a.blank l.i (omega arith) (omega arith)), search rules)
+    (sym (l.invariant.0 ∙ pass_end a.text.now a.blank l.i (omega arith) (omega arith)), search rules)
 
 pub pass_spec : {M : Type 1} → statement M
 pass_spec =

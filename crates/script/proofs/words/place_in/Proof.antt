@@ -3,16 +3,16 @@ use Prim.Native.Nat.{◌≤◌, ◌-◌}
 use mathlib.Core.Path.{◌≡◌, ap, sym, ◌∙◌}
 use native.Mathlib.Nat.{sub-zero}
 use lib.ListN.{length}
-use Rattle.script.specs.Words.{over, placeFrom, place_of}
-use Rattle.script.proofs.Found.{place-on, place-stop, place_end}
-use Rattle.script.proofs.Passing.{over-more, word-is}
+use Rattle.script.specs.Words.{over, place_from, place_of}
+use Rattle.script.proofs.Found.{place_on, place_stop, place_end}
+use Rattle.script.proofs.Passing.{over_more, word_is}
 use borrow.Author.Rules.{rules}
 use native.Mathlib.Omega.{arith}
 use Rattle.script.proofs.words.place_in.Statement.{statement}
 use Rattle.script.proofs.words.place_in.Tie as tie
 
 abbrev invariant-loop : tie.invariant-loop
-invariant-loop list w at₀ k₀ at k = (place_of list w ≡ placeFrom list w k (length list - k)) × (at ≡ over list k) × (at ≤ length list) × (k ≤ length list)
+invariant-loop list w at₀ k₀ at k = (place_of list w ≡ place_from list w k (length list - k)) × (at ≡ over list k) × (at ≤ length list) × (k ≤ length list)
 
 abbrev decreases-loop : tie.decreases-loop
 decreases-loop list w at₀ k₀ at k = length list - k
@@ -21,7 +21,7 @@ loop-holds : tie.Need-loop-init invariant-loop decreases-loop
 unfolding over
 loop-holds c =
     let a = c.before.before.args in
-    (ap (placeFrom a.list.now a.w.now 0) (sym (sub-zero (length a.list.now))), search rules, search rules, search rules)
+    (ap (place_from a.list.now a.w.now 0) (sym (sub-zero (length a.list.now))), search rules, search rules, search rules)
 
 pass-requires : tie.Need-pass-requires invariant-loop decreases-loop
 pass-requires c κs = search rules
@@ -36,8 +36,8 @@ returns : tie.Need-returns invariant-loop decreases-loop
 returns c =
     let l = c.before.before.before.before.before.loop in
     let a = c.before.before.before.before.before.before.before.before.args in
-    let w = word-is a.list.now l.k l.at _ _ l.invariant.1 c.before.before.before.pass.ensures.0 c.before.before.pass2.ensures.0 in
-    sym (l.invariant.0 ∙ place-stop a.list.now a.w.now l.k (length a.list.now) c.before.before.before.pass.result c.before.before.pass2.result _ (omega arith) w c.before.same-part.ensures c.if1.true)
+    let w = word_is a.list.now l.k l.at _ _ l.invariant.1 c.before.before.before.pass.ensures.0 c.before.before.pass2.ensures.0 in
+    sym (l.invariant.0 ∙ place_stop a.list.now a.w.now l.k (length a.list.now) c.before.before.before.pass.result c.before.before.pass2.result _ (omega arith) w c.before.same-part.ensures c.if1.true)
 
 add-k : tie.Need-overflow-add-k invariant-loop decreases-loop
 add-k c = search rules
@@ -51,9 +51,9 @@ loop-again c =
     let a = c.before.before.before.before.before.before.before.before.args in
     let p = c.before.before.before.pass.ensures.0 in
     let q = c.before.before.pass2.ensures.0 in
-    let w = word-is a.list.now l.k l.at _ _ l.invariant.1 p q in (
-      l.invariant.0 ∙ place-on a.list.now a.w.now l.k (length a.list.now) c.before.before.before.pass.result c.before.before.pass2.result _ (omega arith) w c.before.same-part.ensures c.if1.false,
-      over-more a.list.now l.k l.at _ _ l.invariant.1 p q,
+    let w = word_is a.list.now l.k l.at _ _ l.invariant.1 p q in (
+      l.invariant.0 ∙ place_on a.list.now a.w.now l.k (length a.list.now) c.before.before.before.pass.result c.before.before.pass2.result _ (omega arith) w c.before.same-part.ensures c.if1.false,
+      over_more a.list.now l.k l.at _ _ l.invariant.1 p q,
       search rules,
       search rules,
     )

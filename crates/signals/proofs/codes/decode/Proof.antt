@@ -1,6 +1,6 @@
 -- `decode` meets its contract: an arm says what the code is and its callee what the mode makes of it, the last arm what the code is not.
 use Rattle.std.proofs.Common.{rules, ne_eqb}
-use Rattle.signals.specs.Codes.{commandOf}
+use Rattle.signals.specs.Codes.{command_of}
 use Rattle.signals.proofs.codes.decode.Statement.{statement}
 use Rattle.signals.proofs.codes.decode.Tie as tie
 
@@ -29,39 +29,39 @@ decode-single-requires-3 : tie.Need-decode-single-requires-3
 decode-single-requires-3 c κs = search rules
 
 returns : tie.Need-returns
-unfolding commandOf
+unfolding command_of
 returns c = rw c.before.match.keys1 c.decode-read.ensures
 
 returns-2 : tie.Need-returns-2
-unfolding commandOf
+unfolding command_of
 returns-2 c = rw c.before.match.keys2 c.decode-single.ensures
 
 returns-3 : tie.Need-returns-3
-unfolding commandOf
+unfolding command_of
 returns-3 c = rw c.before.match.keys3 c.decode-write.ensures
 
 returns-4 : tie.Need-returns-4
-unfolding commandOf
+unfolding command_of
 returns-4 c = rw c.before.match.keys4 c.decode-position.ensures
 
 returns-5 : tie.Need-returns-5
-unfolding commandOf
+unfolding command_of
 returns-5 c = rw c.before.match.keys5 c.decode-format.ensures
 
 returns-6 : tie.Need-returns-6
-unfolding commandOf
+unfolding command_of
 returns-6 c = rw c.before.match.keys6 c.decode-control.ensures
 
 returns-7 : tie.Need-returns-7
-unfolding commandOf
+unfolding command_of
 returns-7 c = rw c.before.match.keys7 c.decode-single2.ensures
 
 returns-8 : tie.Need-returns-8
-unfolding commandOf
+unfolding command_of
 returns-8 c = rw c.before.match.keys8 c.decode-single3.ensures
 
 returns-9 : tie.Need-returns-9
-unfolding commandOf
+unfolding command_of
 returns-9 c = simp (ne_eqb _ _ c.match.rest.1, ne_eqb _ _ c.match.rest.0.1, ne_eqb _ _ c.match.rest.0.0.1, ne_eqb _ _ c.match.rest.0.0.0.1, ne_eqb _ _ c.match.rest.0.0.0.0.1, ne_eqb _ _ c.match.rest.0.0.0.0.0.1, ne_eqb _ _ c.match.rest.0.0.0.0.0.0.1, ne_eqb _ _ c.match.rest.0.0.0.0.0.0.0.1)
 
 pub decode-spec : {M : Type 1} → statement M

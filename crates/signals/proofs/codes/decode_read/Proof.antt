@@ -1,27 +1,27 @@
 -- `decode_read` meets its contract: an arm says what the mode is, the last one what it is not.
 use Rattle.std.proofs.Common.{ne_eqb}
-use Rattle.signals.specs.Codes.{readMode}
+use Rattle.signals.specs.Codes.{read_mode}
 use Rattle.signals.proofs.codes.decode_read.Statement.{statement}
 use Rattle.signals.proofs.codes.decode_read.Tie as tie
 
 returns : tie.Need-returns
-unfolding readMode
+unfolding read_mode
 returns c = rw c.match.keys1
 
 returns-2 : tie.Need-returns-2
-unfolding readMode
+unfolding read_mode
 returns-2 c = rw c.match.keys2
 
 returns-3 : tie.Need-returns-3
-unfolding readMode
+unfolding read_mode
 returns-3 c = rw c.match.keys3
 
 returns-4 : tie.Need-returns-4
-unfolding readMode
+unfolding read_mode
 returns-4 c = rw c.match.keys4
 
 returns-5 : tie.Need-returns-5
-unfolding readMode
+unfolding read_mode
 returns-5 c = simp (ne_eqb _ _ c.match.rest.1, ne_eqb _ _ c.match.rest.0.1, ne_eqb _ _ c.match.rest.0.0.1, ne_eqb _ _ c.match.rest.0.0.0.1)
 
 pub decode-read-spec : {M : Type 1} → statement M

@@ -1,6 +1,6 @@
 -- `message_of` meets its contract: each of the seven words is what its part ensures.
 use Rattle.std.proofs.Common.{rules}
-use Rattle.signals.specs.Message.{messageOf}
+use Rattle.signals.specs.Message.{message_of}
 use Rattle.signals.proofs.message.message_of.Statement.{statement}
 use Rattle.signals.proofs.message.message_of.Tie as tie
 
@@ -17,7 +17,7 @@ wrapping-add-u16-requires : tie.Need-wrapping-add-u16-requires
 wrapping-add-u16-requires c κs = search rules
 
 returns : tie.Need-returns
-unfolding messageOf
+unfolding message_of
 returns c = rw (c.wrapping-add-u16.ensures, c.before.status-byte.ensures, c.before.before.residual-word.ensures, c.before.before.before.header-word.ensures)
 
 pub message-of-spec : {M : Type 1} → statement M

@@ -1,19 +1,19 @@
 -- `put_message` meets its contract. So far the first i words are in memory.
 use Rattle.std.proofs.Common.{◌≡◌, ◌-◌, ◌≤◌, length, get_or, take, arith, w16, Fits, rules}
 use lib.Seq.{sets, take-length}
-use Rattle.signals.specs.Message.{messaged, wordsBytes}
+use Rattle.signals.specs.Message.{messaged, words_bytes}
 use Rattle.signals.proofs.Messages.{word_more}
 use Rattle.signals.proofs.message.put_message.Statement.{statement}
 use Rattle.signals.proofs.message.put_message.Tie as tie
 
 abbrev invariant-loop : tie.invariant-loop
-invariant-loop mem₀ a m i₀ mem i = (i ≤ 7) × (mem ≡ sets mem₀ a (wordsBytes (take i m))) × (length mem ≡ length mem₀)
+invariant-loop mem₀ a m i₀ mem i = (i ≤ 7) × (mem ≡ sets mem₀ a (words_bytes (take i m))) × (length mem ≡ length mem₀)
 
 abbrev decreases-loop : tie.decreases-loop
 decreases-loop mem₀ a m i₀ mem i = 7 - i
 
 loop-holds : tie.Need-loop-init invariant-loop decreases-loop
-unfolding wordsBytes
+unfolding words_bytes
 loop-holds c = search rules
 
 mul-put-word : tie.Need-overflow-mul-put-word invariant-loop decreases-loop

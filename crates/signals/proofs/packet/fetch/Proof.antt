@@ -1,6 +1,6 @@
 -- `fetch` meets its contract: the code says which packet it is, and the words are those of the memory.
 use Rattle.std.proofs.Common.{rules, eq-eqb, ne_eqb}
-use Rattle.signals.specs.Header.{packetOf}
+use Rattle.signals.specs.Header.{packet_of}
 use Rattle.signals.proofs.packet.fetch.Statement.{statement}
 use Rattle.signals.proofs.packet.fetch.Tie as tie
 
@@ -35,7 +35,7 @@ cast-t14 : tie.Need-overflow-cast-t14
 cast-t14 c = search rules
 
 returns : tie.Need-returns
-unfolding packetOf
+unfolding packet_of
 returns c =
     let t = c.before.before.before in
     (rw (← t.before.has-pointer.ensures, t.if1.true, c.word3.ensures.0, c.before.word2.ensures.0, c.before.before.word.ensures.0), search rules)
@@ -50,13 +50,13 @@ cast-t18 : tie.Need-overflow-cast-t18
 cast-t18 c = search rules
 
 returns-2 : tie.Need-returns-2
-unfolding packetOf
+unfolding packet_of
 returns-2 c =
     let t = c.before.before in
     (rw (← t.before.has-pointer.ensures, t.if1.false, eq-eqb _ _ c.before.if2.true, c.word4.ensures.0), search rules)
 
 returns-3 : tie.Need-returns-3
-unfolding packetOf
+unfolding packet_of
 returns-3 c = (rw (← c.before.before.has-pointer.ensures, c.before.if1.false, ne_eqb _ _ c.if2.false), search rules)
 
 pub fetch_spec : {M : Type 1} → statement M

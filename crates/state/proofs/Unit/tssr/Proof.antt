@@ -1,6 +1,6 @@
 -- `tssr` meets its contract: each bit is what its flag ensures, and each sum fits since a flag is at most its weight.
 use borrow.Author.Rules.{rules}
-use Rattle.state.specs.Readings.{tssrOf}
+use Rattle.state.specs.Readings.{tssr_of}
 use Rattle.state.proofs.Unit.tssr.Statement.{statement}
 use Rattle.state.proofs.Unit.tssr.Tie as tie
 
@@ -62,7 +62,7 @@ add-result-8 : tie.Need-overflow-add-result-8
 add-result-8 c = search rules
 
 returns : tie.Need-returns
-unfolding tssrOf
+unfolding tssr_of
 returns c =
     let f = c.before.before in
     let g = f.before.before.before in

@@ -1,6 +1,6 @@
 -- `mounted` meets its contract: each part is what its function ensures.
 use borrow.Author.Rules.{rules}
-use Rattle.state.specs.Changes.{mountedAs}
+use Rattle.state.specs.Changes.{mounted_as}
 use Rattle.state.proofs.act.mounted.Statement.{statement}
 use Rattle.state.proofs.act.mounted.Tie as tie
 
@@ -14,7 +14,7 @@ no-characteristics-requires : tie.Need-no-characteristics-requires
 no-characteristics-requires c κs = search rules
 
 returns : tie.Need-returns
-unfolding mountedAs
+unfolding mounted_as
 returns c = rw (c.no-characteristics.ensures, c.before.no-attention.ensures, c.before.before.initial-registers.ensures)
 
 pub mounted-spec : {M : Type 1} → statement M

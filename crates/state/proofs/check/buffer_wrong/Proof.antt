@@ -1,6 +1,6 @@
 -- `buffer_wrong` meets its contract: it is the definition, and a sum of two numbers of 32 bits does not wrap.
 use borrow.Author.Rules.{rules}
-use Rattle.state.specs.Checks.{bufferWrong}
+use Rattle.state.specs.Checks.{buffer_wrong}
 use Rattle.state.proofs.check.buffer_wrong.Statement.{statement}
 use Rattle.state.proofs.check.buffer_wrong.Tie as tie
 
@@ -14,7 +14,7 @@ add-result : tie.Need-overflow-add-result
 add-result c = search rules
 
 returns : tie.Need-returns
-unfolding bufferWrong
+unfolding buffer_wrong
 returns c = search rules
 
 pub buffer-wrong-spec : {M : Type 1} → statement M

@@ -1,6 +1,6 @@
 -- `state_wrong` meets its contract: each part is what its function ensures.
 use borrow.Author.Rules.{rules}
-use Rattle.state.specs.Checks.{stateWrong}
+use Rattle.state.specs.Checks.{state_wrong}
 use Rattle.state.proofs.check.state_wrong.Statement.{statement}
 use Rattle.state.proofs.check.state_wrong.Tie as tie
 
@@ -17,7 +17,7 @@ lengths-wrong-requires : tie.Need-lengths-wrong-requires
 lengths-wrong-requires c κs = search rules
 
 returns : tie.Need-returns
-unfolding stateWrong
+unfolding state_wrong
 returns c =
     let r = c.before.before.before in
     rw (c.lengths-wrong.ensures, c.before.buffer-wrong.ensures, r.registers-wrong.ensures, r.before.tape-wrong.ensures)

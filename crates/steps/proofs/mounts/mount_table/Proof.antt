@@ -1,5 +1,5 @@
 -- `mount_table` meets its contract: refusal 11, or the table filled.
-use Rattle.steps.proofs.Mounting.{table_filled, table-lacks}
+use Rattle.steps.proofs.Mounting.{table_filled, table_lacks}
 use borrow.Author.Rules.{rules}
 use Rattle.steps.proofs.mounts.mount_table.Statement.{statement}
 use Rattle.steps.proofs.mounts.mount_table.Tie as tie
@@ -14,7 +14,7 @@ refused-requires : tie.Need-refused-requires
 refused-requires c κs = search rules
 
 returns : tie.Need-returns
-returns c = table-lacks _ _ _ _ _ _ _ _ c.before.before.before.count-objects.ensures c.before.before.places.ensures _ c.before.if1.true c.refused.ensures.0 c.refused.ensures.1
+returns c = table_lacks _ _ _ _ _ _ _ _ c.before.before.before.count-objects.ensures c.before.before.places.ensures _ c.before.if1.true c.refused.ensures.0 c.refused.ensures.1
 
 fill-table-requires : tie.Need-fill-table-requires
 fill-table-requires c κs = search rules

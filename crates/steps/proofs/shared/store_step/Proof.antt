@@ -1,8 +1,8 @@
 -- `store_step` meets its contract: refusal 9, or the entry first and then the bytes.
 use mathlib.Core.Path.{refl, ◌∙◌}
-use Rattle.unit.proofs.Touches.{host-run}
-use Rattle.worlds.proofs.Coupling.{coupler-passed}
-use Rattle.steps.proofs.Sharing.{none-sizes, store-full, store_goes, store-room}
+use Rattle.unit.proofs.Touches.{host_run}
+use Rattle.worlds.proofs.Coupling.{coupler_passed}
+use Rattle.steps.proofs.Sharing.{none_sizes, store_full, store_goes, store_room}
 use native.Mathlib.Omega.{arith}
 use borrow.Author.Rules.{rules}
 use Rattle.steps.proofs.shared.store_step.Statement.{statement}
@@ -16,7 +16,7 @@ add-n c =
 sub-if1 : tie.Need-overflow-sub-if1
 sub-if1 c =
     let s = c.before.before.before.before in
-    omega (arith, (coupler-passed _ _ _ s.requires.right).used)
+    omega (arith, (coupler_passed _ _ _ s.requires.right).used)
 
 refused-shared-requires : tie.Need-refused-shared-requires
 refused-shared-requires c κs = search rules
@@ -24,7 +24,7 @@ refused-shared-requires c κs = search rules
 returns : tie.Need-returns
 returns c =
     let s = c.before.before.before.before.before.before in
-    store-full _ s.args.mem.now s.args.jrnl.now _ s.args.bytes.now s.requires _ refl _ c.before.if1.true c.refused-shared.ensures.0 c.refused-shared.ensures.1
+    store_full _ s.args.mem.now s.args.jrnl.now _ s.args.bytes.now s.requires _ refl _ c.before.if1.true c.refused-shared.ensures.0 c.refused-shared.ensures.1
 
 no-transport-requires : tie.Need-no-transport-requires
 no-transport-requires c κs = search rules
@@ -38,23 +38,23 @@ host-touched-requires c κs = search rules
 enter-run-requires : tie.Need-enter-run-requires
 enter-run-requires c κs =
     let s = c.before.before.before.before.before.before.before.before.before.before.before in
-    let sizes = none-sizes _ _ _ s.requires.right in (
-      store-room _ s.args.mem.now s.args.jrnl.now _ s.args.bytes.now s.requires _ refl c.before.before.before.before.before.before.if1.false,
+    let sizes = none_sizes _ _ _ s.requires.right in (
+      store_room _ s.args.mem.now s.args.jrnl.now _ s.args.bytes.now s.requires _ refl c.before.before.before.before.before.before.if1.false,
       s.requires.inside,
       sizes.even,
       sizes.memory-small,
-      c.before.before.host-touched.ensures ∙ host-run _ _,
+      c.before.before.host-touched.ensures ∙ host_run _ _,
     )
 
 put-host-requires : tie.Need-put-host-requires
 put-host-requires c κs =
     let s = c.before.before.before.before.before.before.before.before.before.before.before.before.before.before.before in
-    (s.requires.inside, (none-sizes _ _ _ s.requires.right).even)
+    (s.requires.inside, (none_sizes _ _ _ s.requires.right).even)
 
 add-t12 : tie.Need-overflow-add-t12
 add-t12 c =
     let s = c.before.before.before.before.before.before.before.before.before.before.before.before.before.before.before.before.before.before.before in
-    let p = coupler-passed _ _ _ s.requires.right in
+    let p = coupler_passed _ _ _ s.requires.right in
     omega (arith, p.used, p.limit, s.requires.short)
 
 same_length : tie.Need-same-length

@@ -1,12 +1,12 @@
 -- `step` meets its contract: refusal 11 for the objects before it, or for those after it, else the step.
 use mathlib.Core.Path.{ap, sym, ◌∙◌}
-use Rattle.unit.specs.Steps.{tooSmall}
-use Rattle.steps.proofs.Outs.{small-stops}
-use Rattle.steps.proofs.Entered.{step-objects}
-use Rattle.steps.proofs.Readies.{cut-counted}
-use Rattle.unit.proofs.Rows.{small-now}
-use Rattle.unit.proofs.Rows.{enough-before}
-use Rattle.worlds.specs.Worlds.{worldOf}
+use Rattle.unit.specs.Steps.{too_small}
+use Rattle.steps.proofs.Outs.{small_stops}
+use Rattle.steps.proofs.Entered.{step_objects}
+use Rattle.steps.proofs.Readies.{cut_counted}
+use Rattle.unit.proofs.Rows.{small_now}
+use Rattle.unit.proofs.Rows.{enough_before}
+use Rattle.worlds.specs.Worlds.{world_of}
 use borrow.Author.Rules.{rules}
 use Rattle.steps.proofs.steps.step.Statement.{statement}
 use Rattle.steps.proofs.steps.step.Tie as tie
@@ -18,15 +18,15 @@ refused-requires : tie.Need-refused-requires
 refused-requires c κs = search rules
 
 returns : tie.Need-returns
-returns c = small-stops _ _ _ _ _ _ _ _ _ (small-now _ _ _ (sym c.before.before.too_small.ensures ∙ c.before.if1.true)) c.refused.ensures.0 c.refused.ensures.1
+returns c = small_stops _ _ _ _ _ _ _ _ _ (small_now _ _ _ (sym c.before.before.too_small.ensures ∙ c.before.if1.true)) c.refused.ensures.0 c.refused.ensures.1
 
 cut-for-requires : tie.Need-cut-for-requires
-cut-for-requires c κs = (enough-before _ _ _ (sym c.before.before.before.before.too_small.ensures ∙ c.before.before.before.if1.false)).room
+cut-for-requires c κs = (enough_before _ _ _ (sym c.before.before.before.before.too_small.ensures ∙ c.before.before.before.if1.false)).room
 
 objects-after-requires : tie.Need-objects-after-requires
 objects-after-requires c κs =
     let s = c.before.before.before.before.before.before.before.before.before.before in
-    cut-counted _ s.args.table.now _ s.args.reel.now _ c.cut-for.ensures (sym c.before.before.before.before.before.too_small.ensures ∙ c.before.before.before.before.if1.false)
+    cut_counted _ s.args.table.now _ s.args.reel.now _ c.cut-for.ensures (sym c.before.before.before.before.before.too_small.ensures ∙ c.before.before.before.before.if1.false)
 
 too-small-requires-2 : tie.Need-too-small-requires-2
 too-small-requires-2 c κs = search rules
@@ -43,9 +43,9 @@ same-length-2 c = search rules
 returns-2 : tie.Need-returns-2
 returns-2 c =
     let s = c.before.before.before.before.before.before.before.before.before.before.before.before.before.before in
-    let w = worldOf s.args.k s.args.s s.args.mem.now s.args.reel.now s.args.table.now s.args.jrnl.now in
-    let top = step-objects w.core s.args.p _ c.before.before.before.before.cut-for.ensures _ c.before.before.before.objects-after.ensures in
-    small-stops _ _ _ _ _ _ _ _ _ (sym (ap (tooSmall _ _) top) ∙ sym c.before.before.too-small2.ensures ∙ c.before.if2.true) c.refused2.ensures.0 c.refused2.ensures.1
+    let w = world_of s.args.k s.args.s s.args.mem.now s.args.reel.now s.args.table.now s.args.jrnl.now in
+    let top = step_objects w.core s.args.p _ c.before.before.before.before.cut-for.ensures _ c.before.before.before.objects-after.ensures in
+    small_stops _ _ _ _ _ _ _ _ _ (sym (ap (too_small _ _) top) ∙ sym c.before.before.too-small2.ensures ∙ c.before.if2.true) c.refused2.ensures.0 c.refused2.ensures.1
 
 take-step-requires : tie.Need-take-step-requires
 take-step-requires c κs =

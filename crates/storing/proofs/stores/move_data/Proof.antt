@@ -1,6 +1,6 @@
 -- `move_data` meets its contract.
 use borrow.Author.Rules.{rules}
-use Rattle.storing.specs.Stored.{movedOn}
+use Rattle.storing.specs.Stored.{moved_on}
 use Rattle.storing.proofs.stores.move_data.Statement.{statement}
 use Rattle.storing.proofs.stores.move_data.Tie as tie
 
@@ -14,7 +14,7 @@ same_length : tie.Need-same-length
 same_length c = search rules
 
 returns : tie.Need-returns
-unfolding movedOn
+unfolding moved_on
 returns c = c.before.before.read-record.ensures
 
 pub move-data-spec : {M : Type 1} → statement M

@@ -1,6 +1,6 @@
 -- `bring_back` meets its contract: a copy, two scatters and the data put the saved bytes back. What it requires lies far back, so it is named.
 use borrow.Author.Rules.{rules}
-use Rattle.touched.proofs.Joins.{parts-brought}
+use Rattle.touched.proofs.Joins.{parts_brought}
 use Rattle.touched.proofs.saving.bring_back.Statement.{statement}
 use Rattle.touched.proofs.saving.bring_back.Tie as tie
 
@@ -86,7 +86,7 @@ same-length-3 c = search rules
 returns : tie.Need-returns
 returns c =
     let s = c.before.before.before.before.before.before.before.before.before.before.before.before.before.before.before.before.before.before.before.before.before.before.before.before.before.before.before.before in
-    parts-brought s.args.t s.args.b.now s.args.mem.now s.args.reel.now s.args.table.now _ _ _ _ s.requires.0 c.before.before.before.before.before.before.before.before.before.before.before.before.before.before.before.before.before.before.copy.ensures c.before.before.before.before.before.before.before.before.before.before.before.before.scatter.ensures c.before.before.before.before.before.before.before.scatter2.ensures c.before.before.bring-data.ensures
+    parts_brought s.args.t s.args.b.now s.args.mem.now s.args.reel.now s.args.table.now _ _ _ _ s.requires.0 c.before.before.before.before.before.before.before.before.before.before.before.before.before.before.before.before.before.before.copy.ensures c.before.before.before.before.before.before.before.before.before.before.before.before.scatter.ensures c.before.before.before.before.before.before.before.scatter2.ensures c.before.before.bring-data.ensures
 
 pub bring-back-spec : {M : Type 1} → statement M
 bring-back-spec =

@@ -1,11 +1,11 @@
 -- `bring_data` meets its contract: an empty run leaves memory as it is.
-use Rattle.touched.proofs.Empty.{none-placed}
+use Rattle.touched.proofs.Empty.{none_placed}
 use borrow.Author.Rules.{rules}
 use Rattle.touched.proofs.saving.bring_data.Statement.{statement}
 use Rattle.touched.proofs.saving.bring_data.Tie as tie
 
 returns : tie.Need-returns
-returns c = none-placed _ _ _ _ c.if1.true
+returns c = none_placed _ _ _ _ c.if1.true
 
 scatter-requires : tie.Need-scatter-requires
 scatter-requires c κs = search rules

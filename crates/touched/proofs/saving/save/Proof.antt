@@ -1,6 +1,6 @@
 -- `save` meets its contract: the data, two gathers and a copy fill the lent slice. What it requires lies far back, so it is named.
 use borrow.Author.Rules.{rules}
-use Rattle.touched.proofs.Joins.{parts-saved}
+use Rattle.touched.proofs.Joins.{parts_saved}
 use Rattle.touched.proofs.saving.save.Statement.{statement}
 use Rattle.touched.proofs.saving.save.Tie as tie
 
@@ -74,7 +74,7 @@ same_length c = search rules
 returns : tie.Need-returns
 returns c =
     let s = c.before.before.before.before.before.before.before.before.before.before.before.before.before.before.before.before.before.before.before.before.before.before.before.before.before in
-    parts-saved s.args.t s.args.mem.now s.args.reel.now s.args.table.now s.args.b.now _ _ _ _ s.requires.0 s.requires.2 c.before.before.before.before.before.before.before.before.before.before.before.before.before.before.before.before.before.save-data.ensures c.before.before.before.before.before.before.before.before.before.before.before.before.before.gather.ensures c.before.before.before.before.before.before.before.before.gather2.ensures c.before.before.copy.ensures
+    parts_saved s.args.t s.args.mem.now s.args.reel.now s.args.table.now s.args.b.now _ _ _ _ s.requires.0 s.requires.2 c.before.before.before.before.before.before.before.before.before.before.before.before.before.before.before.before.before.save-data.ensures c.before.before.before.before.before.before.before.before.before.before.before.before.before.gather.ensures c.before.before.before.before.before.before.before.before.gather2.ensures c.before.before.copy.ensures
 
 pub save-spec : {M : Type 1} → statement M
 save-spec =

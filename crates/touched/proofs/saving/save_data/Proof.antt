@@ -1,11 +1,11 @@
 -- `save_data` meets its contract: no byte fills an empty slice.
-use Rattle.touched.proofs.Empty.{none-gathered}
+use Rattle.touched.proofs.Empty.{none_gathered}
 use borrow.Author.Rules.{rules}
 use Rattle.touched.proofs.saving.save_data.Statement.{statement}
 use Rattle.touched.proofs.saving.save_data.Tie as tie
 
 returns : tie.Need-returns
-returns c = none-gathered _ _ _ _ c.if1.true
+returns c = none_gathered _ _ _ _ c.if1.true
 
 gather-requires : tie.Need-gather-requires
 gather-requires c κs = search rules

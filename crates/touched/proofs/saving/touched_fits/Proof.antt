@@ -1,5 +1,5 @@
 use borrow.Author.Rules.{rules}
-use Rattle.touched.specs.Touches.{touchedFits}
+use Rattle.touched.specs.Touches.{touched_fits}
 use Rattle.touched.proofs.saving.touched_fits.Statement.{statement}
 use Rattle.touched.proofs.saving.touched_fits.Tie as tie
 
@@ -13,7 +13,7 @@ run-fits-requires-3 : tie.Need-run-fits-requires-3
 run-fits-requires-3 c κs = search rules
 
 returns : tie.Need-returns
-unfolding touchedFits
+unfolding touched_fits
 returns c = rw (c.before.before.run-fits.ensures, c.before.run-fits2.ensures, c.run-fits3.ensures)
 
 pub touched-fits-spec : {M : Type 1} → statement M

@@ -1,5 +1,5 @@
 -- `block_in` meets its contract, answer by answer.
-use Rattle.commands.specs.Answers.{blockIn}
+use Rattle.commands.specs.Answers.{block_in}
 use borrow.Author.Rules.{rules}
 use Rattle.ts11.proofs.answers.block_in.Statement.{statement}
 use Rattle.ts11.proofs.answers.block_in.Tie as tie
@@ -17,19 +17,19 @@ enum-told-3 : tie.Need-enum-told-3
 enum-told-3 c = search rules
 
 returns : tie.Need-returns
-unfolding blockIn
+unfolding block_in
 returns c = search rules
 
 returns-2 : tie.Need-returns-2
-unfolding blockIn
+unfolding block_in
 returns-2 c = search rules
 
 returns-3 : tie.Need-returns-3
-unfolding blockIn
+unfolding block_in
 returns-3 c = search rules
 
 returns-4 : tie.Need-returns-4
-unfolding blockIn
+unfolding block_in
 returns-4 c = search rules
 
 pub block-in-spec : {M : Type 1} → statement M

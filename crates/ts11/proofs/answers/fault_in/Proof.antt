@@ -1,5 +1,5 @@
 -- `fault_in` meets its contract, answer by answer.
-use Rattle.commands.specs.Answers.{faultIn}
+use Rattle.commands.specs.Answers.{fault_in}
 use borrow.Author.Rules.{rules}
 use Rattle.ts11.proofs.answers.fault_in.Statement.{statement}
 use Rattle.ts11.proofs.answers.fault_in.Tie as tie
@@ -20,19 +20,19 @@ enum-told-3 : tie.Need-enum-told-3
 enum-told-3 c = search rules
 
 returns : tie.Need-returns
-unfolding faultIn
+unfolding fault_in
 returns c = rw c.before.before.a.given.1 c.letter.ensures
 
 returns-2 : tie.Need-returns-2
-unfolding faultIn
+unfolding fault_in
 returns-2 c = search rules
 
 returns-3 : tie.Need-returns-3
-unfolding faultIn
+unfolding fault_in
 returns-3 c = search rules
 
 returns-4 : tie.Need-returns-4
-unfolding faultIn
+unfolding fault_in
 returns-4 c = search rules
 
 pub fault-in-spec : {M : Type 1} → statement M

@@ -1,5 +1,5 @@
 -- `is_step` meets its contract, answer by answer.
-use Rattle.commands.specs.Answers.{isStep}
+use Rattle.commands.specs.Answers.{is_step}
 use borrow.Author.Rules.{rules}
 use Rattle.ts11.proofs.answers.is_step.Statement.{statement}
 use Rattle.ts11.proofs.answers.is_step.Tie as tie
@@ -17,19 +17,19 @@ enum-told-4 : tie.Need-enum-told-4
 enum-told-4 c = search rules
 
 returns : tie.Need-returns
-unfolding isStep
+unfolding is_step
 returns c = search rules
 
 returns-2 : tie.Need-returns-2
-unfolding isStep
+unfolding is_step
 returns-2 c = search rules
 
 returns-3 : tie.Need-returns-3
-unfolding isStep
+unfolding is_step
 returns-3 c = search rules
 
 returns-4 : tie.Need-returns-4
-unfolding isStep
+unfolding is_step
 returns-4 c = search rules
 
 pub is-step-spec : {M : Type 1} → statement M

@@ -1,5 +1,5 @@
 -- `is_found` meets its contract.
-use Rattle.ts11.specs.Finds.{isFound}
+use Rattle.ts11.specs.Finds.{is_found}
 use borrow.Author.Rules.{rules}
 use Rattle.ts11.proofs.finds.is_found.Statement.{statement}
 use Rattle.ts11.proofs.finds.is_found.Tie as tie
@@ -11,11 +11,11 @@ enum-told-2 : tie.Need-enum-told-2
 enum-told-2 c = search rules
 
 returns : tie.Need-returns
-unfolding isFound
+unfolding is_found
 returns c = search rules
 
 returns-2 : tie.Need-returns-2
-unfolding isFound
+unfolding is_found
 returns-2 c = search rules
 
 pub is-found-spec : {M : Type 1} → statement M

@@ -1,5 +1,5 @@
 -- `place_found` meets its contract.
-use Rattle.ts11.specs.Finds.{placeFound}
+use Rattle.ts11.specs.Finds.{place_found}
 use borrow.Author.Rules.{rules}
 use Rattle.ts11.proofs.finds.place_found.Statement.{statement}
 use Rattle.ts11.proofs.finds.place_found.Tie as tie
@@ -11,11 +11,11 @@ enum_told : tie.Need-enum-told
 enum_told c = search rules
 
 returns : tie.Need-returns
-unfolding placeFound
+unfolding place_found
 returns c = search rules
 
 returns-2 : tie.Need-returns-2
-unfolding placeFound
+unfolding place_found
 returns-2 c = search rules
 
 pub place-found-spec : {M : Type 1} → statement M

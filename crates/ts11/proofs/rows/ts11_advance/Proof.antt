@@ -46,9 +46,9 @@ use denote.Triple.Spec.{Meets, triple_of}
 use denote.Triple.Table.{entered, cited}
 use denote.Triple.Clauses.{Clauses, Lasts, at_exit, lasts}
 use denote.Triple.Walked.{says, Stays, walk_of, Walks, ends_at, walked, walk_Meets}
-use Rattle.ts11.proofs.Lent.{is_true, is_false, left_false, right-false, positive, clauses-split, says2, says3, at_local, gets, puts, frees_all, starts, known, takes_out, puts-same, puts-new, looks-at, looked, sorted, does, firsts, forks, leaves, calls-with, calls-plain, lets, go-lets, keep-uint, keep-bool, keep-shr, keep-shr-slice, keep-ref, keep-slice, Choices, given, kept, merged, sort, unsort, Flags, toks-given, toks-kept, toks-sort, toks-unsort, tail_of}
-use Rattle.ts11.specs.Rows.{noRecord}
-use Rattle.ts11.proofs.Walking.{advance-absent, advance-put, advance-kept}
+use Rattle.ts11.proofs.Lent.{is_true, is_false, left_false, right_false, positive, clauses_split, says2, says3, at_local, gets, puts, frees_all, starts, known, takes_out, puts_same, puts_new, looks_at, looked, sorted, does, firsts, forks, leaves, calls_with, calls_plain, lets, go_lets, keep_uint, keep_bool, keep_shr, keep_shr_slice, keep_ref, keep_slice, Choices, given, kept, merged, sort, unsort, Flags, toks_given, toks_kept, toks_sort, toks_unsort, tail_of}
+use Rattle.ts11.specs.Rows.{no_record_of}
+use Rattle.ts11.proofs.Walking.{advance_absent, advance_put, advance_kept}
 use Rattle.records.specs.declared.records.UnitRecord.{UnitRecord as D-UnitRecord}
 use Rattle.ts11.specs.declared.units.Given.{Given as D-Given}
 use Rattle.records.specs.contracts.records.UnitRecord as U
@@ -101,25 +101,25 @@ module _ {M : Type 1} {𝓤 : Ura M} (𝓛 : Logic 𝓤) (mem : Memory → SProp
 
   -- ---- the arm where the test holds
   abbrev cs-held : Choices 𝓛 (me.signature).params (me.ended).kept
-  cs-held = (hold (keep-slice 𝓛 10 (0 ∷ []) tt (plain (λ _. U.the_row))), (hold (keep-uint 𝓛 10 w64), (hold (keep-ref 𝓛 10 (1 ∷ []) tt (plain (λ _. (Array u32 3)))), (hold (keep-slice 𝓛 10 (2 ∷ []) tt (plain (λ _. u8))), (hold (keep-slice 𝓛 10 (3 ∷ []) tt (plain (λ _. u8))), (hold (keep-slice 𝓛 10 (4 ∷ []) tt (plain (λ _. u8))), (hold (keep-slice 𝓛 10 (5 ∷ []) tt (plain (λ _. u8))), (give, (give, (give, (give, tt)))))))))))
+  cs-held = (hold (keep_slice 𝓛 10 (0 ∷ []) tt (plain (λ _. U.the_row))), (hold (keep_uint 𝓛 10 w64), (hold (keep_ref 𝓛 10 (1 ∷ []) tt (plain (λ _. (Array u32 3)))), (hold (keep_slice 𝓛 10 (2 ∷ []) tt (plain (λ _. u8))), (hold (keep_slice 𝓛 10 (3 ∷ []) tt (plain (λ _. u8))), (hold (keep_slice 𝓛 10 (4 ∷ []) tt (plain (λ _. u8))), (hold (keep_slice 𝓛 10 (5 ∷ []) tt (plain (λ _. u8))), (give, (give, (give, (give, tt)))))))))))
 
   abbrev fs-held : Flags 10
   fs-held = (false, (false, (false, (false, (false, (false, (true, (true, (true, (true, tt))))))))))
 
   abbrev Sorted-held : List (Item 𝓤)
-  Sorted-held = raw (toks-given 𝓛 10 fs-held κs qs) ∷ ‵ (given 𝓛 κs (me.signature).params (me.ended).kept cs-held a at) ∷ raw (toks-kept 𝓛 10 fs-held κs qs) ∷ ‵ (kept 𝓛 κs (me.signature).params (me.ended).kept cs-held a) ∷ []
+  Sorted-held = raw (toks_given 𝓛 10 fs-held κs qs) ∷ ‵ (given 𝓛 κs (me.signature).params (me.ended).kept cs-held a at) ∷ raw (toks_kept 𝓛 10 fs-held κs qs) ∷ ‵ (kept 𝓛 κs (me.signature).params (me.ended).kept cs-held a) ∷ []
 
   sorts-held : ent 𝓤 (sep 𝓤 (alive 𝓛 me.signature κs qs) (sem 𝓛 (owns (types_at (me.signature).params κs) a at))) (⋆ 𝓛 Sorted-held)
-  sorts-held = qed 𝓛 (raw (alive 𝓛 me.signature κs qs) ∷ ‵ (owns (types_at (me.signature).params κs) a at) ∷ []) ∵ use1 𝓛 (raw (toks-given 𝓛 10 fs-held κs qs) ⊛ raw (toks-kept 𝓛 10 fs-held κs qs)) (toks-sort 𝓛 10 fs-held κs qs) $ split ! $ move ! (2 ∷ []) $ use1 𝓛 (‵ (given 𝓛 κs (me.signature).params (me.ended).kept cs-held a at) ⊛ ‵ (kept 𝓛 κs (me.signature).params (me.ended).kept cs-held a)) (sort 𝓛 10 κs (me.signature).params (me.ended).kept cs-held a at) $ split ! $ move ! (2 ∷ 0 ∷ 3 ∷ 1 ∷ []) $ done !
+  sorts-held = qed 𝓛 (raw (alive 𝓛 me.signature κs qs) ∷ ‵ (owns (types_at (me.signature).params κs) a at) ∷ []) ∵ use1 𝓛 (raw (toks_given 𝓛 10 fs-held κs qs) ⊛ raw (toks_kept 𝓛 10 fs-held κs qs)) (toks_sort 𝓛 10 fs-held κs qs) $ split ! $ move ! (2 ∷ []) $ use1 𝓛 (‵ (given 𝓛 κs (me.signature).params (me.ended).kept cs-held a at) ⊛ ‵ (kept 𝓛 κs (me.signature).params (me.ended).kept cs-held a)) (sort 𝓛 10 κs (me.signature).params (me.ended).kept cs-held a at) $ split ! $ move ! (2 ∷ 0 ∷ 3 ∷ 1 ∷ []) $ done !
 
   abbrev to-held₁ : (triple_of 𝓛 fn-nothing-told.signature (fn-nothing-told.spec 𝓛 mem run)).Ghost
   to-held₁ = (((κ₆, (κ₇, (κ₈, (κ₉, tt)))), (q₆, (q₇, (q₈, (q₉, tt)))), tt, (record { ref_ptr = (b₈, o₈); ghost_name = γ₈; now = m₈ }, (record { ref_ptr = (b₉, o₉); ghost_name = γ₉; now = m₉ }, (record { ref_ptr = (b₁₀, o₁₀); ghost_name = γ₁₀; now = m₁₀ }, (record { ref_ptr = (b₁₁, o₁₁); ghost_name = γ₁₁; now = m₁₁ }, tt)))), (vptr b₈ o₈ ∷ [], (vptr b₉ o₉ ∷ [], (vptr b₁₀ o₁₀ ∷ [], (vptr b₁₁ o₁₁ ∷ [], tt))))), tt)
 
-  goes-held₁ : ent 𝓤 (sep 𝓤 (toks-given 𝓛 10 fs-held κs qs) (sem 𝓛 (given 𝓛 κs (me.signature).params (me.ended).kept cs-held a at))) ((triple_of 𝓛 fn-nothing-told.signature (fn-nothing-told.spec 𝓛 mem run)).pre to-held₁)
-  goes-held₁ = qed 𝓛 (raw (toks-given 𝓛 10 fs-held κs qs) ∷ ‵ (given 𝓛 κs (me.signature).params (me.ended).kept cs-held a at) ∷ []) ∵ move ! (1 ∷ []) $ move ! (1 ∷ 0 ∷ []) $ join ! $ frame ! $ done !
+  goes-held₁ : ent 𝓤 (sep 𝓤 (toks_given 𝓛 10 fs-held κs qs) (sem 𝓛 (given 𝓛 κs (me.signature).params (me.ended).kept cs-held a at))) ((triple_of 𝓛 fn-nothing-told.signature (fn-nothing-told.spec 𝓛 mem run)).pre to-held₁)
+  goes-held₁ = qed 𝓛 (raw (toks_given 𝓛 10 fs-held κs qs) ∷ ‵ (given 𝓛 κs (me.signature).params (me.ended).kept cs-held a at) ∷ []) ∵ move ! (1 ∷ []) $ move ! (1 ∷ 0 ∷ []) $ join ! $ frame ! $ done !
 
-  exits-held : (r₁ : ℕ) (ls₁ : Lasts fn-nothing-told.ended to-held₁.0.0 to-held₁.0.3) (num-fits : r₁ < 2 ^ 64) → ent 𝓤 (⋆ 𝓛 (raw (alive 𝓛 fn-nothing-told.signature to-held₁.0.0 to-held₁.0.1) ∷ ‵ (lasts fn-nothing-told.ended to-held₁.0.0 to-held₁.0.3 ls₁) ∷ raw (toks-kept 𝓛 10 fs-held κs qs) ∷ ‵ (kept 𝓛 κs (me.signature).params (me.ended).kept cs-held a) ∷ [])) (sep 𝓤 (alive 𝓛 me.signature κs qs) (sep 𝓤 (sem 𝓛 (lasts me.ended κs a (merged 𝓛 κs (me.signature).params (me.ended).kept cs-held a ls₁))) (sem 𝓛 (usize.own_val r₁ (vint w64 r₁ ∷ [])))))
-  exits-held r₁ ls₁ num-fits = qed 𝓛 (raw (alive 𝓛 fn-nothing-told.signature to-held₁.0.0 to-held₁.0.1) ∷ ‵ (lasts fn-nothing-told.ended to-held₁.0.0 to-held₁.0.3 ls₁) ∷ raw (toks-kept 𝓛 10 fs-held κs qs) ∷ ‵ (kept 𝓛 κs (me.signature).params (me.ended).kept cs-held a) ∷ []) ∵ move ! (0 ∷ 2 ∷ []) $ use2 𝓛 (raw (toks 𝓛 10 κs qs)) (toks-unsort 𝓛 10 fs-held κs qs) $ frame ! $ use2 𝓛 (‵ (lasts_of κs (me.signature).params (me.ended).kept a (merged 𝓛 κs (me.signature).params (me.ended).kept cs-held a ls₁))) (unsort 𝓛 10 κs (me.signature).params (me.ended).kept cs-held a ls₁) $ frame ! $ owned ! usize (Is usize) (uint_Makes 𝓛 w64) r₁ _ (refl, num-fits) $ done !
+  exits-held : (r₁ : ℕ) (ls₁ : Lasts fn-nothing-told.ended to-held₁.0.0 to-held₁.0.3) (num-fits : r₁ < 2 ^ 64) → ent 𝓤 (⋆ 𝓛 (raw (alive 𝓛 fn-nothing-told.signature to-held₁.0.0 to-held₁.0.1) ∷ ‵ (lasts fn-nothing-told.ended to-held₁.0.0 to-held₁.0.3 ls₁) ∷ raw (toks_kept 𝓛 10 fs-held κs qs) ∷ ‵ (kept 𝓛 κs (me.signature).params (me.ended).kept cs-held a) ∷ [])) (sep 𝓤 (alive 𝓛 me.signature κs qs) (sep 𝓤 (sem 𝓛 (lasts me.ended κs a (merged 𝓛 κs (me.signature).params (me.ended).kept cs-held a ls₁))) (sem 𝓛 (usize.own_val r₁ (vint w64 r₁ ∷ [])))))
+  exits-held r₁ ls₁ num-fits = qed 𝓛 (raw (alive 𝓛 fn-nothing-told.signature to-held₁.0.0 to-held₁.0.1) ∷ ‵ (lasts fn-nothing-told.ended to-held₁.0.0 to-held₁.0.3 ls₁) ∷ raw (toks_kept 𝓛 10 fs-held κs qs) ∷ ‵ (kept 𝓛 κs (me.signature).params (me.ended).kept cs-held a) ∷ []) ∵ move ! (0 ∷ 2 ∷ []) $ use2 𝓛 (raw (toks 𝓛 10 κs qs)) (toks_unsort 𝓛 10 fs-held κs qs) $ frame ! $ use2 𝓛 (‵ (lasts_of κs (me.signature).params (me.ended).kept a (merged 𝓛 κs (me.signature).params (me.ended).kept cs-held a ls₁))) (unsort 𝓛 10 κs (me.signature).params (me.ended).kept cs-held a ls₁) $ frame ! $ owned ! usize (Is usize) (uint_Makes 𝓛 w64) r₁ _ (refl, num-fits) $ done !
 
   -- ---- the arm where the test fails
   abbrev cs-failed : Choices 𝓛 (tail_of (me.signature).params) (me.ended).kept.1
@@ -129,22 +129,22 @@ module _ {M : Type 1} {𝓤 : Ura M} (𝓛 : Logic 𝓤) (mem : Memory → SProp
   fs-failed = (true, (true, (true, (true, (true, (true, (true, (true, (true, tt)))))))))
 
   abbrev Sorted-failed : List (Item 𝓤)
-  Sorted-failed = raw (toks-given 𝓛 9 fs-failed κs.1 qs.1) ∷ ‵ (given 𝓛 κs (tail_of (me.signature).params) (me.ended).kept.1 cs-failed a.1 at.1) ∷ ‵ (fobs γ₁ ((coded_holeys U.the_row).code (heres U.the_row ys))) ∷ ‵ (fbor κ₀ (Held U.the_row (length ys) b₁ o₁ γ₁)) ∷ ‵ (flft κ₀ q₀) ∷ raw (toks-kept 𝓛 9 fs-failed κs.1 qs.1) ∷ ‵ (kept 𝓛 κs (tail_of (me.signature).params) (me.ended).kept.1 cs-failed a.1) ∷ []
+  Sorted-failed = raw (toks_given 𝓛 9 fs-failed κs.1 qs.1) ∷ ‵ (given 𝓛 κs (tail_of (me.signature).params) (me.ended).kept.1 cs-failed a.1 at.1) ∷ ‵ (fobs γ₁ ((coded_holeys U.the_row).code (heres U.the_row ys))) ∷ ‵ (fbor κ₀ (Held U.the_row (length ys) b₁ o₁ γ₁)) ∷ ‵ (flft κ₀ q₀) ∷ raw (toks_kept 𝓛 9 fs-failed κs.1 qs.1) ∷ ‵ (kept 𝓛 κs (tail_of (me.signature).params) (me.ended).kept.1 cs-failed a.1) ∷ []
 
   sorts-failed : ent 𝓤 (sep 𝓤 (alive 𝓛 me.signature κs qs) (sem 𝓛 (owns (types_at (me.signature).params κs) a at))) (⋆ 𝓛 Sorted-failed)
-  sorts-failed = qed 𝓛 (raw (alive 𝓛 me.signature κs qs) ∷ ‵ (owns (types_at (me.signature).params κs) a at) ∷ []) ∵ use1 𝓛 (‵ (flft κ₀ q₀) ⊛ raw (toks 𝓛 9 κs.1 qs.1)) (id⊢ 𝓤 _) $ split ! $ move ! (1 ∷ []) $ use1 𝓛 (raw (toks-given 𝓛 9 fs-failed κs.1 qs.1) ⊛ raw (toks-kept 𝓛 9 fs-failed κs.1 qs.1)) (toks-sort 𝓛 9 fs-failed κs.1 qs.1) $ split ! $ move ! (3 ∷ []) $ fsplit ! $ move ! (1 ∷ []) $ use1 𝓛 (‵ (given 𝓛 κs (tail_of (me.signature).params) (me.ended).kept.1 cs-failed a.1 at.1) ⊛ ‵ (kept 𝓛 κs (tail_of (me.signature).params) (me.ended).kept.1 cs-failed a.1)) (sort 𝓛 10 κs (tail_of (me.signature).params) (me.ended).kept.1 cs-failed a.1 at.1) $ split ! $ move ! (2 ∷ []) $ fsplit ! $ drop ! $ fsplit ! $ move ! (4 ∷ 2 ∷ 0 ∷ 1 ∷ 6 ∷ 5 ∷ 3 ∷ []) $ done !
+  sorts-failed = qed 𝓛 (raw (alive 𝓛 me.signature κs qs) ∷ ‵ (owns (types_at (me.signature).params κs) a at) ∷ []) ∵ use1 𝓛 (‵ (flft κ₀ q₀) ⊛ raw (toks 𝓛 9 κs.1 qs.1)) (id⊢ 𝓤 _) $ split ! $ move ! (1 ∷ []) $ use1 𝓛 (raw (toks_given 𝓛 9 fs-failed κs.1 qs.1) ⊛ raw (toks_kept 𝓛 9 fs-failed κs.1 qs.1)) (toks_sort 𝓛 9 fs-failed κs.1 qs.1) $ split ! $ move ! (3 ∷ []) $ fsplit ! $ move ! (1 ∷ []) $ use1 𝓛 (‵ (given 𝓛 κs (tail_of (me.signature).params) (me.ended).kept.1 cs-failed a.1 at.1) ⊛ ‵ (kept 𝓛 κs (tail_of (me.signature).params) (me.ended).kept.1 cs-failed a.1)) (sort 𝓛 10 κs (tail_of (me.signature).params) (me.ended).kept.1 cs-failed a.1 at.1) $ split ! $ move ! (2 ∷ []) $ fsplit ! $ drop ! $ fsplit ! $ move ! (4 ∷ 2 ∷ 0 ∷ 1 ∷ 6 ∷ 5 ∷ 3 ∷ []) $ done !
 
   abbrev to-failed₁ : (triple_of 𝓛 fn-advance.signature (fn-advance.spec 𝓛 mem run)).Ghost
-  to-failed₁ = (((κ₁, (κ₂, (κ₃, (κ₄, (κ₅, (κ₆, (κ₇, (κ₈, (κ₉, tt))))))))), (q₁, (q₂, (q₃, (q₄, (q₅, (q₆, (q₇, (q₈, (q₉, tt))))))))), tt, ((get_or ys x₂ noRecord), (x₂, (record { ref_ptr = (b₃, o₃); ghost_name = γ₃; now = m₃ }, (record { ref_ptr = (b₄, o₄); ghost_name = γ₄; now = m₄ }, (record { ref_ptr = (b₅, o₅); ghost_name = γ₅; now = m₅ }, (record { ref_ptr = (b₆, o₆); ghost_name = γ₆; now = m₆ }, (record { ref_ptr = (b₇, o₇); ghost_name = γ₇; now = m₇ }, (record { ref_ptr = (b₈, o₈); ghost_name = γ₈; now = m₈ }, (record { ref_ptr = (b₉, o₉); ghost_name = γ₉; now = m₉ }, (record { ref_ptr = (b₁₀, o₁₀); ghost_name = γ₁₀; now = m₁₀ }, (record { ref_ptr = (b₁₁, o₁₁); ghost_name = γ₁₁; now = m₁₁ }, tt))))))))))), (LL.vals U.the_type U'.the_laws (get_or ys x₂ noRecord), (vint w64 x₂ ∷ [], (vptr b₃ o₃ ∷ [], (slice_val (b₄, o₄) (length m₄) ∷ [], (slice_val (b₅, o₅) (length m₅) ∷ [], (slice_val (b₆, o₆) (length m₆) ∷ [], (slice_val (b₇, o₇) (length m₇) ∷ [], (vptr b₈ o₈ ∷ [], (vptr b₉ o₉ ∷ [], (vptr b₁₀ o₁₀ ∷ [], (vptr b₁₁ o₁₁ ∷ [], tt)))))))))))), tt)
+  to-failed₁ = (((κ₁, (κ₂, (κ₃, (κ₄, (κ₅, (κ₆, (κ₇, (κ₈, (κ₉, tt))))))))), (q₁, (q₂, (q₃, (q₄, (q₅, (q₆, (q₇, (q₈, (q₉, tt))))))))), tt, ((get_or ys x₂ no_record_of), (x₂, (record { ref_ptr = (b₃, o₃); ghost_name = γ₃; now = m₃ }, (record { ref_ptr = (b₄, o₄); ghost_name = γ₄; now = m₄ }, (record { ref_ptr = (b₅, o₅); ghost_name = γ₅; now = m₅ }, (record { ref_ptr = (b₆, o₆); ghost_name = γ₆; now = m₆ }, (record { ref_ptr = (b₇, o₇); ghost_name = γ₇; now = m₇ }, (record { ref_ptr = (b₈, o₈); ghost_name = γ₈; now = m₈ }, (record { ref_ptr = (b₉, o₉); ghost_name = γ₉; now = m₉ }, (record { ref_ptr = (b₁₀, o₁₀); ghost_name = γ₁₀; now = m₁₀ }, (record { ref_ptr = (b₁₁, o₁₁); ghost_name = γ₁₁; now = m₁₁ }, tt))))))))))), (LL.vals U.the_type U'.the_laws (get_or ys x₂ no_record_of), (vint w64 x₂ ∷ [], (vptr b₃ o₃ ∷ [], (slice_val (b₄, o₄) (length m₄) ∷ [], (slice_val (b₅, o₅) (length m₅) ∷ [], (slice_val (b₆, o₆) (length m₆) ∷ [], (slice_val (b₇, o₇) (length m₇) ∷ [], (vptr b₈ o₈ ∷ [], (vptr b₉ o₉ ∷ [], (vptr b₁₀ o₁₀ ∷ [], (vptr b₁₁ o₁₁ ∷ [], tt)))))))))))), tt)
 
-  goes-failed₁ : (is₀ : Is U.the_row (get_or ys x₂ noRecord) (LL.vals U.the_type U'.the_laws (get_or ys x₂ noRecord))) → ent 𝓤 (sep 𝓤 (toks-given 𝓛 9 fs-failed κs.1 qs.1) (sem 𝓛 (given 𝓛 κs (tail_of (me.signature).params) (me.ended).kept.1 cs-failed a.1 at.1))) ((triple_of 𝓛 fn-advance.signature (fn-advance.spec 𝓛 mem run)).pre to-failed₁)
-  goes-failed₁ is₀ = qed 𝓛 (raw (toks-given 𝓛 9 fs-failed κs.1 qs.1) ∷ ‵ (given 𝓛 κs (tail_of (me.signature).params) (me.ended).kept.1 cs-failed a.1 at.1) ∷ []) ∵ move ! (1 ∷ []) $ owned ! U.the_row (Is U.the_row) (LL.makes U.the_type U'.the_plain 𝓛) (get_or ys x₂ noRecord) _ is₀ $ fjoin ! $ move ! (1 ∷ 0 ∷ []) $ join ! $ frame ! $ done !
+  goes-failed₁ : (is₀ : Is U.the_row (get_or ys x₂ no_record_of) (LL.vals U.the_type U'.the_laws (get_or ys x₂ no_record_of))) → ent 𝓤 (sep 𝓤 (toks_given 𝓛 9 fs-failed κs.1 qs.1) (sem 𝓛 (given 𝓛 κs (tail_of (me.signature).params) (me.ended).kept.1 cs-failed a.1 at.1))) ((triple_of 𝓛 fn-advance.signature (fn-advance.spec 𝓛 mem run)).pre to-failed₁)
+  goes-failed₁ is₀ = qed 𝓛 (raw (toks_given 𝓛 9 fs-failed κs.1 qs.1) ∷ ‵ (given 𝓛 κs (tail_of (me.signature).params) (me.ended).kept.1 cs-failed a.1 at.1) ∷ []) ∵ move ! (1 ∷ []) $ owned ! U.the_row (Is U.the_row) (LL.makes U.the_type U'.the_plain 𝓛) (get_or ys x₂ no_record_of) _ is₀ $ fjoin ! $ move ! (1 ∷ 0 ∷ []) $ join ! $ frame ! $ done !
 
-  exits-put : (r₁ : D-Given) (ls₁ : Lasts fn-advance.ended to-failed₁.0.0 to-failed₁.0.3) (num-fits : r₁.number < 2 ^ 64) → ent 𝓤 (⋆ 𝓛 (raw (alive 𝓛 fn-advance.signature to-failed₁.0.0 to-failed₁.0.1) ∷ ‵ (lasts fn-advance.ended to-failed₁.0.0 to-failed₁.0.3 ls₁) ∷ ‵ (fobs γ₁ ((coded_holeys U.the_row).code (heres U.the_row (set ys x₂ r₁.record)))) ∷ ‵ (fbor κ₀ (Held U.the_row (length (set ys x₂ r₁.record)) b₁ o₁ γ₁)) ∷ ‵ (flft κ₀ q₀) ∷ raw (toks-kept 𝓛 9 fs-failed κs.1 qs.1) ∷ ‵ (kept 𝓛 κs (tail_of (me.signature).params) (me.ended).kept.1 cs-failed a.1) ∷ [])) (sep 𝓤 (alive 𝓛 me.signature κs qs) (sep 𝓤 (sem 𝓛 (lasts me.ended κs a ((set ys x₂ r₁.record), (merged 𝓛 κs (tail_of (me.signature).params) (me.ended).kept.1 cs-failed a.1 ls₁.1)))) (sem 𝓛 (usize.own_val r₁.number (vint w64 r₁.number ∷ [])))))
-  exits-put r₁ ls₁ num-fits = qed 𝓛 (raw (alive 𝓛 fn-advance.signature to-failed₁.0.0 to-failed₁.0.1) ∷ ‵ (lasts fn-advance.ended to-failed₁.0.0 to-failed₁.0.3 ls₁) ∷ ‵ (fobs γ₁ ((coded_holeys U.the_row).code (heres U.the_row (set ys x₂ r₁.record)))) ∷ ‵ (fbor κ₀ (Held U.the_row (length (set ys x₂ r₁.record)) b₁ o₁ γ₁)) ∷ ‵ (flft κ₀ q₀) ∷ raw (toks-kept 𝓛 9 fs-failed κs.1 qs.1) ∷ ‵ (kept 𝓛 κs (tail_of (me.signature).params) (me.ended).kept.1 cs-failed a.1) ∷ []) ∵ move ! (2 ∷ 3 ∷ 4 ∷ []) $ use1 𝓛 (‵ (fres γ₁ ((coded_holeys U.the_row).code (heres U.the_row (set ys x₂ r₁.record))))) (𝓛.names.obs-res γ₁ ((coded_holeys U.the_row).code (heres U.the_row (set ys x₂ r₁.record)))) $ use1 𝓛 (‵ (finally U.the_row γ₁ (set ys x₂ r₁.record))) (res-finally 𝓛 (named 0) κ₀ U.the_row γ₁ (set ys x₂ r₁.record)) $ move ! (1 ∷ []) $ drop ! $ feq_i ! ℕ (length (set ys x₂ r₁.record)) (length ys) (length-set ys x₂ _) $ move ! (1 ∷ 0 ∷ []) $ fjoin ! $ move ! (2 ∷ 4 ∷ []) $ use2 𝓛 (raw (toks 𝓛 9 κs.1 qs.1)) (toks-unsort 𝓛 9 fs-failed κs.1 qs.1) $ move ! (2 ∷ 0 ∷ []) $ join ! $ frame ! $ move ! (1 ∷ []) $ fsplit ! $ drop ! $ move ! (0 ∷ 2 ∷ []) $ use2 𝓛 (‵ (lasts_of κs (tail_of (me.signature).params) (me.ended).kept.1 a.1 (merged 𝓛 κs (tail_of (me.signature).params) (me.ended).kept.1 cs-failed a.1 ls₁.1))) (unsort 𝓛 10 κs (tail_of (me.signature).params) (me.ended).kept.1 cs-failed a.1 ls₁.1) $ move ! (1 ∷ 0 ∷ []) $ fjoin ! $ frame ! $ owned ! usize (Is usize) (uint_Makes 𝓛 w64) r₁.number _ (refl, num-fits) $ done !
+  exits-put : (r₁ : D-Given) (ls₁ : Lasts fn-advance.ended to-failed₁.0.0 to-failed₁.0.3) (num-fits : r₁.number < 2 ^ 64) → ent 𝓤 (⋆ 𝓛 (raw (alive 𝓛 fn-advance.signature to-failed₁.0.0 to-failed₁.0.1) ∷ ‵ (lasts fn-advance.ended to-failed₁.0.0 to-failed₁.0.3 ls₁) ∷ ‵ (fobs γ₁ ((coded_holeys U.the_row).code (heres U.the_row (set ys x₂ r₁.record)))) ∷ ‵ (fbor κ₀ (Held U.the_row (length (set ys x₂ r₁.record)) b₁ o₁ γ₁)) ∷ ‵ (flft κ₀ q₀) ∷ raw (toks_kept 𝓛 9 fs-failed κs.1 qs.1) ∷ ‵ (kept 𝓛 κs (tail_of (me.signature).params) (me.ended).kept.1 cs-failed a.1) ∷ [])) (sep 𝓤 (alive 𝓛 me.signature κs qs) (sep 𝓤 (sem 𝓛 (lasts me.ended κs a ((set ys x₂ r₁.record), (merged 𝓛 κs (tail_of (me.signature).params) (me.ended).kept.1 cs-failed a.1 ls₁.1)))) (sem 𝓛 (usize.own_val r₁.number (vint w64 r₁.number ∷ [])))))
+  exits-put r₁ ls₁ num-fits = qed 𝓛 (raw (alive 𝓛 fn-advance.signature to-failed₁.0.0 to-failed₁.0.1) ∷ ‵ (lasts fn-advance.ended to-failed₁.0.0 to-failed₁.0.3 ls₁) ∷ ‵ (fobs γ₁ ((coded_holeys U.the_row).code (heres U.the_row (set ys x₂ r₁.record)))) ∷ ‵ (fbor κ₀ (Held U.the_row (length (set ys x₂ r₁.record)) b₁ o₁ γ₁)) ∷ ‵ (flft κ₀ q₀) ∷ raw (toks_kept 𝓛 9 fs-failed κs.1 qs.1) ∷ ‵ (kept 𝓛 κs (tail_of (me.signature).params) (me.ended).kept.1 cs-failed a.1) ∷ []) ∵ move ! (2 ∷ 3 ∷ 4 ∷ []) $ use1 𝓛 (‵ (fres γ₁ ((coded_holeys U.the_row).code (heres U.the_row (set ys x₂ r₁.record))))) (𝓛.names.obs-res γ₁ ((coded_holeys U.the_row).code (heres U.the_row (set ys x₂ r₁.record)))) $ use1 𝓛 (‵ (finally U.the_row γ₁ (set ys x₂ r₁.record))) (res-finally 𝓛 (named 0) κ₀ U.the_row γ₁ (set ys x₂ r₁.record)) $ move ! (1 ∷ []) $ drop ! $ feq_i ! ℕ (length (set ys x₂ r₁.record)) (length ys) (length-set ys x₂ _) $ move ! (1 ∷ 0 ∷ []) $ fjoin ! $ move ! (2 ∷ 4 ∷ []) $ use2 𝓛 (raw (toks 𝓛 9 κs.1 qs.1)) (toks_unsort 𝓛 9 fs-failed κs.1 qs.1) $ move ! (2 ∷ 0 ∷ []) $ join ! $ frame ! $ move ! (1 ∷ []) $ fsplit ! $ drop ! $ move ! (0 ∷ 2 ∷ []) $ use2 𝓛 (‵ (lasts_of κs (tail_of (me.signature).params) (me.ended).kept.1 a.1 (merged 𝓛 κs (tail_of (me.signature).params) (me.ended).kept.1 cs-failed a.1 ls₁.1))) (unsort 𝓛 10 κs (tail_of (me.signature).params) (me.ended).kept.1 cs-failed a.1 ls₁.1) $ move ! (1 ∷ 0 ∷ []) $ fjoin ! $ frame ! $ owned ! usize (Is usize) (uint_Makes 𝓛 w64) r₁.number _ (refl, num-fits) $ done !
 
-  exits-kept : (r₁ : D-Given) (ls₁ : Lasts fn-advance.ended to-failed₁.0.0 to-failed₁.0.3) (num-fits : r₁.number < 2 ^ 64) → ent 𝓤 (⋆ 𝓛 (raw (alive 𝓛 fn-advance.signature to-failed₁.0.0 to-failed₁.0.1) ∷ ‵ (lasts fn-advance.ended to-failed₁.0.0 to-failed₁.0.3 ls₁) ∷ ‵ (fobs γ₁ ((coded_holeys U.the_row).code (heres U.the_row ys))) ∷ ‵ (fbor κ₀ (Held U.the_row (length ys) b₁ o₁ γ₁)) ∷ ‵ (flft κ₀ q₀) ∷ raw (toks-kept 𝓛 9 fs-failed κs.1 qs.1) ∷ ‵ (kept 𝓛 κs (tail_of (me.signature).params) (me.ended).kept.1 cs-failed a.1) ∷ [])) (sep 𝓤 (alive 𝓛 me.signature κs qs) (sep 𝓤 (sem 𝓛 (lasts me.ended κs a (ys, (merged 𝓛 κs (tail_of (me.signature).params) (me.ended).kept.1 cs-failed a.1 ls₁.1)))) (sem 𝓛 (usize.own_val r₁.number (vint w64 r₁.number ∷ [])))))
-  exits-kept r₁ ls₁ num-fits = qed 𝓛 (raw (alive 𝓛 fn-advance.signature to-failed₁.0.0 to-failed₁.0.1) ∷ ‵ (lasts fn-advance.ended to-failed₁.0.0 to-failed₁.0.3 ls₁) ∷ ‵ (fobs γ₁ ((coded_holeys U.the_row).code (heres U.the_row ys))) ∷ ‵ (fbor κ₀ (Held U.the_row (length ys) b₁ o₁ γ₁)) ∷ ‵ (flft κ₀ q₀) ∷ raw (toks-kept 𝓛 9 fs-failed κs.1 qs.1) ∷ ‵ (kept 𝓛 κs (tail_of (me.signature).params) (me.ended).kept.1 cs-failed a.1) ∷ []) ∵ move ! (2 ∷ 3 ∷ 4 ∷ []) $ use1 𝓛 (‵ (fres γ₁ ((coded_holeys U.the_row).code (heres U.the_row ys)))) (𝓛.names.obs-res γ₁ ((coded_holeys U.the_row).code (heres U.the_row ys))) $ use1 𝓛 (‵ (finally U.the_row γ₁ ys)) (res-finally 𝓛 (named 0) κ₀ U.the_row γ₁ ys) $ move ! (1 ∷ []) $ drop ! $ feq_i ! ℕ (length ys) (length ys) refl $ move ! (1 ∷ 0 ∷ []) $ fjoin ! $ move ! (2 ∷ 4 ∷ []) $ use2 𝓛 (raw (toks 𝓛 9 κs.1 qs.1)) (toks-unsort 𝓛 9 fs-failed κs.1 qs.1) $ move ! (2 ∷ 0 ∷ []) $ join ! $ frame ! $ move ! (1 ∷ []) $ fsplit ! $ drop ! $ move ! (0 ∷ 2 ∷ []) $ use2 𝓛 (‵ (lasts_of κs (tail_of (me.signature).params) (me.ended).kept.1 a.1 (merged 𝓛 κs (tail_of (me.signature).params) (me.ended).kept.1 cs-failed a.1 ls₁.1))) (unsort 𝓛 10 κs (tail_of (me.signature).params) (me.ended).kept.1 cs-failed a.1 ls₁.1) $ move ! (1 ∷ 0 ∷ []) $ fjoin ! $ frame ! $ owned ! usize (Is usize) (uint_Makes 𝓛 w64) r₁.number _ (refl, num-fits) $ done !
+  exits-kept : (r₁ : D-Given) (ls₁ : Lasts fn-advance.ended to-failed₁.0.0 to-failed₁.0.3) (num-fits : r₁.number < 2 ^ 64) → ent 𝓤 (⋆ 𝓛 (raw (alive 𝓛 fn-advance.signature to-failed₁.0.0 to-failed₁.0.1) ∷ ‵ (lasts fn-advance.ended to-failed₁.0.0 to-failed₁.0.3 ls₁) ∷ ‵ (fobs γ₁ ((coded_holeys U.the_row).code (heres U.the_row ys))) ∷ ‵ (fbor κ₀ (Held U.the_row (length ys) b₁ o₁ γ₁)) ∷ ‵ (flft κ₀ q₀) ∷ raw (toks_kept 𝓛 9 fs-failed κs.1 qs.1) ∷ ‵ (kept 𝓛 κs (tail_of (me.signature).params) (me.ended).kept.1 cs-failed a.1) ∷ [])) (sep 𝓤 (alive 𝓛 me.signature κs qs) (sep 𝓤 (sem 𝓛 (lasts me.ended κs a (ys, (merged 𝓛 κs (tail_of (me.signature).params) (me.ended).kept.1 cs-failed a.1 ls₁.1)))) (sem 𝓛 (usize.own_val r₁.number (vint w64 r₁.number ∷ [])))))
+  exits-kept r₁ ls₁ num-fits = qed 𝓛 (raw (alive 𝓛 fn-advance.signature to-failed₁.0.0 to-failed₁.0.1) ∷ ‵ (lasts fn-advance.ended to-failed₁.0.0 to-failed₁.0.3 ls₁) ∷ ‵ (fobs γ₁ ((coded_holeys U.the_row).code (heres U.the_row ys))) ∷ ‵ (fbor κ₀ (Held U.the_row (length ys) b₁ o₁ γ₁)) ∷ ‵ (flft κ₀ q₀) ∷ raw (toks_kept 𝓛 9 fs-failed κs.1 qs.1) ∷ ‵ (kept 𝓛 κs (tail_of (me.signature).params) (me.ended).kept.1 cs-failed a.1) ∷ []) ∵ move ! (2 ∷ 3 ∷ 4 ∷ []) $ use1 𝓛 (‵ (fres γ₁ ((coded_holeys U.the_row).code (heres U.the_row ys)))) (𝓛.names.obs-res γ₁ ((coded_holeys U.the_row).code (heres U.the_row ys))) $ use1 𝓛 (‵ (finally U.the_row γ₁ ys)) (res-finally 𝓛 (named 0) κ₀ U.the_row γ₁ ys) $ move ! (1 ∷ []) $ drop ! $ feq_i ! ℕ (length ys) (length ys) refl $ move ! (1 ∷ 0 ∷ []) $ fjoin ! $ move ! (2 ∷ 4 ∷ []) $ use2 𝓛 (raw (toks 𝓛 9 κs.1 qs.1)) (toks_unsort 𝓛 9 fs-failed κs.1 qs.1) $ move ! (2 ∷ 0 ∷ []) $ join ! $ frame ! $ move ! (1 ∷ []) $ fsplit ! $ drop ! $ move ! (0 ∷ 2 ∷ []) $ use2 𝓛 (‵ (lasts_of κs (tail_of (me.signature).params) (me.ended).kept.1 a.1 (merged 𝓛 κs (tail_of (me.signature).params) (me.ended).kept.1 cs-failed a.1 ls₁.1))) (unsort 𝓛 10 κs (tail_of (me.signature).params) (me.ended).kept.1 cs-failed a.1 ls₁.1) $ move ! (1 ∷ 0 ∷ []) $ fjoin ! $ frame ! $ owned ! usize (Is usize) (uint_Makes 𝓛 w64) r₁.number _ (refl, num-fits) $ done !
 
   module _ (C : Calls 𝓤 H) (Λ : Loops 𝓤 H) (fm : FmC 𝓤 H 𝓛.laws C) (fn-nothing-told-known : Triple 𝓤 (C #ts11·rows·nothing-told) (triple_of 𝓛 fn-nothing-told.signature (fn-nothing-told.spec 𝓛 mem run))) (fn-advance-known : Triple 𝓤 (C #ts11·units·advance) (triple_of 𝓛 fn-advance.signature (fn-advance.spec 𝓛 mem run))) where
     walk : ent 𝓤 (on_entry 𝓛 me.signature κs qs a at) (WpFn 𝓤 H C Λ code.function (slice_val (b₁, o₁) (length ys) ∷ vint w64 x₂ ∷ vptr b₃ o₃ ∷ slice_val (b₄, o₄) (length m₄) ∷ slice_val (b₅, o₅) (length m₅) ∷ slice_val (b₆, o₆) (length m₆) ∷ slice_val (b₇, o₇) (length m₇) ∷ vptr b₈ o₈ ∷ vptr b₉ o₉ ∷ vptr b₁₀ o₁₀ ∷ vptr b₁₁ o₁₁ ∷ []) Post)
@@ -161,23 +161,23 @@ module _ {M : Type 1} {𝓤 : Ura M} (𝓛 : Logic 𝓤) (mem : Memory → SProp
         does ! tt (addr ! (from ! (hop ! (gets ! 9 refl tt) (stop !)))) (from ! (stop !)) (puts ! 18 tt (tt, tt)) $
         does ! tt (addr ! (from ! (hop ! (gets ! 10 refl tt) (stop !)))) (from ! (stop !)) (puts ! 19 tt (tt, tt)) $
         does ! tt (addr ! (from ! (hop ! (gets ! 11 refl tt) (stop !)))) (from ! (stop !)) (puts ! 20 tt (tt, tt)) $
-        calls-with ! fm tt fn-nothing-told.ended (fn-nothing-told.clauses 𝓛 mem run) fn-nothing-told-known to-held₁ (goes-held₁) (and_then ! (load ! (from ! (stop !)) (gets ! 17 refl tt)) (and_then ! (load ! (from ! (stop !)) (gets ! 18 refl tt)) (and_then ! (load ! (from ! (stop !)) (gets ! 19 refl tt)) (and_then ! (load ! (from ! (stop !)) (gets ! 20 refl tt)) (no_more !))))) (λ v₁ r₁ ls₁.
+        calls_with ! fm tt fn-nothing-told.ended (fn-nothing-told.clauses 𝓛 mem run) fn-nothing-told-known to-held₁ (goes-held₁) (and_then ! (load ! (from ! (stop !)) (gets ! 17 refl tt)) (and_then ! (load ! (from ! (stop !)) (gets ! 18 refl tt)) (and_then ! (load ! (from ! (stop !)) (gets ! 19 refl tt)) (and_then ! (load ! (from ! (stop !)) (gets ! 20 refl tt)) (no_more !))))) (λ v₁ r₁ ls₁.
         heard ! _ (λ e₁.
         peeks ! usize (Is usize) (shows 𝓛 usize) r₁ (v₁ ∷ []) (λ is-r₁. drop ! $
         known ! (ap only is-r₁.0) $
         land ! (from ! (stop !)) (puts ! 0 tt (tt, record { fits = is-r₁.1 })) $
         leaves ! tt Post refl (gets ! 0 refl tt) $ frees_all ! $
         suffices ! _ (ends-in (vint w64 r₁) r₁ (merged 𝓛 κs (me.signature).params (me.ended).kept cs-held a ls₁)) $
-        says ! (advance-absent ys x₂ m₃ m₄ m₅ m₆ m₇ m₈ m₉ m₁₀ m₁₁ r₁ ls₁.0 ls₁.1.0 ls₁.1.1.0 ls₁.1.1.1.0 (is_true _ on) e₁) $
+        says ! (advance_absent ys x₂ m₃ m₄ m₅ m₆ m₇ m₈ m₉ m₁₀ m₁₁ r₁ ls₁.0 ls₁.1.0 ls₁.1.1.0 ls₁.1.1.1.0 (is_true _ on) e₁) $
         by ! (exits-held r₁ ls₁ is-r₁.1)))))
         (λ off.
         let inside : x₂ < length ys = leb-false (length ys) x₂ (left_false (leb (length ys) x₂) (leb 4 x₂) (is_false ((leb (length ys) x₂) || (leb 4 x₂)) off)) in
         sorted ! Sorted-failed sorts-failed $
         does ! tt (bin ! (load ! (from ! (stop !)) (gets ! 2 refl tt)) (lit ! tt) (record { fits = scaled (length ys) x₂ room₁ inside })) (from ! (stop !)) (puts ! 21 tt (tt, record { fits = scaled (length ys) x₂ room₁ inside })) $
         does ! tt (bin ! (load ! (from ! (fld ! refl (stop !))) (look_in ! 0 (sub ! 0 refl (at_local ! 1 refl tt)))) (load ! (from ! (stop !)) (gets ! 21 refl tt)) tt) (from ! (stop !)) (puts ! 22 tt (tt, tt)) $
-        takes_out ! tt U.the_row (Is U.the_row) (shows 𝓛 U.the_row) (LL.vals U.the_type U'.the_laws) (LL.tells U.the_type U'.the_laws) ys x₂ noRecord b₁ o₁ inside (λ is-elem₁.
-        does ! tt (of_opd ! (load ! (from ! (hop ! (gets ! 22 refl tt) (stop !))) (look_raw ! 1 refl))) (from ! (stop !)) (puts ! 23 tt ((LL.lawful U.the_type U'.the_laws 𝓛).typed (get_or ys x₂ noRecord) _ is-elem₁).0) $
-        puts-same ! tt U.the_row ys x₂ noRecord (LL.vals U.the_type U'.the_laws (get_or ys x₂ noRecord)) b₁ o₁ inside $
+        takes_out ! tt U.the_row (Is U.the_row) (shows 𝓛 U.the_row) (LL.vals U.the_type U'.the_laws) (LL.tells U.the_type U'.the_laws) ys x₂ no_record_of b₁ o₁ inside (λ is-elem₁.
+        does ! tt (of_opd ! (load ! (from ! (hop ! (gets ! 22 refl tt) (stop !))) (look_raw ! 1 refl))) (from ! (stop !)) (puts ! 23 tt ((LL.lawful U.the_type U'.the_laws 𝓛).typed (get_or ys x₂ no_record_of) _ is-elem₁).0) $
+        puts_same ! tt U.the_row ys x₂ no_record_of (LL.vals U.the_type U'.the_laws (get_or ys x₂ no_record_of)) b₁ o₁ inside $
         does ! tt (addr ! (from ! (hop ! (gets ! 3 refl tt) (stop !)))) (from ! (stop !)) (puts ! 24 tt (tt, tt)) $
         does ! tt (addr ! (from ! (fld ! refl (hop ! (look_in ! 0 (sub ! 0 refl (at_local ! 4 refl tt))) (stop !))))) (from ! (stop !)) (puts ! 25 tt (tt, tt)) $
         does ! tt (agg ! (and_then ! (load ! (from ! (stop !)) (gets ! 25 refl tt)) (and_then ! (load ! (from ! (fld ! refl (stop !))) (look_in ! 0 (sub ! 1 refl (at_local ! 4 refl tt)))) (no_more !)))) (from ! (stop !)) (puts ! 26 tt (tt, (tt, (record { fits = room₄.0 }, tt)))) $
@@ -191,7 +191,7 @@ module _ {M : Type 1} {𝓤 : Ura M} (𝓛 : Logic 𝓤) (mem : Memory → SProp
         does ! tt (addr ! (from ! (hop ! (gets ! 9 refl tt) (stop !)))) (from ! (stop !)) (puts ! 34 tt (tt, tt)) $
         does ! tt (addr ! (from ! (hop ! (gets ! 10 refl tt) (stop !)))) (from ! (stop !)) (puts ! 35 tt (tt, tt)) $
         does ! tt (addr ! (from ! (hop ! (gets ! 11 refl tt) (stop !)))) (from ! (stop !)) (puts ! 36 tt (tt, tt)) $
-        calls-with ! fm tt fn-advance.ended (fn-advance.clauses 𝓛 mem run) fn-advance-known to-failed₁ (goes-failed₁ is-elem₁) (and_then ! (load ! (from ! (stop !)) (gets ! 23 refl tt)) (and_then ! (load ! (from ! (stop !)) (gets ! 2 refl tt)) (and_then ! (load ! (from ! (stop !)) (gets ! 24 refl tt)) (and_then ! (load ! (from ! (stop !)) (gets ! 26 refl tt)) (and_then ! (load ! (from ! (stop !)) (gets ! 28 refl tt)) (and_then ! (load ! (from ! (stop !)) (gets ! 30 refl tt)) (and_then ! (load ! (from ! (stop !)) (gets ! 32 refl tt)) (and_then ! (load ! (from ! (stop !)) (gets ! 33 refl tt)) (and_then ! (load ! (from ! (stop !)) (gets ! 34 refl tt)) (and_then ! (load ! (from ! (stop !)) (gets ! 35 refl tt)) (and_then ! (load ! (from ! (stop !)) (gets ! 36 refl tt)) (no_more !)))))))))))) (λ v₁ r₁ ls₁.
+        calls_with ! fm tt fn-advance.ended (fn-advance.clauses 𝓛 mem run) fn-advance-known to-failed₁ (goes-failed₁ is-elem₁) (and_then ! (load ! (from ! (stop !)) (gets ! 23 refl tt)) (and_then ! (load ! (from ! (stop !)) (gets ! 2 refl tt)) (and_then ! (load ! (from ! (stop !)) (gets ! 24 refl tt)) (and_then ! (load ! (from ! (stop !)) (gets ! 26 refl tt)) (and_then ! (load ! (from ! (stop !)) (gets ! 28 refl tt)) (and_then ! (load ! (from ! (stop !)) (gets ! 30 refl tt)) (and_then ! (load ! (from ! (stop !)) (gets ! 32 refl tt)) (and_then ! (load ! (from ! (stop !)) (gets ! 33 refl tt)) (and_then ! (load ! (from ! (stop !)) (gets ! 34 refl tt)) (and_then ! (load ! (from ! (stop !)) (gets ! 35 refl tt)) (and_then ! (load ! (from ! (stop !)) (gets ! 36 refl tt)) (no_more !)))))))))))) (λ v₁ r₁ ls₁.
         heard ! _ (λ e₁.
         peeks ! S-Given.the_row (Is S-Given.the_row) (shows 𝓛 S-Given.the_row) r₁ (v₁ ∷ []) (λ is-r₁. drop ! $
         let fields-r₁ = LL.owed S-Given.the_type S-Given'.the_laws r₁ _ is-r₁ in
@@ -203,20 +203,20 @@ module _ {M : Type 1} {𝓤 : Ura M} (𝓛 : Logic 𝓤) (mem : Memory → SProp
         let taken : r₁.stepped ≡ true = is_true _ put_on in
         does ! tt (bin ! (load ! (from ! (stop !)) (gets ! 2 refl tt)) (lit ! tt) (record { fits = scaled (length ys) x₂ room₁ inside })) (from ! (stop !)) (puts ! 38 tt (tt, record { fits = scaled (length ys) x₂ room₁ inside })) $
         does ! tt (bin ! (load ! (from ! (fld ! refl (stop !))) (look_in ! 0 (sub ! 0 refl (at_local ! 1 refl tt)))) (load ! (from ! (stop !)) (gets ! 38 refl tt)) tt) (from ! (stop !)) (puts ! 39 tt (tt, tt)) $
-        takes_out ! tt U.the_row (Is U.the_row) (shows 𝓛 U.the_row) (LL.vals U.the_type U'.the_laws) (LL.tells U.the_type U'.the_laws) ys x₂ noRecord b₁ o₁ inside (λ is-elem₂.
+        takes_out ! tt U.the_row (Is U.the_row) (shows 𝓛 U.the_row) (LL.vals U.the_type U'.the_laws) (LL.tells U.the_type U'.the_laws) ys x₂ no_record_of b₁ o₁ inside (λ is-elem₂.
         does ! tt (of_opd ! (load ! (from ! (fld ! refl (stop !))) (look_in ! 0 (sub ! 2 refl (at_local ! 12 refl tt))))) (from ! (hop ! (gets ! 39 refl tt) (stop !))) (store_raw ! 1 refl ((LL.lawful U.the_type U'.the_laws 𝓛).typed r₁.record _ fields-r₁.1.1.0).0) $
-        puts-new ! tt U.the_row (Is U.the_row) (LL.makes U.the_type U'.the_plain 𝓛) ys x₂ r₁.record (LL.vals U.the_type U'.the_laws r₁.record) b₁ o₁ inside fields-r₁.1.1.0 $
+        puts_new ! tt U.the_row (Is U.the_row) (LL.makes U.the_type U'.the_plain 𝓛) ys x₂ r₁.record (LL.vals U.the_type U'.the_laws r₁.record) b₁ o₁ inside fields-r₁.1.1.0 $
         does ! tt (of_opd ! (load ! (from ! (fld ! refl (stop !))) (look_in ! 0 (sub ! 1 refl (at_local ! 12 refl tt))))) (from ! (stop !)) (puts ! 0 tt (tt, record { fits = fields-r₁.1.0.1 })) $
         leaves ! tt Post refl (gets ! 0 refl tt) $ frees_all ! $
         suffices ! _ (ends-in (vint w64 r₁.number) r₁.number ((set ys x₂ r₁.record), (merged 𝓛 κs (tail_of (me.signature).params) (me.ended).kept.1 cs-failed a.1 ls₁.1))) $
-        says ! (advance-put ys x₂ m₃ m₄ m₅ m₆ m₇ m₈ m₉ m₁₀ m₁₁ r₁ ls₁.1.1.0 ls₁.1.1.1.0 ls₁.1.1.1.1.0 ls₁.1.1.1.1.1.0 ls₁.1.1.1.1.1.1.0 ls₁.1.1.1.1.1.1.1.0 ls₁.1.1.1.1.1.1.1.1.0 ls₁.1.1.1.1.1.1.1.1.1.0 ls₁.1.1.1.1.1.1.1.1.1.1.0 (is_false _ off) e₁ taken) $
+        says ! (advance_put ys x₂ m₃ m₄ m₅ m₆ m₇ m₈ m₉ m₁₀ m₁₁ r₁ ls₁.1.1.0 ls₁.1.1.1.0 ls₁.1.1.1.1.0 ls₁.1.1.1.1.1.0 ls₁.1.1.1.1.1.1.0 ls₁.1.1.1.1.1.1.1.0 ls₁.1.1.1.1.1.1.1.1.0 ls₁.1.1.1.1.1.1.1.1.1.0 ls₁.1.1.1.1.1.1.1.1.1.1.0 (is_false _ off) e₁ taken) $
         by ! (exits-put r₁ ls₁ fields-r₁.1.0.1)))
         (λ put-off.
         let left : r₁.stepped ≡ false = is_false _ put-off in
         does ! tt (of_opd ! (load ! (from ! (fld ! refl (stop !))) (look_in ! 0 (sub ! 1 refl (at_local ! 12 refl tt))))) (from ! (stop !)) (puts ! 0 tt (tt, record { fits = fields-r₁.1.0.1 })) $
         leaves ! tt Post refl (gets ! 0 refl tt) $ frees_all ! $
         suffices ! _ (ends-in (vint w64 r₁.number) r₁.number (ys, (merged 𝓛 κs (tail_of (me.signature).params) (me.ended).kept.1 cs-failed a.1 ls₁.1))) $
-        says ! (advance-kept ys x₂ m₃ m₄ m₅ m₆ m₇ m₈ m₉ m₁₀ m₁₁ r₁ ls₁.1.1.0 ls₁.1.1.1.0 ls₁.1.1.1.1.0 ls₁.1.1.1.1.1.0 ls₁.1.1.1.1.1.1.0 ls₁.1.1.1.1.1.1.1.0 ls₁.1.1.1.1.1.1.1.1.0 ls₁.1.1.1.1.1.1.1.1.1.0 ls₁.1.1.1.1.1.1.1.1.1.1.0 (is_false _ off) e₁ left) $
+        says ! (advance_kept ys x₂ m₃ m₄ m₅ m₆ m₇ m₈ m₉ m₁₀ m₁₁ r₁ ls₁.1.1.0 ls₁.1.1.1.0 ls₁.1.1.1.1.0 ls₁.1.1.1.1.1.0 ls₁.1.1.1.1.1.1.0 ls₁.1.1.1.1.1.1.1.0 ls₁.1.1.1.1.1.1.1.1.0 ls₁.1.1.1.1.1.1.1.1.1.0 ls₁.1.1.1.1.1.1.1.1.1.1.0 (is_false _ off) e₁ left) $
         by ! (exits-kept r₁ ls₁ fields-r₁.1.0.1))))))))
 
 module _ {M : Type 1} {𝓤 : Ura M} (𝓛 : Logic 𝓤) (mem : Memory → SProp 𝓤) (run : Routine → Fun 𝓤) where
@@ -228,7 +228,7 @@ module _ {M : Type 1} {𝓤 : Ura M} (𝓛 : Logic 𝓤) (mem : Memory → SProp
       (λ κs qs bounds a g are. via 𝓤 _ (fst∗ 𝓤 _ (emp 𝓤)) (walk 𝓛 mem run κs.0 κs.1.0 κs.1.1.0 κs.1.1.1.0 κs.1.1.1.1.0 κs.1.1.1.1.1.0 κs.1.1.1.1.1.1.0 κs.1.1.1.1.1.1.1.0 κs.1.1.1.1.1.1.1.1.0 κs.1.1.1.1.1.1.1.1.1.0 qs.0 qs.1.0 qs.1.1.0 qs.1.1.1.0 qs.1.1.1.1.0 qs.1.1.1.1.1.0 qs.1.1.1.1.1.1.0 qs.1.1.1.1.1.1.1.0 qs.1.1.1.1.1.1.1.1.0 qs.1.1.1.1.1.1.1.1.1.0 a.0.ref_ptr.0 a.0.ref_ptr.1 a.0.ghost_name a.0.now are.0.0.1 a.1.0 are.1.0.1 a.1.1.0.ref_ptr.0 a.1.1.0.ref_ptr.1 a.1.1.0.ghost_name a.1.1.0.now a.1.1.1.0.ref_ptr.0 a.1.1.1.0.ref_ptr.1 a.1.1.1.0.ghost_name a.1.1.1.0.now are.1.1.1.0.0.1 a.1.1.1.1.0.ref_ptr.0 a.1.1.1.1.0.ref_ptr.1 a.1.1.1.1.0.ghost_name a.1.1.1.1.0.now are.1.1.1.1.0.0.1 a.1.1.1.1.1.0.ref_ptr.0 a.1.1.1.1.1.0.ref_ptr.1 a.1.1.1.1.1.0.ghost_name a.1.1.1.1.1.0.now are.1.1.1.1.1.0.0.1 a.1.1.1.1.1.1.0.ref_ptr.0 a.1.1.1.1.1.1.0.ref_ptr.1 a.1.1.1.1.1.1.0.ghost_name a.1.1.1.1.1.1.0.now are.1.1.1.1.1.1.0.0.1 a.1.1.1.1.1.1.1.0.ref_ptr.0 a.1.1.1.1.1.1.1.0.ref_ptr.1 a.1.1.1.1.1.1.1.0.ghost_name a.1.1.1.1.1.1.1.0.now a.1.1.1.1.1.1.1.1.0.ref_ptr.0 a.1.1.1.1.1.1.1.1.0.ref_ptr.1 a.1.1.1.1.1.1.1.1.0.ghost_name a.1.1.1.1.1.1.1.1.0.now a.1.1.1.1.1.1.1.1.1.0.ref_ptr.0 a.1.1.1.1.1.1.1.1.1.0.ref_ptr.1 a.1.1.1.1.1.1.1.1.1.0.ghost_name a.1.1.1.1.1.1.1.1.1.0.now a.1.1.1.1.1.1.1.1.1.1.0.ref_ptr.0 a.1.1.1.1.1.1.1.1.1.1.0.ref_ptr.1 a.1.1.1.1.1.1.1.1.1.1.0.ghost_name a.1.1.1.1.1.1.1.1.1.1.0.now C Λ fm fn-nothing-told-known fn-advance-known))
 
 meets : {M : Type 1} {𝓤 : Ura M} (𝓛 : Logic 𝓤) (mem : Memory → SProp 𝓤) (run : Routine → Fun 𝓤) (𝓣 : Tables 𝓤 𝓛.H) → Triple 𝓤 (𝓣.C #ts11·rows·nothing-told) (triple_of 𝓛 fn-nothing-told.signature (fn-nothing-told.spec 𝓛 mem run)) → Triple 𝓤 (𝓣.C #ts11·units·advance) (triple_of 𝓛 fn-advance.signature (fn-advance.spec 𝓛 mem run)) → Meets 𝓛 me.signature (WpFn 𝓤 𝓛.H 𝓣.C 𝓣.Λ code.function) (me.spec 𝓛 mem run)
-meets {𝓤 = 𝓤} 𝓛 mem run 𝓣 fn-nothing-told-known fn-advance-known = walk_Meets 𝓛 me.ended stayed (go-lets 𝓛 10 (me.signature).params (me.ended).kept) (me.clauses 𝓛 mem run)
+meets {𝓤 = 𝓤} 𝓛 mem run 𝓣 fn-nothing-told-known fn-advance-known = walk_Meets 𝓛 me.ended stayed (go_lets 𝓛 10 (me.signature).params (me.ended).kept) (me.clauses 𝓛 mem run)
     (WpFn 𝓤 𝓛.H 𝓣.C 𝓣.Λ code.function) (WpFn-mono 𝓤 𝓛.H 𝓛.laws 𝓣 code.function) (walks 𝓛 mem run 𝓣.C 𝓣.Λ (fm_of 𝓤 𝓛.H 𝓛.laws 𝓣) fn-nothing-told-known fn-advance-known)
 
 pub ts11-advance-spec : {M : Type 1} → stated.statement M

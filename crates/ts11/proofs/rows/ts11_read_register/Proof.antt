@@ -46,9 +46,9 @@ use denote.Triple.Spec.{Meets, triple_of}
 use denote.Triple.Table.{entered, cited}
 use denote.Triple.Clauses.{Clauses, Lasts, at_exit, lasts}
 use denote.Triple.Walked.{says, Stays, walk_of, Walks, ends_at, walked, walk_Meets}
-use Rattle.ts11.proofs.Lent.{is_true, is_false, left_false, right-false, positive, clauses-split, says2, says3, at_local, gets, puts, frees_all, starts, known, takes_out, puts-same, puts-new, looks-at, looked, sorted, does, firsts, forks, leaves, calls-with, calls-plain, lets, go-lets, keep-uint, keep-bool, keep-shr, keep-shr-slice, keep-ref, keep-slice, Choices, given, kept, merged, sort, unsort, Flags, toks-given, toks-kept, toks-sort, toks-unsort, tail_of}
-use Rattle.ts11.specs.Rows.{noRecord}
-use Rattle.ts11.proofs.Walking.{register-absent, register-present}
+use Rattle.ts11.proofs.Lent.{is_true, is_false, left_false, right_false, positive, clauses_split, says2, says3, at_local, gets, puts, frees_all, starts, known, takes_out, puts_same, puts_new, looks_at, looked, sorted, does, firsts, forks, leaves, calls_with, calls_plain, lets, go_lets, keep_uint, keep_bool, keep_shr, keep_shr_slice, keep_ref, keep_slice, Choices, given, kept, merged, sort, unsort, Flags, toks_given, toks_kept, toks_sort, toks_unsort, tail_of}
+use Rattle.ts11.specs.Rows.{no_record_of}
+use Rattle.ts11.proofs.Walking.{register_absent, register_present}
 use Rattle.records.specs.declared.records.UnitRecord.{UnitRecord as D-UnitRecord}
 use Rattle.records.specs.contracts.records.UnitRecord as U
 use Rattle.records.proofs.records.UnitRecord.TheLaws as U'
@@ -98,47 +98,47 @@ module _ {M : Type 1} {𝓤 : Ura M} (𝓛 : Logic 𝓤) (mem : Memory → SProp
 
   -- ---- the arm where the test holds
   abbrev cs-held : Choices 𝓛 (me.signature).params (me.ended).kept
-  cs-held = (hold (keep-shr-slice 𝓛 3 (0 ∷ []) tt (plain (λ _. U.the_row))), (hold (keep-uint 𝓛 3 w64), (hold (keep-shr 𝓛 3 (1 ∷ []) tt (plain (λ _. (Array u32 3)))), (hold (keep-bool 𝓛 3), (give, tt)))))
+  cs-held = (hold (keep_shr_slice 𝓛 3 (0 ∷ []) tt (plain (λ _. U.the_row))), (hold (keep_uint 𝓛 3 w64), (hold (keep_shr 𝓛 3 (1 ∷ []) tt (plain (λ _. (Array u32 3)))), (hold (keep_bool 𝓛 3), (give, tt)))))
 
   abbrev fs-held : Flags 3
   fs-held = (false, (false, (true, tt)))
 
   abbrev Sorted-held : List (Item 𝓤)
-  Sorted-held = raw (toks-given 𝓛 3 fs-held κs qs) ∷ ‵ (given 𝓛 κs (me.signature).params (me.ended).kept cs-held a at) ∷ raw (toks-kept 𝓛 3 fs-held κs qs) ∷ ‵ (kept 𝓛 κs (me.signature).params (me.ended).kept cs-held a) ∷ []
+  Sorted-held = raw (toks_given 𝓛 3 fs-held κs qs) ∷ ‵ (given 𝓛 κs (me.signature).params (me.ended).kept cs-held a at) ∷ raw (toks_kept 𝓛 3 fs-held κs qs) ∷ ‵ (kept 𝓛 κs (me.signature).params (me.ended).kept cs-held a) ∷ []
 
   sorts-held : ent 𝓤 (sep 𝓤 (alive 𝓛 me.signature κs qs) (sem 𝓛 (owns (types_at (me.signature).params κs) a at))) (⋆ 𝓛 Sorted-held)
-  sorts-held = qed 𝓛 (raw (alive 𝓛 me.signature κs qs) ∷ ‵ (owns (types_at (me.signature).params κs) a at) ∷ []) ∵ use1 𝓛 (raw (toks-given 𝓛 3 fs-held κs qs) ⊛ raw (toks-kept 𝓛 3 fs-held κs qs)) (toks-sort 𝓛 3 fs-held κs qs) $ split ! $ move ! (2 ∷ []) $ use1 𝓛 (‵ (given 𝓛 κs (me.signature).params (me.ended).kept cs-held a at) ⊛ ‵ (kept 𝓛 κs (me.signature).params (me.ended).kept cs-held a)) (sort 𝓛 3 κs (me.signature).params (me.ended).kept cs-held a at) $ split ! $ move ! (2 ∷ 0 ∷ 3 ∷ 1 ∷ []) $ done !
+  sorts-held = qed 𝓛 (raw (alive 𝓛 me.signature κs qs) ∷ ‵ (owns (types_at (me.signature).params κs) a at) ∷ []) ∵ use1 𝓛 (raw (toks_given 𝓛 3 fs-held κs qs) ⊛ raw (toks_kept 𝓛 3 fs-held κs qs)) (toks_sort 𝓛 3 fs-held κs qs) $ split ! $ move ! (2 ∷ []) $ use1 𝓛 (‵ (given 𝓛 κs (me.signature).params (me.ended).kept cs-held a at) ⊛ ‵ (kept 𝓛 κs (me.signature).params (me.ended).kept cs-held a)) (sort 𝓛 3 κs (me.signature).params (me.ended).kept cs-held a at) $ split ! $ move ! (2 ∷ 0 ∷ 3 ∷ 1 ∷ []) $ done !
 
   abbrev to-held₁ : (triple_of 𝓛 fn-no-word.signature (fn-no-word.spec 𝓛 mem run)).Ghost
   to-held₁ = (((κ₂, tt), (q₂, tt), tt, (record { ref_ptr = (b₅, o₅); ghost_name = γ₅; now = m₅ }, tt), (vptr b₅ o₅ ∷ [], tt)), tt)
 
-  goes-held₁ : ent 𝓤 (sep 𝓤 (toks-given 𝓛 3 fs-held κs qs) (sem 𝓛 (given 𝓛 κs (me.signature).params (me.ended).kept cs-held a at))) ((triple_of 𝓛 fn-no-word.signature (fn-no-word.spec 𝓛 mem run)).pre to-held₁)
-  goes-held₁ = qed 𝓛 (raw (toks-given 𝓛 3 fs-held κs qs) ∷ ‵ (given 𝓛 κs (me.signature).params (me.ended).kept cs-held a at) ∷ []) ∵ move ! (1 ∷ []) $ move ! (1 ∷ 0 ∷ []) $ join ! $ frame ! $ done !
+  goes-held₁ : ent 𝓤 (sep 𝓤 (toks_given 𝓛 3 fs-held κs qs) (sem 𝓛 (given 𝓛 κs (me.signature).params (me.ended).kept cs-held a at))) ((triple_of 𝓛 fn-no-word.signature (fn-no-word.spec 𝓛 mem run)).pre to-held₁)
+  goes-held₁ = qed 𝓛 (raw (toks_given 𝓛 3 fs-held κs qs) ∷ ‵ (given 𝓛 κs (me.signature).params (me.ended).kept cs-held a at) ∷ []) ∵ move ! (1 ∷ []) $ move ! (1 ∷ 0 ∷ []) $ join ! $ frame ! $ done !
 
-  exits-held : (r₁ : ℕ) (ls₁ : Lasts fn-no-word.ended to-held₁.0.0 to-held₁.0.3) (num-fits : r₁ < 2 ^ 64) → ent 𝓤 (⋆ 𝓛 (raw (alive 𝓛 fn-no-word.signature to-held₁.0.0 to-held₁.0.1) ∷ ‵ (lasts fn-no-word.ended to-held₁.0.0 to-held₁.0.3 ls₁) ∷ raw (toks-kept 𝓛 3 fs-held κs qs) ∷ ‵ (kept 𝓛 κs (me.signature).params (me.ended).kept cs-held a) ∷ [])) (sep 𝓤 (alive 𝓛 me.signature κs qs) (sep 𝓤 (sem 𝓛 (lasts me.ended κs a (merged 𝓛 κs (me.signature).params (me.ended).kept cs-held a ls₁))) (sem 𝓛 (usize.own_val r₁ (vint w64 r₁ ∷ [])))))
-  exits-held r₁ ls₁ num-fits = qed 𝓛 (raw (alive 𝓛 fn-no-word.signature to-held₁.0.0 to-held₁.0.1) ∷ ‵ (lasts fn-no-word.ended to-held₁.0.0 to-held₁.0.3 ls₁) ∷ raw (toks-kept 𝓛 3 fs-held κs qs) ∷ ‵ (kept 𝓛 κs (me.signature).params (me.ended).kept cs-held a) ∷ []) ∵ move ! (0 ∷ 2 ∷ []) $ use2 𝓛 (raw (toks 𝓛 3 κs qs)) (toks-unsort 𝓛 3 fs-held κs qs) $ frame ! $ use2 𝓛 (‵ (lasts_of κs (me.signature).params (me.ended).kept a (merged 𝓛 κs (me.signature).params (me.ended).kept cs-held a ls₁))) (unsort 𝓛 3 κs (me.signature).params (me.ended).kept cs-held a ls₁) $ frame ! $ owned ! usize (Is usize) (uint_Makes 𝓛 w64) r₁ _ (refl, num-fits) $ done !
+  exits-held : (r₁ : ℕ) (ls₁ : Lasts fn-no-word.ended to-held₁.0.0 to-held₁.0.3) (num-fits : r₁ < 2 ^ 64) → ent 𝓤 (⋆ 𝓛 (raw (alive 𝓛 fn-no-word.signature to-held₁.0.0 to-held₁.0.1) ∷ ‵ (lasts fn-no-word.ended to-held₁.0.0 to-held₁.0.3 ls₁) ∷ raw (toks_kept 𝓛 3 fs-held κs qs) ∷ ‵ (kept 𝓛 κs (me.signature).params (me.ended).kept cs-held a) ∷ [])) (sep 𝓤 (alive 𝓛 me.signature κs qs) (sep 𝓤 (sem 𝓛 (lasts me.ended κs a (merged 𝓛 κs (me.signature).params (me.ended).kept cs-held a ls₁))) (sem 𝓛 (usize.own_val r₁ (vint w64 r₁ ∷ [])))))
+  exits-held r₁ ls₁ num-fits = qed 𝓛 (raw (alive 𝓛 fn-no-word.signature to-held₁.0.0 to-held₁.0.1) ∷ ‵ (lasts fn-no-word.ended to-held₁.0.0 to-held₁.0.3 ls₁) ∷ raw (toks_kept 𝓛 3 fs-held κs qs) ∷ ‵ (kept 𝓛 κs (me.signature).params (me.ended).kept cs-held a) ∷ []) ∵ move ! (0 ∷ 2 ∷ []) $ use2 𝓛 (raw (toks 𝓛 3 κs qs)) (toks_unsort 𝓛 3 fs-held κs qs) $ frame ! $ use2 𝓛 (‵ (lasts_of κs (me.signature).params (me.ended).kept a (merged 𝓛 κs (me.signature).params (me.ended).kept cs-held a ls₁))) (unsort 𝓛 3 κs (me.signature).params (me.ended).kept cs-held a ls₁) $ frame ! $ owned ! usize (Is usize) (uint_Makes 𝓛 w64) r₁ _ (refl, num-fits) $ done !
 
   -- ---- the arm where the test fails
   abbrev cs-failed : Choices 𝓛 (tail_of (me.signature).params) (me.ended).kept.1
-  cs-failed = (hold (keep-uint 𝓛 3 w64), (give, (give, (give, tt))))
+  cs-failed = (hold (keep_uint 𝓛 3 w64), (give, (give, (give, tt))))
 
   abbrev fs-failed : Flags 2
   fs-failed = (true, (true, tt))
 
   abbrev Sorted-failed : List (Item 𝓤)
-  Sorted-failed = raw (toks-given 𝓛 2 fs-failed κs.1 qs.1) ∷ ‵ (given 𝓛 κs (tail_of (me.signature).params) (me.ended).kept.1 cs-failed a.1 at.1) ∷ ‵ (fshr_bor κ₀ (λ s. (arr_parts (shares U.the_row) (length ys)).part s ys b₁ o₁)) ∷ ‵ (flft κ₀ q₀) ∷ raw (toks-kept 𝓛 2 fs-failed κs.1 qs.1) ∷ ‵ (kept 𝓛 κs (tail_of (me.signature).params) (me.ended).kept.1 cs-failed a.1) ∷ []
+  Sorted-failed = raw (toks_given 𝓛 2 fs-failed κs.1 qs.1) ∷ ‵ (given 𝓛 κs (tail_of (me.signature).params) (me.ended).kept.1 cs-failed a.1 at.1) ∷ ‵ (fshr_bor κ₀ (λ s. (arr_parts (shares U.the_row) (length ys)).part s ys b₁ o₁)) ∷ ‵ (flft κ₀ q₀) ∷ raw (toks_kept 𝓛 2 fs-failed κs.1 qs.1) ∷ ‵ (kept 𝓛 κs (tail_of (me.signature).params) (me.ended).kept.1 cs-failed a.1) ∷ []
 
   sorts-failed : ent 𝓤 (sep 𝓤 (alive 𝓛 me.signature κs qs) (sem 𝓛 (owns (types_at (me.signature).params κs) a at))) (⋆ 𝓛 Sorted-failed)
-  sorts-failed = qed 𝓛 (raw (alive 𝓛 me.signature κs qs) ∷ ‵ (owns (types_at (me.signature).params κs) a at) ∷ []) ∵ use1 𝓛 (‵ (flft κ₀ q₀) ⊛ raw (toks 𝓛 2 κs.1 qs.1)) (id⊢ 𝓤 _) $ split ! $ move ! (1 ∷ []) $ use1 𝓛 (raw (toks-given 𝓛 2 fs-failed κs.1 qs.1) ⊛ raw (toks-kept 𝓛 2 fs-failed κs.1 qs.1)) (toks-sort 𝓛 2 fs-failed κs.1 qs.1) $ split ! $ move ! (3 ∷ []) $ fsplit ! $ move ! (1 ∷ []) $ use1 𝓛 (‵ (given 𝓛 κs (tail_of (me.signature).params) (me.ended).kept.1 cs-failed a.1 at.1) ⊛ ‵ (kept 𝓛 κs (tail_of (me.signature).params) (me.ended).kept.1 cs-failed a.1)) (sort 𝓛 3 κs (tail_of (me.signature).params) (me.ended).kept.1 cs-failed a.1 at.1) $ split ! $ move ! (2 ∷ []) $ fsplit ! $ drop ! $ fsplit ! $ drop ! $ move ! (3 ∷ 1 ∷ 0 ∷ 5 ∷ 4 ∷ 2 ∷ []) $ done !
+  sorts-failed = qed 𝓛 (raw (alive 𝓛 me.signature κs qs) ∷ ‵ (owns (types_at (me.signature).params κs) a at) ∷ []) ∵ use1 𝓛 (‵ (flft κ₀ q₀) ⊛ raw (toks 𝓛 2 κs.1 qs.1)) (id⊢ 𝓤 _) $ split ! $ move ! (1 ∷ []) $ use1 𝓛 (raw (toks_given 𝓛 2 fs-failed κs.1 qs.1) ⊛ raw (toks_kept 𝓛 2 fs-failed κs.1 qs.1)) (toks_sort 𝓛 2 fs-failed κs.1 qs.1) $ split ! $ move ! (3 ∷ []) $ fsplit ! $ move ! (1 ∷ []) $ use1 𝓛 (‵ (given 𝓛 κs (tail_of (me.signature).params) (me.ended).kept.1 cs-failed a.1 at.1) ⊛ ‵ (kept 𝓛 κs (tail_of (me.signature).params) (me.ended).kept.1 cs-failed a.1)) (sort 𝓛 3 κs (tail_of (me.signature).params) (me.ended).kept.1 cs-failed a.1 at.1) $ split ! $ move ! (2 ∷ []) $ fsplit ! $ drop ! $ fsplit ! $ drop ! $ move ! (3 ∷ 1 ∷ 0 ∷ 5 ∷ 4 ∷ 2 ∷ []) $ done !
 
   abbrev to-failed₁ : (triple_of 𝓛 fn-read-register.signature (fn-read-register.spec 𝓛 mem run)).Ghost
-  to-failed₁ = (((κ₁, (κ₂, tt)), (q₁, (q₂, tt)), tt, ((get_or ys x₂ noRecord), (record { ref_ptr = (b₃, o₃); ghost_name = γ₃; now = m₃ }, (x₄, (record { ref_ptr = (b₅, o₅); ghost_name = γ₅; now = m₅ }, tt)))), (LL.vals U.the_type U'.the_laws (get_or ys x₂ noRecord), (vptr b₃ o₃ ∷ [], (vbool x₄ ∷ [], (vptr b₅ o₅ ∷ [], tt))))), tt)
+  to-failed₁ = (((κ₁, (κ₂, tt)), (q₁, (q₂, tt)), tt, ((get_or ys x₂ no_record_of), (record { ref_ptr = (b₃, o₃); ghost_name = γ₃; now = m₃ }, (x₄, (record { ref_ptr = (b₅, o₅); ghost_name = γ₅; now = m₅ }, tt)))), (LL.vals U.the_type U'.the_laws (get_or ys x₂ no_record_of), (vptr b₃ o₃ ∷ [], (vbool x₄ ∷ [], (vptr b₅ o₅ ∷ [], tt))))), tt)
 
-  goes-failed₁ : (is₀ : Is U.the_row (get_or ys x₂ noRecord) (LL.vals U.the_type U'.the_laws (get_or ys x₂ noRecord))) → ent 𝓤 (sep 𝓤 (toks-given 𝓛 2 fs-failed κs.1 qs.1) (sem 𝓛 (given 𝓛 κs (tail_of (me.signature).params) (me.ended).kept.1 cs-failed a.1 at.1))) ((triple_of 𝓛 fn-read-register.signature (fn-read-register.spec 𝓛 mem run)).pre to-failed₁)
-  goes-failed₁ is₀ = qed 𝓛 (raw (toks-given 𝓛 2 fs-failed κs.1 qs.1) ∷ ‵ (given 𝓛 κs (tail_of (me.signature).params) (me.ended).kept.1 cs-failed a.1 at.1) ∷ []) ∵ move ! (1 ∷ []) $ owned ! U.the_row (Is U.the_row) (LL.makes U.the_type U'.the_plain 𝓛) (get_or ys x₂ noRecord) _ is₀ $ fjoin ! $ move ! (1 ∷ 0 ∷ []) $ join ! $ frame ! $ done !
+  goes-failed₁ : (is₀ : Is U.the_row (get_or ys x₂ no_record_of) (LL.vals U.the_type U'.the_laws (get_or ys x₂ no_record_of))) → ent 𝓤 (sep 𝓤 (toks_given 𝓛 2 fs-failed κs.1 qs.1) (sem 𝓛 (given 𝓛 κs (tail_of (me.signature).params) (me.ended).kept.1 cs-failed a.1 at.1))) ((triple_of 𝓛 fn-read-register.signature (fn-read-register.spec 𝓛 mem run)).pre to-failed₁)
+  goes-failed₁ is₀ = qed 𝓛 (raw (toks_given 𝓛 2 fs-failed κs.1 qs.1) ∷ ‵ (given 𝓛 κs (tail_of (me.signature).params) (me.ended).kept.1 cs-failed a.1 at.1) ∷ []) ∵ move ! (1 ∷ []) $ owned ! U.the_row (Is U.the_row) (LL.makes U.the_type U'.the_plain 𝓛) (get_or ys x₂ no_record_of) _ is₀ $ fjoin ! $ move ! (1 ∷ 0 ∷ []) $ join ! $ frame ! $ done !
 
-  exits-failed : (r₁ : ℕ) (ls₁ : Lasts fn-read-register.ended to-failed₁.0.0 to-failed₁.0.3) (num-fits : r₁ < 2 ^ 64) → ent 𝓤 (⋆ 𝓛 (raw (alive 𝓛 fn-read-register.signature to-failed₁.0.0 to-failed₁.0.1) ∷ ‵ (lasts fn-read-register.ended to-failed₁.0.0 to-failed₁.0.3 ls₁) ∷ ‵ (fshr_bor κ₀ (λ s. (arr_parts (shares U.the_row) (length ys)).part s ys b₁ o₁)) ∷ ‵ (flft κ₀ q₀) ∷ raw (toks-kept 𝓛 2 fs-failed κs.1 qs.1) ∷ ‵ (kept 𝓛 κs (tail_of (me.signature).params) (me.ended).kept.1 cs-failed a.1) ∷ [])) (sep 𝓤 (alive 𝓛 me.signature κs qs) (sep 𝓤 (sem 𝓛 (lasts me.ended κs a (tt, (merged 𝓛 κs (tail_of (me.signature).params) (me.ended).kept.1 cs-failed a.1 ls₁.1)))) (sem 𝓛 (usize.own_val r₁ (vint w64 r₁ ∷ [])))))
-  exits-failed r₁ ls₁ num-fits = qed 𝓛 (raw (alive 𝓛 fn-read-register.signature to-failed₁.0.0 to-failed₁.0.1) ∷ ‵ (lasts fn-read-register.ended to-failed₁.0.0 to-failed₁.0.3 ls₁) ∷ ‵ (fshr_bor κ₀ (λ s. (arr_parts (shares U.the_row) (length ys)).part s ys b₁ o₁)) ∷ ‵ (flft κ₀ q₀) ∷ raw (toks-kept 𝓛 2 fs-failed κs.1 qs.1) ∷ ‵ (kept 𝓛 κs (tail_of (me.signature).params) (me.ended).kept.1 cs-failed a.1) ∷ []) ∵ move ! (2 ∷ []) $ drop ! $ move ! (0 ∷ 3 ∷ []) $ use2 𝓛 (raw (toks 𝓛 2 κs.1 qs.1)) (toks-unsort 𝓛 2 fs-failed κs.1 qs.1) $ move ! (2 ∷ 0 ∷ []) $ join ! $ frame ! $ fsplit ! $ drop ! $ use2 𝓛 (‵ (lasts_of κs (tail_of (me.signature).params) (me.ended).kept.1 a.1 (merged 𝓛 κs (tail_of (me.signature).params) (me.ended).kept.1 cs-failed a.1 ls₁.1))) (unsort 𝓛 3 κs (tail_of (me.signature).params) (me.ended).kept.1 cs-failed a.1 ls₁.1) $ nothing ! $ fjoin ! $ frame ! $ owned ! usize (Is usize) (uint_Makes 𝓛 w64) r₁ _ (refl, num-fits) $ done !
+  exits-failed : (r₁ : ℕ) (ls₁ : Lasts fn-read-register.ended to-failed₁.0.0 to-failed₁.0.3) (num-fits : r₁ < 2 ^ 64) → ent 𝓤 (⋆ 𝓛 (raw (alive 𝓛 fn-read-register.signature to-failed₁.0.0 to-failed₁.0.1) ∷ ‵ (lasts fn-read-register.ended to-failed₁.0.0 to-failed₁.0.3 ls₁) ∷ ‵ (fshr_bor κ₀ (λ s. (arr_parts (shares U.the_row) (length ys)).part s ys b₁ o₁)) ∷ ‵ (flft κ₀ q₀) ∷ raw (toks_kept 𝓛 2 fs-failed κs.1 qs.1) ∷ ‵ (kept 𝓛 κs (tail_of (me.signature).params) (me.ended).kept.1 cs-failed a.1) ∷ [])) (sep 𝓤 (alive 𝓛 me.signature κs qs) (sep 𝓤 (sem 𝓛 (lasts me.ended κs a (tt, (merged 𝓛 κs (tail_of (me.signature).params) (me.ended).kept.1 cs-failed a.1 ls₁.1)))) (sem 𝓛 (usize.own_val r₁ (vint w64 r₁ ∷ [])))))
+  exits-failed r₁ ls₁ num-fits = qed 𝓛 (raw (alive 𝓛 fn-read-register.signature to-failed₁.0.0 to-failed₁.0.1) ∷ ‵ (lasts fn-read-register.ended to-failed₁.0.0 to-failed₁.0.3 ls₁) ∷ ‵ (fshr_bor κ₀ (λ s. (arr_parts (shares U.the_row) (length ys)).part s ys b₁ o₁)) ∷ ‵ (flft κ₀ q₀) ∷ raw (toks_kept 𝓛 2 fs-failed κs.1 qs.1) ∷ ‵ (kept 𝓛 κs (tail_of (me.signature).params) (me.ended).kept.1 cs-failed a.1) ∷ []) ∵ move ! (2 ∷ []) $ drop ! $ move ! (0 ∷ 3 ∷ []) $ use2 𝓛 (raw (toks 𝓛 2 κs.1 qs.1)) (toks_unsort 𝓛 2 fs-failed κs.1 qs.1) $ move ! (2 ∷ 0 ∷ []) $ join ! $ frame ! $ fsplit ! $ drop ! $ use2 𝓛 (‵ (lasts_of κs (tail_of (me.signature).params) (me.ended).kept.1 a.1 (merged 𝓛 κs (tail_of (me.signature).params) (me.ended).kept.1 cs-failed a.1 ls₁.1))) (unsort 𝓛 3 κs (tail_of (me.signature).params) (me.ended).kept.1 cs-failed a.1 ls₁.1) $ nothing ! $ fjoin ! $ frame ! $ owned ! usize (Is usize) (uint_Makes 𝓛 w64) r₁ _ (refl, num-fits) $ done !
 
   module _ (C : Calls 𝓤 H) (Λ : Loops 𝓤 H) (fm : FmC 𝓤 H 𝓛.laws C) (fn-no-word-known : Triple 𝓤 (C #ts11·rows·no-word) (triple_of 𝓛 fn-no-word.signature (fn-no-word.spec 𝓛 mem run))) (fn-read-register-known : Triple 𝓤 (C #ts11·units·read-register) (triple_of 𝓛 fn-read-register.signature (fn-read-register.spec 𝓛 mem run))) where
     walk : ent 𝓤 (on_entry 𝓛 me.signature κs qs a at) (WpFn 𝓤 H C Λ code.function (slice_val (b₁, o₁) (length ys) ∷ vint w64 x₂ ∷ vptr b₃ o₃ ∷ vbool x₄ ∷ vptr b₅ o₅ ∷ []) Post)
@@ -152,32 +152,32 @@ module _ {M : Type 1} {𝓤 : Ura M} (𝓛 : Logic 𝓤) (mem : Memory → SProp
         (λ on.
         sorted ! Sorted-held sorts-held $
         does ! tt (addr ! (from ! (hop ! (gets ! 5 refl tt) (stop !)))) (from ! (stop !)) (puts ! 10 tt (tt, tt)) $
-        calls-with ! fm tt fn-no-word.ended (fn-no-word.clauses 𝓛 mem run) fn-no-word-known to-held₁ (goes-held₁) (and_then ! (load ! (from ! (stop !)) (gets ! 10 refl tt)) (no_more !)) (λ v₁ r₁ ls₁.
+        calls_with ! fm tt fn-no-word.ended (fn-no-word.clauses 𝓛 mem run) fn-no-word-known to-held₁ (goes-held₁) (and_then ! (load ! (from ! (stop !)) (gets ! 10 refl tt)) (no_more !)) (λ v₁ r₁ ls₁.
         heard ! _ (λ e₁.
         peeks ! usize (Is usize) (shows 𝓛 usize) r₁ (v₁ ∷ []) (λ is-r₁. drop ! $
         known ! (ap only is-r₁.0) $
         land ! (from ! (stop !)) (puts ! 0 tt (tt, record { fits = is-r₁.1 })) $
         leaves ! tt Post refl (gets ! 0 refl tt) $ frees_all ! $
         suffices ! _ (ends-in (vint w64 r₁) r₁ (merged 𝓛 κs (me.signature).params (me.ended).kept cs-held a ls₁)) $
-        says ! (register-absent ys x₂ m₃ x₄ m₅ r₁ ls₁.0 (is_true _ on) e₁) $
+        says ! (register_absent ys x₂ m₃ x₄ m₅ r₁ ls₁.0 (is_true _ on) e₁) $
         by ! (exits-held r₁ ls₁ is-r₁.1)))))
         (λ off.
         let inside : x₂ < length ys = leb-false (length ys) x₂ (left_false (leb (length ys) x₂) (leb 4 x₂) (is_false ((leb (length ys) x₂) || (leb 4 x₂)) off)) in
         sorted ! Sorted-failed sorts-failed $
         does ! tt (bin ! (load ! (from ! (stop !)) (gets ! 2 refl tt)) (lit ! tt) (record { fits = scaled (length ys) x₂ room₁ inside })) (from ! (stop !)) (puts ! 11 tt (tt, record { fits = scaled (length ys) x₂ room₁ inside })) $
         does ! tt (bin ! (load ! (from ! (fld ! refl (stop !))) (look_in ! 0 (sub ! 0 refl (at_local ! 1 refl tt)))) (load ! (from ! (stop !)) (gets ! 11 refl tt)) tt) (from ! (stop !)) (puts ! 12 tt (tt, tt)) $
-        looks-at ! tt U.the_row (Is U.the_row) (shows 𝓛 U.the_row) (LL.vals U.the_type U'.the_laws) (LL.tells U.the_type U'.the_laws) (LL.copy U.the_type U'.the_copy 𝓛) ys x₂ noRecord b₁ o₁ inside (λ share₁ is-elem₁.
-        does ! tt (of_opd ! (load ! (from ! (hop ! (gets ! 12 refl tt) (stop !))) (look_raw ! 1 refl))) (from ! (stop !)) (puts ! 13 tt ((LL.lawful U.the_type U'.the_laws 𝓛).typed (get_or ys x₂ noRecord) _ is-elem₁).0) $
-        looked ! tt U.the_row share₁ ys x₂ noRecord (LL.vals U.the_type U'.the_laws (get_or ys x₂ noRecord)) b₁ o₁ inside $
+        looks_at ! tt U.the_row (Is U.the_row) (shows 𝓛 U.the_row) (LL.vals U.the_type U'.the_laws) (LL.tells U.the_type U'.the_laws) (LL.copy U.the_type U'.the_copy 𝓛) ys x₂ no_record_of b₁ o₁ inside (λ share₁ is-elem₁.
+        does ! tt (of_opd ! (load ! (from ! (hop ! (gets ! 12 refl tt) (stop !))) (look_raw ! 1 refl))) (from ! (stop !)) (puts ! 13 tt ((LL.lawful U.the_type U'.the_laws 𝓛).typed (get_or ys x₂ no_record_of) _ is-elem₁).0) $
+        looked ! tt U.the_row share₁ ys x₂ no_record_of (LL.vals U.the_type U'.the_laws (get_or ys x₂ no_record_of)) b₁ o₁ inside $
         does ! tt (addr ! (from ! (hop ! (gets ! 5 refl tt) (stop !)))) (from ! (stop !)) (puts ! 14 tt (tt, tt)) $
-        calls-with ! fm tt fn-read-register.ended (fn-read-register.clauses 𝓛 mem run) fn-read-register-known to-failed₁ (goes-failed₁ is-elem₁) (and_then ! (load ! (from ! (stop !)) (gets ! 13 refl tt)) (and_then ! (load ! (from ! (stop !)) (gets ! 3 refl tt)) (and_then ! (load ! (from ! (stop !)) (gets ! 4 refl tt)) (and_then ! (load ! (from ! (stop !)) (gets ! 14 refl tt)) (no_more !))))) (λ v₁ r₁ ls₁.
+        calls_with ! fm tt fn-read-register.ended (fn-read-register.clauses 𝓛 mem run) fn-read-register-known to-failed₁ (goes-failed₁ is-elem₁) (and_then ! (load ! (from ! (stop !)) (gets ! 13 refl tt)) (and_then ! (load ! (from ! (stop !)) (gets ! 3 refl tt)) (and_then ! (load ! (from ! (stop !)) (gets ! 4 refl tt)) (and_then ! (load ! (from ! (stop !)) (gets ! 14 refl tt)) (no_more !))))) (λ v₁ r₁ ls₁.
         heard ! _ (λ e₁.
         peeks ! usize (Is usize) (shows 𝓛 usize) r₁ (v₁ ∷ []) (λ is-r₁. drop ! $
         known ! (ap only is-r₁.0) $
         land ! (from ! (stop !)) (puts ! 0 tt (tt, record { fits = is-r₁.1 })) $
         leaves ! tt Post refl (gets ! 0 refl tt) $ frees_all ! $
         suffices ! _ (ends-in (vint w64 r₁) r₁ (tt, (merged 𝓛 κs (tail_of (me.signature).params) (me.ended).kept.1 cs-failed a.1 ls₁.1))) $
-        says ! (register-present ys x₂ m₃ x₄ m₅ r₁ ls₁.1.1.1.0 (is_false _ off) e₁) $
+        says ! (register_present ys x₂ m₃ x₄ m₅ r₁ ls₁.1.1.1.0 (is_false _ off) e₁) $
         by ! (exits-failed r₁ ls₁ is-r₁.1)))))))
 
 module _ {M : Type 1} {𝓤 : Ura M} (𝓛 : Logic 𝓤) (mem : Memory → SProp 𝓤) (run : Routine → Fun 𝓤) where
@@ -189,7 +189,7 @@ module _ {M : Type 1} {𝓤 : Ura M} (𝓛 : Logic 𝓤) (mem : Memory → SProp
       (λ κs qs bounds a g are. via 𝓤 _ (fst∗ 𝓤 _ (emp 𝓤)) (walk 𝓛 mem run κs.0 κs.1.0 κs.1.1.0 qs.0 qs.1.0 qs.1.1.0 a.0.ref_ptr.0 a.0.ref_ptr.1 a.0.ghost_name a.0.now are.0.0.1 a.1.0 are.1.0.1 a.1.1.0.ref_ptr.0 a.1.1.0.ref_ptr.1 a.1.1.0.ghost_name a.1.1.0.now a.1.1.1.0 a.1.1.1.1.0.ref_ptr.0 a.1.1.1.1.0.ref_ptr.1 a.1.1.1.1.0.ghost_name a.1.1.1.1.0.now C Λ fm fn-no-word-known fn-read-register-known))
 
 meets : {M : Type 1} {𝓤 : Ura M} (𝓛 : Logic 𝓤) (mem : Memory → SProp 𝓤) (run : Routine → Fun 𝓤) (𝓣 : Tables 𝓤 𝓛.H) → Triple 𝓤 (𝓣.C #ts11·rows·no-word) (triple_of 𝓛 fn-no-word.signature (fn-no-word.spec 𝓛 mem run)) → Triple 𝓤 (𝓣.C #ts11·units·read-register) (triple_of 𝓛 fn-read-register.signature (fn-read-register.spec 𝓛 mem run)) → Meets 𝓛 me.signature (WpFn 𝓤 𝓛.H 𝓣.C 𝓣.Λ code.function) (me.spec 𝓛 mem run)
-meets {𝓤 = 𝓤} 𝓛 mem run 𝓣 fn-no-word-known fn-read-register-known = walk_Meets 𝓛 me.ended stayed (go-lets 𝓛 3 (me.signature).params (me.ended).kept) (me.clauses 𝓛 mem run)
+meets {𝓤 = 𝓤} 𝓛 mem run 𝓣 fn-no-word-known fn-read-register-known = walk_Meets 𝓛 me.ended stayed (go_lets 𝓛 3 (me.signature).params (me.ended).kept) (me.clauses 𝓛 mem run)
     (WpFn 𝓤 𝓛.H 𝓣.C 𝓣.Λ code.function) (WpFn-mono 𝓤 𝓛.H 𝓛.laws 𝓣 code.function) (walks 𝓛 mem run 𝓣.C 𝓣.Λ (fm_of 𝓤 𝓛.H 𝓛.laws 𝓣) fn-no-word-known fn-read-register-known)
 
 pub ts11-read-register-spec : {M : Type 1} → stated.statement M
@@ -199,4 +199,4 @@ ts11-read-register-spec 𝓤 𝓛 𝓜 𝓡 =
     (tables 𝓤 𝓛.H 𝓜 𝓡 code.env).C (tables 𝓤 𝓛.H 𝓜 𝓡 code.env).Λ #me code.function (code.unfolded 𝓤 𝓛.H 𝓜 𝓡)
     (meets 𝓛 𝓜.mem 𝓡.run (tables_of 𝓤 𝓛.H 𝓜 (tables 𝓤 𝓛.H 𝓜 𝓡 code.env))
     (cited 𝓤 𝓛.H (triple_of 𝓛 fn-no-word.signature (fn-no-word.spec 𝓛 𝓜.mem 𝓡.run)) 𝓜 𝓡 code.env #ts11·rows·no-word fn-no-word-def.routine code.calls-ts11::rows::no-word (fn-no-word-thm.met 𝓤 𝓛 𝓜 𝓡))
-    (cited 𝓤 𝓛.H (triple_of 𝓛 fn-read-register.signature (fn-read-register.spec 𝓛 𝓜.mem 𝓡.run)) 𝓜 𝓡 code.env #ts11·units·read-register fn-read-register-def.routine code.calls-ts11::units::read-register (fn-read-register-thm.met 𝓤 𝓛 𝓜 𝓡)))
+    (cited 𝓤 𝓛.H (triple_of 𝓛 fn-read-register.signature (fn-read-register.spec 𝓛 𝓜.mem 𝓡.run)) 𝓜 𝓡 code.env #ts11·units·read-register fn-read-register-def.routine code.calls-ts11::units::read_register (fn-read-register-thm.met 𝓤 𝓛 𝓜 𝓡)))

@@ -1,5 +1,5 @@
 -- `bring_back_at` meets its contract: the arms differ in the number alone.
-use Rattle.ts11.proofs.Backing.{beyond, ready-none, restored_at, restored-none}
+use Rattle.ts11.proofs.Backing.{beyond, ready_none, restored_at, restored_none}
 use native.Mathlib.Omega.{arith}
 use Rattle.ts11.specs.Backs.{four}
 use borrow.Author.Rules.{rules}
@@ -44,7 +44,7 @@ bring-entry-back-requires-5 : tie.Need-bring-entry-back-requires-5
 bring-entry-back-requires-5 c κs =
     let s = c.before.before.before.before.before.before.before.before.before.before.before.before.before.before in
     let a = s.args in
-    ready-none a.k _ _ _ _ _ _ _ _ s.requires c.before.before.before.match.rest.0.0.0.1 c.before.before.before.match.rest.0.0.1 c.before.before.before.match.rest.0.1 c.before.before.before.match.rest.1
+    ready_none a.k _ _ _ _ _ _ _ _ s.requires c.before.before.before.match.rest.0.0.0.1 c.before.before.before.match.rest.0.0.1 c.before.before.before.match.rest.0.1 c.before.before.before.match.rest.1
 
 same_length : tie.Need-same-length
 same_length c = search rules
@@ -113,7 +113,7 @@ returns-5 : tie.Need-returns-5
 returns-5 c =
     let s = c.before.before.before.before.before.before.before.before.before.before.before.before.before.before.before.before.before.before.before in
     let a = s.args in
-    restored-none a.k a.t _ a.memory.now (four a.reel0.now a.table0.now a.reel1.now a.table1.now a.reel2.now a.table2.now a.reel3.now a.table3.now) _ _ _ _ _ c.before.before.before.before.bring-entry-back5.ensures (beyond a.k c.before.before.before.before.before.before.before.before.match.rest.0.0.0.1 c.before.before.before.before.before.before.before.before.match.rest.0.0.1 c.before.before.before.before.before.before.before.before.match.rest.0.1 c.before.before.before.before.before.before.before.before.match.rest.1)
+    restored_none a.k a.t _ a.memory.now (four a.reel0.now a.table0.now a.reel1.now a.table1.now a.reel2.now a.table2.now a.reel3.now a.table3.now) _ _ _ _ _ c.before.before.before.before.bring-entry-back5.ensures (beyond a.k c.before.before.before.before.before.before.before.before.match.rest.0.0.0.1 c.before.before.before.before.before.before.before.before.match.rest.0.0.1 c.before.before.before.before.before.before.before.before.match.rest.0.1 c.before.before.before.before.before.before.before.before.match.rest.1)
 
 pub bring-back-at-spec : {M : Type 1} → statement M
 bring-back-at-spec =

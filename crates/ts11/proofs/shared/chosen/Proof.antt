@@ -1,7 +1,7 @@
 -- `chosen` is its definition.
-use Rattle.ts11.proofs.Backing.{past-four}
+use Rattle.ts11.proofs.Backing.{past_four}
 use mathlib.Core.Path.{◌∙◌}
-use Rattle.ts11.specs.Rows.{noRecord}
+use Rattle.ts11.specs.Rows.{no_record_of}
 use borrow.Author.Rules.{rules}
 use Rattle.ts11.proofs.shared.chosen.Statement.{statement}
 use Rattle.ts11.proofs.shared.chosen.Tie as tie
@@ -25,7 +25,7 @@ returns-5 : tie.Need-returns-5
 returns-5 c =
     let s = c.before.before in
     let a = s.args in
-    c.no_record.ensures ∙ past-four a.a a.b a.c a.d noRecord a.k c.before.match.rest.0.0.0.1 c.before.match.rest.0.0.1 c.before.match.rest.0.1 c.before.match.rest.1
+    c.no_record.ensures ∙ past_four a.a a.b a.c a.d no_record_of a.k c.before.match.rest.0.0.0.1 c.before.match.rest.0.0.1 c.before.match.rest.0.1 c.before.match.rest.1
 
 pub chosen-spec : {M : Type 1} → statement M
 chosen-spec =

@@ -1,5 +1,5 @@
 -- `length_of` is its definition.
-use Rattle.ts11.proofs.Backing.{past-four}
+use Rattle.ts11.proofs.Backing.{past_four}
 use borrow.Author.Rules.{rules}
 use Rattle.ts11.proofs.shared.length_of.Statement.{statement}
 use Rattle.ts11.proofs.shared.length_of.Tie as tie
@@ -20,7 +20,7 @@ returns-5 : tie.Need-returns-5
 returns-5 c =
     let s = c.before in
     let a = s.args in
-    past-four a.a a.b a.c a.d 0 a.k c.match.rest.0.0.0.1 c.match.rest.0.0.1 c.match.rest.0.1 c.match.rest.1
+    past_four a.a a.b a.c a.d 0 a.k c.match.rest.0.0.0.1 c.match.rest.0.0.1 c.match.rest.0.1 c.match.rest.1
 
 pub length-of-spec : {M : Type 1} → statement M
 length-of-spec =

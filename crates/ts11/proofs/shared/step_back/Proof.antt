@@ -1,7 +1,7 @@
 -- `step_back` meets its contract: the looks' refusal, the entry's own, or the newest entry brought back.
 use Rattle.entries.proofs.Joined.{entry_whole}
-use Rattle.entries.specs.Entries.{savedIn}
-use Rattle.ts11.proofs.Backing.{step-goes-back, step_keeps, step-long, step-ready, step-sizes, step-stops, step-touched}
+use Rattle.entries.specs.Entries.{saved_in}
+use Rattle.ts11.proofs.Backing.{step_goes_back, step_keeps, step_long, step_ready, step_sizes, step_stops, step_touched}
 use native.Mathlib.Omega.{arith}
 use borrow.Author.Rules.{rules}
 use Rattle.ts11.proofs.shared.step_back.Statement.{statement}
@@ -32,13 +32,13 @@ returns : tie.Need-returns
 returns c =
     let s = c.before.before.before.before.before.before.before.before.before.before.before.before.before.before.before.before.before.before.before in
     let a = s.args in
-    step-stops a.n a.a a.b a.c a.d a.shared.now a.memory.now a.journal.now a.reel0.now a.table0.now a.reel1.now a.table1.now a.reel2.now a.table2.now a.reel3.now a.table3.now _ _ _ _ _ _ c.before.before.before.before.before.before.before.coupler-in.ensures c.before.before.before.before.before.before.look.ensures c.before.before.before.before.before.look2.ensures c.before.before.before.before.look3.ensures c.before.before.before.look4.ensures c.before.before.looks-refusal.ensures _ c.before.if1.true c.kept.ensures
+    step_stops a.n a.a a.b a.c a.d a.shared.now a.memory.now a.journal.now a.reel0.now a.table0.now a.reel1.now a.table1.now a.reel2.now a.table2.now a.reel3.now a.table3.now _ _ _ _ _ _ c.before.before.before.before.before.before.before.coupler-in.ensures c.before.before.before.before.before.before.look.ensures c.before.before.before.before.before.look2.ensures c.before.before.before.before.look3.ensures c.before.before.before.look4.ensures c.before.before.looks-refusal.ensures _ c.before.if1.true c.kept.ensures
 
 named-requires : tie.Need-named-requires
 named-requires c κs =
     let s = c.before.before.before.before.before.before.before.before.before.before.before.before.before.before.before.before.before.before in
     let a = s.args in
-    step-long a.n a.a a.b a.c a.d a.shared.now a.memory.now a.journal.now a.reel0.now a.table0.now a.reel1.now a.table1.now a.reel2.now a.table2.now a.reel3.now a.table3.now _ _ _ _ _ _ c.before.before.before.before.before.before.coupler-in.ensures c.before.before.before.before.before.look.ensures c.before.before.before.before.look2.ensures c.before.before.before.look3.ensures c.before.before.look4.ensures c.before.looks-refusal.ensures c.if1.false
+    step_long a.n a.a a.b a.c a.d a.shared.now a.memory.now a.journal.now a.reel0.now a.table0.now a.reel1.now a.table1.now a.reel2.now a.table2.now a.reel3.now a.table3.now _ _ _ _ _ _ c.before.before.before.before.before.before.coupler-in.ensures c.before.before.before.before.before.look.ensures c.before.before.before.before.look2.ensures c.before.before.before.look3.ensures c.before.before.look4.ensures c.before.looks-refusal.ensures c.if1.false
 
 chosen-requires : tie.Need-chosen-requires
 chosen-requires c κs = search rules
@@ -53,7 +53,7 @@ newest-entry-requires : tie.Need-newest-entry-requires
 newest-entry-requires c κs =
     let s = c.before.before.before.before.before.before.before.before.before.before.before.before.before.before.before.before.before.before.before.before.before.before in
     let a = s.args in
-    let p = step-long a.n a.a a.b a.c a.d a.shared.now a.memory.now a.journal.now a.reel0.now a.table0.now a.reel1.now a.table1.now a.reel2.now a.table2.now a.reel3.now a.table3.now _ _ _ _ _ _ c.before.before.before.before.before.before.before.before.before.before.coupler-in.ensures c.before.before.before.before.before.before.before.before.before.look.ensures c.before.before.before.before.before.before.before.before.look2.ensures c.before.before.before.before.before.before.before.look3.ensures c.before.before.before.before.before.before.look4.ensures c.before.before.before.before.before.looks-refusal.ensures c.before.before.before.before.if1.false in
+    let p = step_long a.n a.a a.b a.c a.d a.shared.now a.memory.now a.journal.now a.reel0.now a.table0.now a.reel1.now a.table1.now a.reel2.now a.table2.now a.reel3.now a.table3.now _ _ _ _ _ _ c.before.before.before.before.before.before.before.before.before.before.coupler-in.ensures c.before.before.before.before.before.before.before.before.before.look.ensures c.before.before.before.before.before.before.before.before.look2.ensures c.before.before.before.before.before.before.before.look3.ensures c.before.before.before.before.before.before.look4.ensures c.before.before.before.before.before.looks-refusal.ensures c.before.before.before.before.if1.false in
     (omega (arith, p.0), p.1)
 
 length-of-requires : tie.Need-length-of-requires
@@ -66,7 +66,7 @@ undo-refusal-requires : tie.Need-undo-refusal-requires
 undo-refusal-requires c κs =
     let s = c.before.before.before.before.before.before.before.before.before.before.before.before.before.before.before.before.before.before.before.before.before.before.before.before.before in
     let a = s.args in
-    step-sizes a.n a.a a.b a.c a.d a.shared.now a.memory.now a.journal.now a.reel0.now a.table0.now a.reel1.now a.table1.now a.reel2.now a.table2.now a.reel3.now a.table3.now _ _ _ _ _ _ c.before.before.before.before.before.before.before.before.before.before.before.before.before.coupler-in.ensures c.before.before.before.before.before.before.before.before.before.before.before.before.look.ensures c.before.before.before.before.before.before.before.before.before.before.before.look2.ensures c.before.before.before.before.before.before.before.before.before.before.look3.ensures c.before.before.before.before.before.before.before.before.before.look4.ensures c.before.before.before.before.before.before.before.before.looks-refusal.ensures c.before.before.before.before.before.before.before.if1.false _ _ _ _ _ _ _ c.before.before.before.before.before.before.named.ensures c.before.before.before.before.before.chosen.ensures c.before.before.before.before.transport-in.ensures c.before.before.before.session-over.ensures c.before.before.newest-entry.ensures c.before.length-of.ensures c.length-of2.ensures
+    step_sizes a.n a.a a.b a.c a.d a.shared.now a.memory.now a.journal.now a.reel0.now a.table0.now a.reel1.now a.table1.now a.reel2.now a.table2.now a.reel3.now a.table3.now _ _ _ _ _ _ c.before.before.before.before.before.before.before.before.before.before.before.before.before.coupler-in.ensures c.before.before.before.before.before.before.before.before.before.before.before.before.look.ensures c.before.before.before.before.before.before.before.before.before.before.before.look2.ensures c.before.before.before.before.before.before.before.before.before.before.look3.ensures c.before.before.before.before.before.before.before.before.before.look4.ensures c.before.before.before.before.before.before.before.before.looks-refusal.ensures c.before.before.before.before.before.before.before.if1.false _ _ _ _ _ _ _ c.before.before.before.before.before.before.named.ensures c.before.before.before.before.before.chosen.ensures c.before.before.before.before.transport-in.ensures c.before.before.before.session-over.ensures c.before.before.newest-entry.ensures c.before.length-of.ensures c.length-of2.ensures
 
 kept-requires-2 : tie.Need-kept-requires-2
 kept-requires-2 c κs = search rules
@@ -81,13 +81,13 @@ entry-length-requires : tie.Need-entry-length-requires
 entry-length-requires c κs =
     let s = c.before.before.before.before.before.before.before.before.before.before.before.before.before.before.before.before.before.before.before.before.before.before.before.before.before.before.before in
     let a = s.args in
-    step-touched a.n a.a a.b a.c a.d a.shared.now a.memory.now a.journal.now a.reel0.now a.table0.now a.reel1.now a.table1.now a.reel2.now a.table2.now a.reel3.now a.table3.now _ _ _ _ _ _ c.before.before.before.before.before.before.before.before.before.before.before.before.before.before.before.coupler-in.ensures c.before.before.before.before.before.before.before.before.before.before.before.before.before.before.look.ensures c.before.before.before.before.before.before.before.before.before.before.before.before.before.look2.ensures c.before.before.before.before.before.before.before.before.before.before.before.before.look3.ensures c.before.before.before.before.before.before.before.before.before.before.before.look4.ensures c.before.before.before.before.before.before.before.before.before.before.looks-refusal.ensures c.before.before.before.before.before.before.before.before.before.if1.false _ _ _ _ _ _ _ c.before.before.before.before.before.before.before.before.named.ensures c.before.before.before.before.before.before.before.chosen.ensures c.before.before.before.before.before.before.transport-in.ensures c.before.before.before.before.before.session-over.ensures c.before.before.before.before.newest-entry.ensures c.before.before.before.length-of.ensures c.before.before.length-of2.ensures _ c.before.undo-refusal.ensures c.if2.false
+    step_touched a.n a.a a.b a.c a.d a.shared.now a.memory.now a.journal.now a.reel0.now a.table0.now a.reel1.now a.table1.now a.reel2.now a.table2.now a.reel3.now a.table3.now _ _ _ _ _ _ c.before.before.before.before.before.before.before.before.before.before.before.before.before.before.before.coupler-in.ensures c.before.before.before.before.before.before.before.before.before.before.before.before.before.before.look.ensures c.before.before.before.before.before.before.before.before.before.before.before.before.before.look2.ensures c.before.before.before.before.before.before.before.before.before.before.before.before.look3.ensures c.before.before.before.before.before.before.before.before.before.before.before.look4.ensures c.before.before.before.before.before.before.before.before.before.before.looks-refusal.ensures c.before.before.before.before.before.before.before.before.before.if1.false _ _ _ _ _ _ _ c.before.before.before.before.before.before.before.before.named.ensures c.before.before.before.before.before.before.before.chosen.ensures c.before.before.before.before.before.before.transport-in.ensures c.before.before.before.before.before.session-over.ensures c.before.before.before.before.newest-entry.ensures c.before.before.before.length-of.ensures c.before.before.length-of2.ensures _ c.before.undo-refusal.ensures c.if2.false
 
 sub_used : tie.Need-overflow-sub-used
 sub_used c =
     let s = c.before.before.before.before.before.before.before.before.before.before.before.before.before.before.before.before.before.before.before.before.before.before.before.before.before.before.before.before.before in
     let a = s.args in
-    let p = (step-ready a.n a.a a.b a.c a.d a.shared.now a.memory.now a.journal.now a.reel0.now a.table0.now a.reel1.now a.table1.now a.reel2.now a.table2.now a.reel3.now a.table3.now _ _ _ _ _ _ c.before.before.before.before.before.before.before.before.before.before.before.before.before.before.before.before.before.coupler-in.ensures c.before.before.before.before.before.before.before.before.before.before.before.before.before.before.before.before.look.ensures c.before.before.before.before.before.before.before.before.before.before.before.before.before.before.before.look2.ensures c.before.before.before.before.before.before.before.before.before.before.before.before.before.before.look3.ensures c.before.before.before.before.before.before.before.before.before.before.before.before.before.look4.ensures c.before.before.before.before.before.before.before.before.before.before.before.before.looks-refusal.ensures c.before.before.before.before.before.before.before.before.before.before.before.if1.false _ _ _ _ _ _ _ c.before.before.before.before.before.before.before.before.before.before.named.ensures c.before.before.before.before.before.before.before.before.before.chosen.ensures c.before.before.before.before.before.before.before.before.transport-in.ensures c.before.before.before.before.before.before.before.session-over.ensures c.before.before.before.before.before.before.newest-entry.ensures c.before.before.before.before.before.length-of.ensures c.before.before.before.before.length-of2.ensures _ c.before.before.before.undo-refusal.ensures c.before.before.if2.false).inside in
+    let p = (step_ready a.n a.a a.b a.c a.d a.shared.now a.memory.now a.journal.now a.reel0.now a.table0.now a.reel1.now a.table1.now a.reel2.now a.table2.now a.reel3.now a.table3.now _ _ _ _ _ _ c.before.before.before.before.before.before.before.before.before.before.before.before.before.before.before.before.before.coupler-in.ensures c.before.before.before.before.before.before.before.before.before.before.before.before.before.before.before.before.look.ensures c.before.before.before.before.before.before.before.before.before.before.before.before.before.before.before.look2.ensures c.before.before.before.before.before.before.before.before.before.before.before.before.before.before.look3.ensures c.before.before.before.before.before.before.before.before.before.before.before.before.before.look4.ensures c.before.before.before.before.before.before.before.before.before.before.before.before.looks-refusal.ensures c.before.before.before.before.before.before.before.before.before.before.before.if1.false _ _ _ _ _ _ _ c.before.before.before.before.before.before.before.before.before.before.named.ensures c.before.before.before.before.before.before.before.before.before.chosen.ensures c.before.before.before.before.before.before.before.before.transport-in.ensures c.before.before.before.before.before.before.before.session-over.ensures c.before.before.before.before.before.before.newest-entry.ensures c.before.before.before.before.before.length-of.ensures c.before.before.before.before.length-of2.ensures _ c.before.before.before.undo-refusal.ensures c.before.before.if2.false).inside in
     omega (arith, p, entry_whole c.before.before.before.before.before.before.newest-entry.result, c.before.entry_length.ensures)
 
 put-coupler-requires : tie.Need-put-coupler-requires
@@ -97,7 +97,7 @@ bring-back-at-requires : tie.Need-bring-back-at-requires
 bring-back-at-requires c κs =
     let s = c.before.before.before.before.before.before.before.before.before.before.before.before.before.before.before.before.before.before.before.before.before.before.before.before.before.before.before.before.before.before.before.before.before.before.before.before.before.before.before.before in
     let a = s.args in
-    step-ready a.n a.a a.b a.c a.d a.shared.now a.memory.now a.journal.now a.reel0.now a.table0.now a.reel1.now a.table1.now a.reel2.now a.table2.now a.reel3.now a.table3.now _ _ _ _ _ _ c.before.before.before.before.before.before.before.before.before.before.before.before.before.before.before.before.before.before.before.before.before.before.before.before.before.before.before.before.coupler-in.ensures c.before.before.before.before.before.before.before.before.before.before.before.before.before.before.before.before.before.before.before.before.before.before.before.before.before.before.before.look.ensures c.before.before.before.before.before.before.before.before.before.before.before.before.before.before.before.before.before.before.before.before.before.before.before.before.before.before.look2.ensures c.before.before.before.before.before.before.before.before.before.before.before.before.before.before.before.before.before.before.before.before.before.before.before.before.before.look3.ensures c.before.before.before.before.before.before.before.before.before.before.before.before.before.before.before.before.before.before.before.before.before.before.before.before.look4.ensures c.before.before.before.before.before.before.before.before.before.before.before.before.before.before.before.before.before.before.before.before.before.before.before.looks-refusal.ensures c.before.before.before.before.before.before.before.before.before.before.before.before.before.before.before.before.before.before.before.before.before.before.if1.false _ _ _ _ _ _ _ c.before.before.before.before.before.before.before.before.before.before.before.before.before.before.before.before.before.before.before.before.before.named.ensures c.before.before.before.before.before.before.before.before.before.before.before.before.before.before.before.before.before.before.before.before.chosen.ensures c.before.before.before.before.before.before.before.before.before.before.before.before.before.before.before.before.before.before.before.transport-in.ensures c.before.before.before.before.before.before.before.before.before.before.before.before.before.before.before.before.before.before.session-over.ensures c.before.before.before.before.before.before.before.before.before.before.before.before.before.before.before.before.before.newest-entry.ensures c.before.before.before.before.before.before.before.before.before.before.before.before.before.before.before.before.length-of.ensures c.before.before.before.before.before.before.before.before.before.before.before.before.before.before.before.length-of2.ensures _ c.before.before.before.before.before.before.before.before.before.before.before.before.before.before.undo-refusal.ensures c.before.before.before.before.before.before.before.before.before.before.before.before.before.if2.false
+    step_ready a.n a.a a.b a.c a.d a.shared.now a.memory.now a.journal.now a.reel0.now a.table0.now a.reel1.now a.table1.now a.reel2.now a.table2.now a.reel3.now a.table3.now _ _ _ _ _ _ c.before.before.before.before.before.before.before.before.before.before.before.before.before.before.before.before.before.before.before.before.before.before.before.before.before.before.before.before.coupler-in.ensures c.before.before.before.before.before.before.before.before.before.before.before.before.before.before.before.before.before.before.before.before.before.before.before.before.before.before.before.look.ensures c.before.before.before.before.before.before.before.before.before.before.before.before.before.before.before.before.before.before.before.before.before.before.before.before.before.before.look2.ensures c.before.before.before.before.before.before.before.before.before.before.before.before.before.before.before.before.before.before.before.before.before.before.before.before.before.look3.ensures c.before.before.before.before.before.before.before.before.before.before.before.before.before.before.before.before.before.before.before.before.before.before.before.before.look4.ensures c.before.before.before.before.before.before.before.before.before.before.before.before.before.before.before.before.before.before.before.before.before.before.before.looks-refusal.ensures c.before.before.before.before.before.before.before.before.before.before.before.before.before.before.before.before.before.before.before.before.before.before.if1.false _ _ _ _ _ _ _ c.before.before.before.before.before.before.before.before.before.before.before.before.before.before.before.before.before.before.before.before.before.named.ensures c.before.before.before.before.before.before.before.before.before.before.before.before.before.before.before.before.before.before.before.before.chosen.ensures c.before.before.before.before.before.before.before.before.before.before.before.before.before.before.before.before.before.before.before.transport-in.ensures c.before.before.before.before.before.before.before.before.before.before.before.before.before.before.before.before.before.before.session-over.ensures c.before.before.before.before.before.before.before.before.before.before.before.before.before.before.before.before.before.newest-entry.ensures c.before.before.before.before.before.before.before.before.before.before.before.before.before.before.before.before.length-of.ensures c.before.before.before.before.before.before.before.before.before.before.before.before.before.before.before.length-of2.ensures _ c.before.before.before.before.before.before.before.before.before.before.before.before.before.before.undo-refusal.ensures c.before.before.before.before.before.before.before.before.before.before.before.before.before.if2.false
 
 given-back-requires : tie.Need-given-back-requires
 given-back-requires c κs = search rules
@@ -130,11 +130,11 @@ same-length-9 : tie.Need-same-length-9
 same-length-9 c = search rules
 
 returns-3 : tie.Need-returns-3
-unfolding savedIn
+unfolding saved_in
 returns-3 c =
     let s = c.before.before.before.before.before.before.before.before.before.before.before.before.before.before.before.before.before.before.before.before.before.before.before.before.before.before.before.before.before.before.before.before.before.before.before.before.before.before.before.before.before.before.before.before.before.before.before.before.before.before.before.before.before.before.before.before.before.before.before.before in
     let a = s.args in
-    step-goes-back a.n a.a a.b a.c a.d a.shared.now a.memory.now a.journal.now a.reel0.now a.table0.now a.reel1.now a.table1.now a.reel2.now a.table2.now a.reel3.now a.table3.now _ _ _ _ _ _ c.before.before.before.before.before.before.before.before.before.before.before.before.before.before.before.before.before.before.before.before.before.before.before.before.before.before.before.before.before.before.before.before.before.before.before.before.before.before.before.before.before.before.before.before.before.before.before.before.coupler-in.ensures c.before.before.before.before.before.before.before.before.before.before.before.before.before.before.before.before.before.before.before.before.before.before.before.before.before.before.before.before.before.before.before.before.before.before.before.before.before.before.before.before.before.before.before.before.before.before.before.look.ensures c.before.before.before.before.before.before.before.before.before.before.before.before.before.before.before.before.before.before.before.before.before.before.before.before.before.before.before.before.before.before.before.before.before.before.before.before.before.before.before.before.before.before.before.before.before.before.look2.ensures c.before.before.before.before.before.before.before.before.before.before.before.before.before.before.before.before.before.before.before.before.before.before.before.before.before.before.before.before.before.before.before.before.before.before.before.before.before.before.before.before.before.before.before.before.before.look3.ensures c.before.before.before.before.before.before.before.before.before.before.before.before.before.before.before.before.before.before.before.before.before.before.before.before.before.before.before.before.before.before.before.before.before.before.before.before.before.before.before.before.before.before.before.before.look4.ensures c.before.before.before.before.before.before.before.before.before.before.before.before.before.before.before.before.before.before.before.before.before.before.before.before.before.before.before.before.before.before.before.before.before.before.before.before.before.before.before.before.before.before.before.looks-refusal.ensures c.before.before.before.before.before.before.before.before.before.before.before.before.before.before.before.before.before.before.before.before.before.before.before.before.before.before.before.before.before.before.before.before.before.before.before.before.before.before.before.before.before.before.if1.false _ _ _ _ _ _ _ c.before.before.before.before.before.before.before.before.before.before.before.before.before.before.before.before.before.before.before.before.before.before.before.before.before.before.before.before.before.before.before.before.before.before.before.before.before.before.before.before.before.named.ensures c.before.before.before.before.before.before.before.before.before.before.before.before.before.before.before.before.before.before.before.before.before.before.before.before.before.before.before.before.before.before.before.before.before.before.before.before.before.before.before.before.chosen.ensures c.before.before.before.before.before.before.before.before.before.before.before.before.before.before.before.before.before.before.before.before.before.before.before.before.before.before.before.before.before.before.before.before.before.before.before.before.before.before.before.transport-in.ensures c.before.before.before.before.before.before.before.before.before.before.before.before.before.before.before.before.before.before.before.before.before.before.before.before.before.before.before.before.before.before.before.before.before.before.before.before.before.before.session-over.ensures c.before.before.before.before.before.before.before.before.before.before.before.before.before.before.before.before.before.before.before.before.before.before.before.before.before.before.before.before.before.before.before.before.before.before.before.before.before.newest-entry.ensures c.before.before.before.before.before.before.before.before.before.before.before.before.before.before.before.before.before.before.before.before.before.before.before.before.before.before.before.before.before.before.before.before.before.before.before.before.length-of.ensures c.before.before.before.before.before.before.before.before.before.before.before.before.before.before.before.before.before.before.before.before.before.before.before.before.before.before.before.before.before.before.before.before.before.before.before.length-of2.ensures _ c.before.before.before.before.before.before.before.before.before.before.before.before.before.before.before.before.before.before.before.before.before.before.before.before.before.before.before.before.before.before.before.before.before.before.undo-refusal.ensures c.before.before.before.before.before.before.before.before.before.before.before.before.before.before.before.before.before.before.before.before.before.before.before.before.before.before.before.before.before.before.before.before.before.if2.false _ _ _ _ _ c.before.before.before.before.before.before.before.before.before.before.before.before.before.before.before.before.before.before.before.before.before.before.before.before.before.before.before.before.before.before.before.before.entry_length.ensures c.before.before.before.before.before.before.before.before.before.before.before.before.before.before.before.before.before.before.before.before.before.before.before.before.before.before.before.before.before.put-coupler.ensures c.before.before.before.before.before.before.before.before.before.before.before.before.before.before.before.before.before.before.before.bring-back-at.ensures c.given_back.ensures
+    step_goes_back a.n a.a a.b a.c a.d a.shared.now a.memory.now a.journal.now a.reel0.now a.table0.now a.reel1.now a.table1.now a.reel2.now a.table2.now a.reel3.now a.table3.now _ _ _ _ _ _ c.before.before.before.before.before.before.before.before.before.before.before.before.before.before.before.before.before.before.before.before.before.before.before.before.before.before.before.before.before.before.before.before.before.before.before.before.before.before.before.before.before.before.before.before.before.before.before.before.coupler-in.ensures c.before.before.before.before.before.before.before.before.before.before.before.before.before.before.before.before.before.before.before.before.before.before.before.before.before.before.before.before.before.before.before.before.before.before.before.before.before.before.before.before.before.before.before.before.before.before.before.look.ensures c.before.before.before.before.before.before.before.before.before.before.before.before.before.before.before.before.before.before.before.before.before.before.before.before.before.before.before.before.before.before.before.before.before.before.before.before.before.before.before.before.before.before.before.before.before.before.look2.ensures c.before.before.before.before.before.before.before.before.before.before.before.before.before.before.before.before.before.before.before.before.before.before.before.before.before.before.before.before.before.before.before.before.before.before.before.before.before.before.before.before.before.before.before.before.before.look3.ensures c.before.before.before.before.before.before.before.before.before.before.before.before.before.before.before.before.before.before.before.before.before.before.before.before.before.before.before.before.before.before.before.before.before.before.before.before.before.before.before.before.before.before.before.before.look4.ensures c.before.before.before.before.before.before.before.before.before.before.before.before.before.before.before.before.before.before.before.before.before.before.before.before.before.before.before.before.before.before.before.before.before.before.before.before.before.before.before.before.before.before.before.looks-refusal.ensures c.before.before.before.before.before.before.before.before.before.before.before.before.before.before.before.before.before.before.before.before.before.before.before.before.before.before.before.before.before.before.before.before.before.before.before.before.before.before.before.before.before.before.if1.false _ _ _ _ _ _ _ c.before.before.before.before.before.before.before.before.before.before.before.before.before.before.before.before.before.before.before.before.before.before.before.before.before.before.before.before.before.before.before.before.before.before.before.before.before.before.before.before.before.named.ensures c.before.before.before.before.before.before.before.before.before.before.before.before.before.before.before.before.before.before.before.before.before.before.before.before.before.before.before.before.before.before.before.before.before.before.before.before.before.before.before.before.chosen.ensures c.before.before.before.before.before.before.before.before.before.before.before.before.before.before.before.before.before.before.before.before.before.before.before.before.before.before.before.before.before.before.before.before.before.before.before.before.before.before.before.transport-in.ensures c.before.before.before.before.before.before.before.before.before.before.before.before.before.before.before.before.before.before.before.before.before.before.before.before.before.before.before.before.before.before.before.before.before.before.before.before.before.before.session-over.ensures c.before.before.before.before.before.before.before.before.before.before.before.before.before.before.before.before.before.before.before.before.before.before.before.before.before.before.before.before.before.before.before.before.before.before.before.before.before.newest-entry.ensures c.before.before.before.before.before.before.before.before.before.before.before.before.before.before.before.before.before.before.before.before.before.before.before.before.before.before.before.before.before.before.before.before.before.before.before.before.length-of.ensures c.before.before.before.before.before.before.before.before.before.before.before.before.before.before.before.before.before.before.before.before.before.before.before.before.before.before.before.before.before.before.before.before.before.before.before.length-of2.ensures _ c.before.before.before.before.before.before.before.before.before.before.before.before.before.before.before.before.before.before.before.before.before.before.before.before.before.before.before.before.before.before.before.before.before.before.undo-refusal.ensures c.before.before.before.before.before.before.before.before.before.before.before.before.before.before.before.before.before.before.before.before.before.before.before.before.before.before.before.before.before.before.before.before.before.if2.false _ _ _ _ _ c.before.before.before.before.before.before.before.before.before.before.before.before.before.before.before.before.before.before.before.before.before.before.before.before.before.before.before.before.before.before.before.before.entry_length.ensures c.before.before.before.before.before.before.before.before.before.before.before.before.before.before.before.before.before.before.before.before.before.before.before.before.before.before.before.before.before.put-coupler.ensures c.before.before.before.before.before.before.before.before.before.before.before.before.before.before.before.before.before.before.before.bring-back-at.ensures c.given_back.ensures
 
 pub step-back-spec : {M : Type 1} → statement M
 step-back-spec =

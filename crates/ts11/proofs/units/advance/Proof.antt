@@ -1,5 +1,5 @@
 -- `advance` meets its contract: as the other calls, and its answer is told beside its number.
-use Rattle.ts11.proofs.Ways.{step-told, stops-told}
+use Rattle.ts11.proofs.Ways.{step_told_lem, stops_told}
 use borrow.Author.Rules.{rules}
 use Rattle.ts11.proofs.units.advance.Statement.{statement}
 use Rattle.ts11.proofs.units.advance.Tie as tie
@@ -11,7 +11,7 @@ no-record-requires : tie.Need-no-record-requires
 no-record-requires c κs = search rules
 
 returns : tie.Need-returns
-returns c = stops-told _ _ _ _ _ _ _ _ c.before.before.record-right.ensures c.before.if1.true _ _ c.no_record.ensures
+returns c = stops_told _ _ _ _ _ _ _ _ c.before.before.record-right.ensures c.before.if1.true _ _ c.no_record.ensures
 
 session-in-requires : tie.Need-session-in-requires
 session-in-requires c κs = search rules
@@ -47,7 +47,7 @@ same-length-4 : tie.Need-same-length-4
 same-length-4 c = search rules
 
 returns-2 : tie.Need-returns-2
-returns-2 c = step-told _ _ _ _ _ _ _ _ c.before.before.before.before.before.before.before.before.before.before.before.before.before.before.before.before.before.before.before.before.before.before.record-right.ensures _ _ _ _ _ _ c.before.before.before.before.before.before.before.before.before.before.before.before.before.before.before.before.before.before.before.before.before.if1.false c.before.before.before.before.before.before.before.before.before.before.before.before.before.before.before.before.before.before.before.session-in.ensures _ c.before.before.before.before.before.before.before.before.before.before.before.before.before.before.advance.ensures _ _ c.close.ensures c.before.before.before.before.before.is-step.ensures c.before.before.before.before.interrupts.ensures c.before.before.before.block_in.ensures c.before.before.fault-in.ensures
+returns-2 c = step_told_lem _ _ _ _ _ _ _ _ c.before.before.before.before.before.before.before.before.before.before.before.before.before.before.before.before.before.before.before.before.before.before.record-right.ensures _ _ _ _ _ _ c.before.before.before.before.before.before.before.before.before.before.before.before.before.before.before.before.before.before.before.before.before.if1.false c.before.before.before.before.before.before.before.before.before.before.before.before.before.before.before.before.before.before.before.session-in.ensures _ c.before.before.before.before.before.before.before.before.before.before.before.before.before.before.advance.ensures _ _ c.close.ensures c.before.before.before.before.before.is-step.ensures c.before.before.before.before.interrupts.ensures c.before.before.before.block_in.ensures c.before.before.fault-in.ensures
 
 pub advance-spec : {M : Type 1} → statement M
 advance-spec =

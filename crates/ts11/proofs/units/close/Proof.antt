@@ -1,5 +1,5 @@
 -- `close` meets its contract: after a step the session's parts are put back, else nothing is.
-use Rattle.ts11.proofs.Ways.{closes-done, closes_kept}
+use Rattle.ts11.proofs.Ways.{closes_done, closes_kept}
 use borrow.Author.Rules.{rules}
 use Rattle.ts11.proofs.units.close.Statement.{statement}
 use Rattle.ts11.proofs.units.close.Tie as tie
@@ -23,7 +23,7 @@ number-in-requires : tie.Need-number-in-requires
 number-in-requires c κs = search rules
 
 returns : tie.Need-returns
-returns c = closes-done _ _ _ _ _ _ _ _ _ c.before.before.before.before.before.enum_told.given.1 c.before.transport-of.ensures c.before.before.before.coupler-of.ensures c.record_of.ensures c.before.before.put-coupler.ensures
+returns c = closes_done _ _ _ _ _ _ _ _ _ c.before.before.before.before.before.enum_told.given.1 c.before.transport-of.ensures c.before.before.before.coupler-of.ensures c.record_of.ensures c.before.before.put-coupler.ensures
 
 returns-2 : tie.Need-returns-2
 returns-2 c = closes_kept _ _ _ _ _ c.before.match.keys2 c.number_in.ensures

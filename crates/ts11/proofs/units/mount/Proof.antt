@@ -1,6 +1,6 @@
 -- `mount` meets its contract: what the journal's mount hands back is closed.
 use lib.ListN.{length}
-use Rattle.worlds.specs.Calls.{mountOn}
+use Rattle.worlds.specs.Calls.{mount_on}
 use Rattle.worlds.specs.declared.Session.{Session}
 use Rattle.ts11.proofs.Ways.{mounts}
 use borrow.Author.Rules.{rules}
@@ -28,7 +28,7 @@ same_length c = search rules
 returns : tie.Need-returns
 returns c =
     let a = c.before.before.before.before.before.before.before.before.before.before.before.before.args in
-    mounts (λ (s : Session). mountOn s a.memory-length a.reel.now (length a.table.now) a.journal-length a.end a.online a.locked) _ _ _ _ _ _ _ _ _ _ _ c.before.before.before.before.before.before.before.before.session-in.ensures c.before.before.before.before.before.before.mount.ensures.0 c.before.before.before.before.before.before.mount.ensures.1 c.close.ensures c.before.before.before.block_in.ensures c.before.before.fault-in.ensures
+    mounts (λ (s : Session). mount_on s a.memory-length a.reel.now (length a.table.now) a.journal-length a.end a.online a.locked) _ _ _ _ _ _ _ _ _ _ _ c.before.before.before.before.before.before.before.before.session-in.ensures c.before.before.before.before.before.before.mount.ensures.0 c.before.before.before.before.before.before.mount.ensures.1 c.close.ensures c.before.before.before.block_in.ensures c.before.before.fault-in.ensures
 
 pub mount-spec : {M : Type 1} → statement M
 mount-spec =

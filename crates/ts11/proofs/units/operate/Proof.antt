@@ -1,7 +1,7 @@
 -- `operate` meets its contract: refused with 1 where the numbers are no transport's record, else what the journal's call leaves.
 use mathlib.Core.Path.{ap}
 use Rattle.unit.specs.Asks.{Ask}
-use Rattle.ts11.proofs.Ways.{asked, step-goes, step-stops}
+use Rattle.ts11.proofs.Ways.{asked, step_goes, step_stops}
 use borrow.Author.Rules.{rules}
 use Rattle.ts11.proofs.units.operate.Statement.{statement}
 use Rattle.ts11.proofs.units.operate.Tie as tie
@@ -13,7 +13,7 @@ no-record-requires : tie.Need-no-record-requires
 no-record-requires c κs = search rules
 
 returns : tie.Need-returns
-returns c = step-stops _ _ _ _ _ _ _ _ c.before.before.record-right.ensures c.before.if1.true _ _ c.no_record.ensures
+returns c = step_stops _ _ _ _ _ _ _ _ c.before.before.record-right.ensures c.before.if1.true _ _ c.no_record.ensures
 
 session-in-requires : tie.Need-session-in-requires
 session-in-requires c κs = search rules
@@ -37,7 +37,7 @@ same-length-3 : tie.Need-same-length-3
 same-length-3 c = search rules
 
 returns-2 : tie.Need-returns-2
-returns-2 c = step-goes _ _ _ _ _ _ _ _ c.before.before.before.before.before.before.before.before.before.before.before.before.before.before.before.before.record-right.ensures _ _ _ _ _ _ c.before.before.before.before.before.before.before.before.before.before.before.before.before.before.before.if1.false c.before.before.before.before.before.before.before.before.before.before.before.before.before.session-in.ensures _ (asked _ _ _ _ _ _ _ _ _ _ (ap Ask.operate c.before.before.before.before.before.before.before.before.before.act-of.ensures) c.before.before.before.before.before.before.before.before.operate.ensures) _ _ c.close.ensures
+returns-2 c = step_goes _ _ _ _ _ _ _ _ c.before.before.before.before.before.before.before.before.before.before.before.before.before.before.before.before.record-right.ensures _ _ _ _ _ _ c.before.before.before.before.before.before.before.before.before.before.before.before.before.before.before.if1.false c.before.before.before.before.before.before.before.before.before.before.before.before.before.session-in.ensures _ (asked _ _ _ _ _ _ _ _ _ _ (ap Ask.operate c.before.before.before.before.before.before.before.before.before.act-of.ensures) c.before.before.before.before.before.before.before.before.operate.ensures) _ _ c.close.ensures
 
 pub operate-spec : {M : Type 1} → statement M
 operate-spec =

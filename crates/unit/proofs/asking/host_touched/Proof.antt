@@ -1,11 +1,11 @@
 -- `host_touched` is its definition.
-use Rattle.unit.specs.Touching.{hostTouched}
+use Rattle.unit.specs.Touching.{host_touched}
 use mathlib.Core.Path.{refl}
 use Rattle.unit.proofs.asking.host_touched.Statement.{statement}
 use Rattle.unit.proofs.asking.host_touched.Tie as tie
 
 returns : tie.Need-returns
-unfolding hostTouched
+unfolding host_touched
 returns c = refl
 
 pub host-touched-spec : {M : Type 1} → statement M

@@ -1,7 +1,7 @@
 -- `laid_places` meets its contract.
 use borrow.Author.Rules.{rules}
 use native.Mathlib.Omega.{arith}
-use Rattle.unit.specs.Touching.{laidPlaces}
+use Rattle.unit.specs.Touching.{laid_places}
 use Rattle.unit.proofs.asking.laid_places.Statement.{statement}
 use Rattle.unit.proofs.asking.laid_places.Tie as tie
 
@@ -12,11 +12,11 @@ add-result : tie.Need-overflow-add-result
 add-result c = search rules
 
 returns : tie.Need-returns
-unfolding laidPlaces
+unfolding laid_places
 returns c = (rw (c.if1.true, c.before.object-places.ensures.0), omega arith)
 
 returns-2 : tie.Need-returns-2
-unfolding laidPlaces
+unfolding laid_places
 returns-2 c = (rw c.if1.false c.before.object-places.ensures.0, omega arith)
 
 pub laid-places-spec : {M : Type 1} → statement M

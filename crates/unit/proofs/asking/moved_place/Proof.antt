@@ -1,5 +1,5 @@
 -- `moved_place`: a short record read in reverse lies at the high end.
-use Rattle.unit.proofs.Moving.{place-high, place-low, short}
+use Rattle.unit.proofs.Moving.{place_high, place_low, short}
 use native.Mathlib.Omega.{arith}
 use borrow.Author.Rules.{rules}
 use Rattle.unit.proofs.asking.moved_place.Statement.{statement}
@@ -15,10 +15,10 @@ add-result : tie.Need-overflow-add-result
 add-result c = search rules
 
 returns : tie.Need-returns
-returns c = place-high c.before.before.before.before.before.before.args.m c.before.before.if1.true
+returns c = place_high c.before.before.before.before.before.before.args.m c.before.before.if1.true
 
 returns-2 : tie.Need-returns-2
-returns-2 c = place-low c.before.before.before.before.args.m c.if1.false
+returns-2 c = place_low c.before.before.before.before.args.m c.if1.false
 
 pub moved-place-spec : {M : Type 1} → statement M
 moved-place-spec = tie.close (tie.spec cast-count sub-result add-result returns returns-2)

@@ -1,7 +1,7 @@
 -- `object_places` meets its contract: an arm for each object.
 use borrow.Author.Rules.{rules}
 use native.Mathlib.Omega.{arith}
-use Rattle.unit.specs.Touching.{objectPlaces}
+use Rattle.unit.specs.Touching.{object_places}
 use Rattle.unit.proofs.asking.object_places.Statement.{statement}
 use Rattle.unit.proofs.asking.object_places.Tie as tie
 
@@ -18,19 +18,19 @@ enum-told-4 : tie.Need-enum-told-4
 enum-told-4 c = search rules
 
 returns : tie.Need-returns
-unfolding objectPlaces
+unfolding object_places
 returns c = (rw c.enum_told.given.1, omega arith)
 
 returns-2 : tie.Need-returns-2
-unfolding objectPlaces
+unfolding object_places
 returns-2 c = (rw c.enum-told2.given.1, omega arith)
 
 returns-3 : tie.Need-returns-3
-unfolding objectPlaces
+unfolding object_places
 returns-3 c = (rw c.enum-told3.given.1, omega arith)
 
 returns-4 : tie.Need-returns-4
-unfolding objectPlaces
+unfolding object_places
 returns-4 c = (rw c.enum-told4.given.1, omega arith)
 
 pub object-places-spec : {M : Type 1} → statement M

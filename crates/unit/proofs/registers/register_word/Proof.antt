@@ -1,5 +1,5 @@
 -- `register_word`: each arm returns its register's word.
-use Rattle.unit.specs.Registers.{registerWord}
+use Rattle.unit.specs.Registers.{register_word}
 use borrow.Author.Rules.{rules}
 use Rattle.unit.proofs.registers.register_word.Statement.{statement}
 use Rattle.unit.proofs.registers.register_word.Tie as tie
@@ -17,11 +17,11 @@ tssr-requires : tie.Need-tssr-requires
 tssr-requires c κs = search rules
 
 returns : tie.Need-returns
-unfolding registerWord
+unfolding register_word
 returns c = rw (c.before.enum_told.given.1, ← c.tsba.ensures)
 
 returns-2 : tie.Need-returns-2
-unfolding registerWord
+unfolding register_word
 returns-2 c = rw (c.before.enum-told2.given.1, ← c.tssr.ensures)
 
 pub register-word-spec : {M : Type 1} → statement M

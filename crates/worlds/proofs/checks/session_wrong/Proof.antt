@@ -1,5 +1,5 @@
 -- `session_wrong` is its definition, by the call that looks at the state.
-use Rattle.worlds.specs.Refusals.{sessionWrong}
+use Rattle.worlds.specs.Refusals.{session_wrong}
 use borrow.Author.Rules.{rules}
 use Rattle.worlds.proofs.checks.session_wrong.Statement.{statement}
 use Rattle.worlds.proofs.checks.session_wrong.Tie as tie
@@ -8,7 +8,7 @@ state-wrong-requires : tie.Need-state-wrong-requires
 state-wrong-requires c κs = search rules
 
 returns : tie.Need-returns
-unfolding sessionWrong
+unfolding session_wrong
 returns c = rw c.before.before.state-wrong.ensures
 
 pub session-wrong-spec : {M : Type 1} → statement M
