@@ -1,4 +1,6 @@
 // Advance, in order: what an advance is about to store, as a value.
+#![tactic(auto)]
+
 mod steps;
 
 pub use steps::plan_advance;

@@ -1,4 +1,6 @@
 // One block of the reel: read as what it is, and laid.
+#![tactic(auto)]
+
 mod lay;
 mod read;
 mod sum;

@@ -1,4 +1,6 @@
 // The commands carried out, and how an end is told: state, message, interrupt.
+#![tactic(auto)]
+
 mod carried;
 mod ends;
 mod plans;

@@ -4,7 +4,7 @@ use state::Unit;
 use tape::BlockFault;
 
 // The answers of the calls; a definition in specs/ gives each its number.
-#[derive(Drop)]
+#[derive(Clone, Copy)]
 pub enum Answer {
     // Whether it interrupts.
     Done(bool),
@@ -16,7 +16,7 @@ pub enum Answer {
 }
 
 // Whether an advance tells how it ended.
-#[derive(Drop)]
+#[derive(Clone, Copy)]
 pub enum How {
     // With a message, if the unit has a buffer for it.
     Told(Motion),
@@ -26,7 +26,7 @@ pub enum How {
 
 // What an advance comes to, before its plan is made of it: the state that it ends from, whether it interrupts, and how it ends. Every way
 // through an advance meets here in one small value, so that the plan is made in one place.
-#[derive(Drop)]
+#[derive(Clone, Copy)]
 pub struct Course {
     pub unit: Unit,
     pub ie: bool,
@@ -34,7 +34,7 @@ pub struct Course {
 }
 
 // All that a step is about to store.
-#[derive(Drop)]
+#[derive(Clone, Copy)]
 pub struct Plan {
     pub answer: Answer,
     pub unit: Unit,

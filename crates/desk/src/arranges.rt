@@ -14,7 +14,7 @@ use results::with_field;
 use worlds::no_transport;
 
 // Places from which and to which the buffers go back to zero.
-#[derive(Drop)]
+#[derive(Clone, Copy)]
 pub struct Span {
     pub from: Sizes,
     pub to: Sizes,

@@ -21,7 +21,7 @@ pub const REEL_ROOM: usize = 131072;
 pub const TABLE_ROOM: usize = 4096;
 
 // A unit's record, the sizes of its reel and its table, and its cursor.
-#[derive(Drop)]
+#[derive(Clone, Copy)]
 pub struct Station {
     pub transport: Transport,
     pub reel: usize,
@@ -29,7 +29,7 @@ pub struct Station {
     pub cursor: usize,
 }
 
-#[derive(Drop)]
+#[derive(Clone, Copy)]
 pub struct Bench {
     pub stations: [Station; 5],
     // How many records the row has.

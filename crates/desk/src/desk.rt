@@ -7,7 +7,7 @@ use lines::Sizes;
 use script::wipe;
 use worlds::Session;
 
-#[derive(Drop)]
+#[derive(Clone, Copy)]
 pub struct Desk {
     pub session: Session,
     pub sizes: Sizes,

@@ -1,4 +1,6 @@
 // The bench that the lines of a session script change, and what each line does to it and to the buffers, but for the calls.
+#![tactic(auto)]
+
 mod arranges;
 mod bench;
 mod builds;
@@ -17,7 +19,7 @@ use script::Fault;
 pub use tables::tabled;
 
 // What a line has printed.
-#[derive(Drop)]
+#[derive(Clone, Copy)]
 pub enum Said {
     Nothing,
     // The line itself.
@@ -31,14 +33,14 @@ pub enum Said {
 }
 
 // What a line of one unit came to.
-#[derive(Drop)]
+#[derive(Clone, Copy)]
 pub struct Turn {
     pub desk: Desk,
     pub said: Said,
 }
 
 // What a line came to.
-#[derive(Drop)]
+#[derive(Clone, Copy)]
 pub struct Round {
     pub bench: Bench,
     pub said: Said,

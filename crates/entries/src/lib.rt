@@ -1,5 +1,7 @@
 // What a journal entry keeps: the whole state before the step, and the bytes at the places that the step touches. It can be read from both
 // ends: its length stands at its front, and its head at its end.
+#![tactic(auto)]
+
 mod bytes;
 mod entering;
 mod numbers;
@@ -13,7 +15,7 @@ use state::Unit;
 use touched::Touched;
 
 // Which transport took a step, its state before it with the used places of the table, and what the step touches. A host store's names none.
-#[derive(Drop)]
+#[derive(Clone, Copy)]
 pub struct Entry {
     pub unit: Unit,
     pub objects: usize,

@@ -39,3 +39,4 @@
 //
 // A session is a log over any machine with a law of undo (crates/sessions/specs/Session.antt); specs/Calling.antt makes the calls over the row that machine, and `lawful`
 // (proofs/Undone.antt) is that law, whichever transports are asked to be good.
+#![tactic(auto)]

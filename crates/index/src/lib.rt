@@ -1,5 +1,7 @@
 // A table beside the reel: eight bytes for each object, its first block and the number of marks before it. A mount fills it, writes cut and extend
 // it, and two look-ups find a file or a block in it by halving.
+#![tactic(auto)]
+
 mod cutting;
 mod filling;
 mod finding;
@@ -17,14 +19,14 @@ pub const PLACE: usize = 8;
 pub const PLACES_LIMIT: usize = 4294967295;
 
 // Where a write cuts the table: the first place that goes, and the marks before the object that it is then for.
-#[derive(Drop)]
+#[derive(Clone, Copy)]
 pub struct Cut {
     pub place: usize,
     pub marks: u32,
 }
 
 // What a look-up finds: a place of the table, or that there is none.
-#[derive(Drop)]
+#[derive(Clone, Copy)]
 pub enum Found {
     At(usize),
     Nowhere,

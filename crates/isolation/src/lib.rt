@@ -9,3 +9,4 @@
 //              messages, reel, table, position and answers                  isolated         proofs/Isolated.antt, specs/Runs.antt
 //              which holds where what the unit may read lies apart from
 //              what the others store                                        apart            proofs/Aparts.antt
+#![tactic(auto)]

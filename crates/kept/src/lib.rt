@@ -1,1 +1,2 @@
 // Laws only: an advance keeps the reel well formed and the position a bound.
+#![tactic(auto)]

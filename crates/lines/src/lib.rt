@@ -1,4 +1,6 @@
 // A line of a session script as a value: what it asks for, its words and numbers read.
+#![tactic(auto)]
+
 mod arranges;
 mod builds;
 mod calls;
@@ -17,7 +19,7 @@ use state::Act;
 pub use texts::line_of;
 
 // In bytes.
-#[derive(Drop)]
+#[derive(Clone, Copy)]
 pub struct Sizes {
     pub memory: usize,
     pub reel: usize,
@@ -26,7 +28,7 @@ pub struct Sizes {
 }
 
 // Lines that set the desk up.
-#[derive(Drop)]
+#[derive(Clone, Copy)]
 pub enum Arrange {
     Case,
     Sizes(Sizes),
@@ -42,7 +44,7 @@ pub enum Arrange {
 }
 
 // Lines that put bytes into memory or reel with no call: at a place, in a block, or at the cursor.
-#[derive(Drop)]
+#[derive(Clone, Copy)]
 pub enum Build {
     Poke(usize),
     PokeWord(usize, usize),
@@ -54,14 +56,14 @@ pub enum Build {
 }
 
 // Lines about the table with no call: its length, or bytes at a place.
-#[derive(Drop)]
+#[derive(Clone, Copy)]
 pub enum Table {
     Index(usize),
     Poke(usize),
 }
 
 // A step that is asked for.
-#[derive(Drop)]
+#[derive(Clone, Copy)]
 pub enum Ask {
     WriteTsdb(u16),
     WriteTssr,
@@ -71,7 +73,7 @@ pub enum Ask {
     Advance,
 }
 
-#[derive(Drop)]
+#[derive(Clone, Copy)]
 pub enum Call {
     // The recorded end; whether on line; whether locked.
     Mount(usize, bool, bool),
@@ -81,7 +83,7 @@ pub enum Call {
     StepBack,
 }
 
-#[derive(Drop)]
+#[derive(Clone, Copy)]
 pub enum Does {
     Nothing,
     Arranges(Arrange),
@@ -92,7 +94,7 @@ pub enum Does {
 }
 
 // The bytes that a line gives: none, those of a word, or so many made from a seed.
-#[derive(Drop)]
+#[derive(Clone, Copy)]
 pub enum Given {
     Nothing,
     Word(usize),
@@ -100,7 +102,7 @@ pub enum Given {
 }
 
 // The unit that a line is for, and where the line proper starts in its text.
-#[derive(Drop)]
+#[derive(Clone, Copy)]
 pub struct Prefix {
     pub unit: usize,
     pub from: usize,
@@ -108,7 +110,7 @@ pub struct Prefix {
     pub fits: bool,
 }
 
-#[derive(Drop)]
+#[derive(Clone, Copy)]
 pub struct Line {
     pub does: Does,
     pub given: Given,

@@ -1,4 +1,6 @@
 // The listing of a reel image. What it prints is made in a lent buffer, and proved there; a thin write goes on top.
+#![tactic(auto)]
+
 mod prints;
 
 ghost use Rattle.std.specs.Prelude.{◌≡◌, length};

@@ -1,4 +1,6 @@
 // Lists each image of data/, so that the gate sees every answer of the listing, at its limits too.
+#![tactic(auto)]
+
 use libc::STDOUT_FILENO;
 
 fn list_named(name: &[u8]) {

@@ -1,4 +1,6 @@
 // Bytes in lent slices: words and longer numbers, and runs of bytes that go to places in memory, swapped or not.
+#![tactic(auto)]
+
 mod numbers;
 mod places;
 mod runs;

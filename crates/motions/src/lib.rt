@@ -1,4 +1,6 @@
 // The commands that move the tape: how each ends, where the tape stands, what is moved and laid.
+#![tactic(auto)]
+
 mod parts;
 mod reads;
 mod spaces;

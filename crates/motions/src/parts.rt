@@ -8,7 +8,7 @@ use state::Tape;
 use tape::BlockFault;
 
 // The bytes that a Read moves: of the record of `length` bytes at block `first`, to a buffer of `count` bytes at `pointer`.
-#[derive(Drop)]
+#[derive(Clone, Copy)]
 pub struct Moved {
     pub first: usize,
     pub length: usize,
@@ -18,7 +18,7 @@ pub struct Moved {
     pub swb: bool,
 }
 
-#[derive(Drop)]
+#[derive(Clone, Copy)]
 pub enum ObjectKind {
     Nothing,
     Mark,
@@ -28,7 +28,7 @@ pub enum ObjectKind {
 }
 
 // What is laid at block `at`: for a retry a gap first, then the object.
-#[derive(Drop)]
+#[derive(Clone, Copy)]
 pub struct Laid {
     pub at: usize,
     pub gap_first: bool,
@@ -39,7 +39,7 @@ pub struct Laid {
 }
 
 // How a command ended: what it says, where the tape stands, what is moved and laid.
-#[derive(Drop)]
+#[derive(Clone, Copy)]
 pub struct Ending {
     pub end: End,
     pub tape: Tape,
@@ -47,7 +47,7 @@ pub struct Ending {
     pub laid: Laid,
 }
 
-#[derive(Drop)]
+#[derive(Clone, Copy)]
 pub enum Motion {
     Ended(Ending),
     // A block at fault: what is wrong with it, and its number.

@@ -9,7 +9,7 @@ use state::Tape;
 use tape::BlockFault;
 
 // What a Read asks for.
-#[derive(Drop)]
+#[derive(Clone, Copy)]
 pub struct Buffer {
     pub pointer: usize,
     pub count: ByteCount,
@@ -17,7 +17,7 @@ pub struct Buffer {
 }
 
 // A stage found a record, with the position beyond it, or the command is over, or a block is at fault.
-#[derive(Drop)]
+#[derive(Clone, Copy)]
 pub enum Stage {
     Record(usize, usize),
     Over(Ending),

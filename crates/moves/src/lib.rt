@@ -1,4 +1,6 @@
 // Motion over the reel: to the next record or mark, and over a count of records or marks.
+#![tactic(auto)]
+
 mod seeking;
 mod spacing;
 

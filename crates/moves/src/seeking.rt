@@ -5,7 +5,7 @@ ghost use Rattle.moves.specs.Seeking.{sought};
 use tape::{BlockFault, Met};
 
 // What was found, and the position beyond it; where nothing is left, the position there.
-#[derive(Drop)]
+#[derive(Clone, Copy)]
 pub enum Sought {
     Record(usize, usize),
     Mark(usize),

@@ -8,21 +8,21 @@ use signals::{MarkCount, RecordCount};
 use tape::BlockFault;
 
 // What a Position counts, and how many of it. A space over records never becomes a skip over marks on its way.
-#[derive(Drop)]
+#[derive(Clone, Copy)]
 pub enum Count {
     Records(RecordCount),
     Marks(MarkCount),
 }
 
 // Which way, and whether two marks in a row end it (ESS).
-#[derive(Drop)]
+#[derive(Clone, Copy)]
 pub struct Rule {
     pub reverse: bool,
     pub ess: bool,
 }
 
 // How far it came: the count that is left, whether a mark was passed, and whether the last object passed was a mark.
-#[derive(Drop)]
+#[derive(Clone, Copy)]
 pub struct Span {
     pub position: usize,
     pub left: Count,
@@ -31,7 +31,7 @@ pub struct Span {
 }
 
 // Why it stopped.
-#[derive(Drop)]
+#[derive(Clone, Copy)]
 pub enum Stop {
     Count,
     Mark,
@@ -40,13 +40,13 @@ pub enum Stop {
     Bad(BlockFault, usize),
 }
 
-#[derive(Drop)]
+#[derive(Clone, Copy)]
 pub struct Spaced {
     pub span: Span,
     pub stop: Stop,
 }
 
-#[derive(Drop)]
+#[derive(Clone, Copy)]
 pub enum Turn {
     On(Span),
     Over(Spaced),

@@ -1,4 +1,6 @@
 // A unit's record and what the units share, as numbers of four bytes: what a host keeps between the calls.
+#![tactic(auto)]
+
 mod records;
 mod shares;
 

@@ -7,7 +7,7 @@ use state::{Attention, Characteristics, Panel, Registers, Tape};
 use worlds::Transport;
 
 #[repr(C)]
-#[derive(Drop)]
+#[derive(Clone, Copy)]
 pub struct UnitRecord {
     pub numbers: [u32; 21],
 }

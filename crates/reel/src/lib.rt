@@ -1,4 +1,6 @@
 // The reel layer's face: passing an object either way, the mount's sweep, moving a record's bytes, laying objects.
+#![tactic(auto)]
+
 mod copy;
 mod image;
 mod lay;

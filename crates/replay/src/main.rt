@@ -1,4 +1,6 @@
 // Replays the session script on standard input, and prints the result lines.
+#![tactic(auto)]
+
 use libc::STDIN_FILENO;
 
 fn main() {

@@ -1,4 +1,6 @@
 // The same program as replay, held to a longer script.
+#![tactic(auto)]
+
 use libc::STDIN_FILENO;
 
 fn main() {

@@ -15,7 +15,7 @@ use unit::Register;
 use worlds::{Outcome, Session};
 
 // A step that is a unit's.
-#[derive(Drop)]
+#[derive(Clone, Copy)]
 pub enum Deed {
     WriteTsdb(u16),
     WriteTssr,
@@ -24,7 +24,7 @@ pub enum Deed {
 }
 
 // A call that is a unit's.
-#[derive(Drop)]
+#[derive(Clone, Copy)]
 pub enum Own {
     Mount(usize, bool, bool),
     Read(Register),
@@ -32,14 +32,14 @@ pub enum Own {
 }
 
 // What is done for one unit: a call of its own, or its newest step undone.
-#[derive(Drop)]
+#[derive(Clone, Copy)]
 pub enum Task {
     Makes(Own),
     Undoes,
 }
 
 // Whose a call is: a unit's own, or of none, a host store at a place or a step back.
-#[derive(Drop)]
+#[derive(Clone, Copy)]
 pub enum Whose {
     Unit(Own),
     Store(usize),

@@ -1,4 +1,6 @@
 // Replays a session script: each case and each call prints its line, and a line that can't be read ends the run.
+#![tactic(auto)]
+
 mod asks;
 mod hands;
 mod owns;

@@ -13,7 +13,7 @@ use script::{Fault, Value, append, find};
 const LONG: usize = 1000000;
 
 // Where the reading of a line is.
-#[derive(Drop)]
+#[derive(Clone, Copy)]
 struct Reader {
     // The next byte of the chunk, and how many the chunk has.
     at: usize,

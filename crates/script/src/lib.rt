@@ -1,4 +1,6 @@
 // The text of a session script: the words of a line, numbers and bytes in them, and what is printed of a result.
+#![tactic(auto)]
+
 mod fills;
 mod prints;
 mod reads;
@@ -12,7 +14,7 @@ pub use sums::{crc, crc_table};
 pub use words::{find, find_word, last, nth, place_in};
 
 // Why a line can't be read.
-#[derive(Drop)]
+#[derive(Clone, Copy)]
 pub enum Fault {
     UnknownWord,
     ExtraWord,
@@ -30,20 +32,20 @@ pub enum Fault {
     OtherRules,
 }
 
-#[derive(Drop)]
+#[derive(Clone, Copy)]
 pub enum Value {
     Is(usize),
     Wrong(Fault),
 }
 
-#[derive(Drop)]
+#[derive(Clone, Copy)]
 pub enum Three {
     Are(usize, usize, usize),
     Wrong(Fault),
 }
 
 // Where a word of a line stands; empty at the line's end where there is none.
-#[derive(Drop)]
+#[derive(Clone, Copy)]
 pub struct Span {
     pub start: usize,
     pub end: usize,

@@ -22,3 +22,4 @@
 //              for each object written                                      entry_counts   proofs/Lengths.antt
 //              refused for room exactly when the entry doesn't fit, and
 //              before that with 11 exactly when the table is too small      room_asked     proofs/Room.antt
+#![tactic(auto)]

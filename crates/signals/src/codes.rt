@@ -2,7 +2,7 @@
 ghost use Rattle.std.specs.Prelude.{◌≡◌};
 ghost use Rattle.signals.specs.Codes.{command_of, control_mode, format_mode, position_mode, read_mode, single_mode, write_mode};
 
-#[derive(Drop)]
+#[derive(Clone, Copy)]
 pub enum Command {
     ReadNext,
     ReadPrevious,

@@ -2,16 +2,16 @@
 ghost use Rattle.std.specs.Prelude.{◌≡◌};
 ghost use Rattle.signals.specs.Residuals.{residual_word};
 
-#[derive(Drop)]
+#[derive(Clone, Copy)]
 pub struct ByteCount(pub u16);
 
-#[derive(Drop)]
+#[derive(Clone, Copy)]
 pub struct RecordCount(pub u16);
 
-#[derive(Drop)]
+#[derive(Clone, Copy)]
 pub struct MarkCount(pub u16);
 
-#[derive(Drop)]
+#[derive(Clone, Copy)]
 pub enum Residual {
     Bytes(ByteCount),
     Records(RecordCount),

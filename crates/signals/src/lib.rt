@@ -1,4 +1,6 @@
 // The register header: bits and words of the TS11, the command codes, the packet's words, the three counters and the message.
+#![tactic(auto)]
+
 mod codes;
 mod counts;
 mod message;

@@ -7,7 +7,7 @@ use lists::put_word;
 use std::num::wrapping_add_u16;
 
 // What the end of a command says of itself.
-#[derive(Drop)]
+#[derive(Clone, Copy)]
 pub struct End {
     pub class: usize,
     // XST0's bits 15 to 8, at their places.
@@ -17,7 +17,7 @@ pub struct End {
 }
 
 // XST0's low byte: the unit's condition at the end.
-#[derive(Drop)]
+#[derive(Clone, Copy)]
 pub struct Status {
     pub mot: bool,
     pub onl: bool,

@@ -6,7 +6,7 @@ ghost use Rattle.signals.specs.Numbers.{packet_bytes, pointer_limit};
 use lists::word;
 
 // The header word's fields.
-#[derive(Drop)]
+#[derive(Clone, Copy)]
 pub struct Header {
     pub ack: bool,
     pub cvc: bool,
@@ -42,7 +42,7 @@ pub fn has_pointer(code: usize) -> bool
 }
 
 // What the words after the header say: the data pointer and the count.
-#[derive(Drop)]
+#[derive(Clone, Copy)]
 pub struct Packet {
     pub pointer: usize,
     // Pointer bits above A17 are set.

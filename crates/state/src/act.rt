@@ -4,7 +4,7 @@ ghost use Rattle.state.specs.Changes.{initial_registers, initialized, mounted_as
 
 use crate::{Attention, Characteristics, Lengths, Panel, Registers, Tape, Unit};
 
-#[derive(Drop)]
+#[derive(Clone, Copy)]
 pub enum Act {
     OnLine,
     OffLine,

@@ -1,4 +1,6 @@
 // The unit's state by value, with methods that hand back the next state.
+#![tactic(auto)]
+
 mod act;
 mod check;
 mod register;
@@ -7,13 +9,13 @@ pub use act::{Act, mounted};
 pub use check::{MEMORY_LIMIT, blocks_right, buffer_wrong, memory_right, refusal, state_wrong};
 
 // In blocks.
-#[derive(Drop)]
+#[derive(Clone, Copy)]
 pub struct Tape {
     pub position: usize,
     pub end: usize,
 }
 
-#[derive(Drop)]
+#[derive(Clone, Copy)]
 pub struct Registers {
     pub pointer: usize,
     pub class: usize,
@@ -24,7 +26,7 @@ pub struct Registers {
     pub ssr: bool,
 }
 
-#[derive(Drop)]
+#[derive(Clone, Copy)]
 pub struct Panel {
     pub online: bool,
     pub locked: bool,
@@ -32,7 +34,7 @@ pub struct Panel {
 }
 
 // The message buffer's owner, and the attention that waits for the unit to own it.
-#[derive(Drop)]
+#[derive(Clone, Copy)]
 pub struct Attention {
     pub unit_owns: bool,
     pub pending: bool,
@@ -40,7 +42,7 @@ pub struct Attention {
 }
 
 // What Write Characteristics took.
-#[derive(Drop)]
+#[derive(Clone, Copy)]
 pub struct Characteristics {
     pub address: u32,
     pub length: u32,
@@ -50,13 +52,13 @@ pub struct Characteristics {
 }
 
 // The mount's lengths: bytes of memory, blocks of reel.
-#[derive(Drop)]
+#[derive(Clone, Copy)]
 pub struct Lengths {
     pub memory: usize,
     pub blocks: usize,
 }
 
-#[derive(Drop)]
+#[derive(Clone, Copy)]
 pub struct Unit {
     pub tape: Tape,
     pub registers: Registers,

@@ -1,4 +1,6 @@
 // A step of a transport, or of none, entered in the journal and taken, or undone, and a mount's table: what stands behind the calls once their checks have passed.
+#![tactic(auto)]
+
 mod mounts;
 mod shared;
 mod steps;

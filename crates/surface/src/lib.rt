@@ -48,3 +48,4 @@
 //              exactly where file f begins, or block k's object stands        host_file, host_block       proofs/Founds.antt
 //
 // specs/Hosting.antt says what a host holds and what its calls are; specs/Following.antt what it is for a host's log to follow a history's.
+#![tactic(auto)]

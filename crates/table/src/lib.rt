@@ -1,1 +1,2 @@
 // The worked examples of document 01, proved together as one table: specs/ states them, proofs/ proves them.
+#![tactic(auto)]

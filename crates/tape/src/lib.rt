@@ -1,4 +1,6 @@
 // What a reel is: its geometry, and the answers that reading it can give. The meaning stands in specs/.
+#![tactic(auto)]
+
 ghost use Rattle.std.specs.Prelude.{◌≡◌};
 ghost use Rattle.tape.specs.Letters.{letter_of};
 ghost use Rattle.tape.specs.Numbers.{eot_marker, pieces_of};
@@ -11,7 +13,7 @@ pub const MARK_KIND: usize = 2;
 pub const GAP_KIND: usize = 3;
 
 // A reel of so many blocks, with the numbers that all reels share.
-#[derive(Drop)]
+#[derive(Clone, Copy)]
 pub struct Geometry {
     pub capacity: usize,
 }
@@ -66,7 +68,7 @@ pub fn pieces(n: usize) -> usize
 }
 
 // What is wrong with a block, in the order that the reader looks; also index, where a sound block is out of place.
-#[derive(Drop)]
+#[derive(Clone, Copy)]
 pub enum BlockFault {
     Kind,
     Length,
@@ -89,7 +91,7 @@ pub fn letter(f: BlockFault) -> u8
 }
 
 // What a single block is read as.
-#[derive(Drop)]
+#[derive(Clone, Copy)]
 pub enum Block {
     // Piece i of a record of n bytes.
     Piece(usize, usize),
@@ -100,7 +102,7 @@ pub enum Block {
 }
 
 // What a pass over one object meets, and the position just beyond it.
-#[derive(Drop)]
+#[derive(Clone, Copy)]
 pub enum Met {
     Record(usize, usize),
     Mark(usize),
@@ -112,14 +114,14 @@ pub enum Met {
 }
 
 // What the mount's reading of every block below the end finds.
-#[derive(Drop)]
+#[derive(Clone, Copy)]
 pub enum Swept {
     Whole,
     Bad(BlockFault, usize),
 }
 
 // What the listing says of an image before any line: the paper's L, S and X, or the recorded end.
-#[derive(Drop)]
+#[derive(Clone, Copy)]
 pub enum Image {
     TooLong,
     NotWhole,

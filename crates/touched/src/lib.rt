@@ -1,11 +1,13 @@
 // What a step touches in memory, reel and table, as a value: the unit hands it to the journal before anything is stored, and the journal
 // saves and brings back the bytes at these places without knowing what the step is.
+#![tactic(auto)]
+
 mod saving;
 
 pub use saving::{bring_back, nothing, save, saved_length, touched_fits};
 
 // The data's bytes at their places (SWB), the message's bytes, the reel's blocks, and the table's places that are filled.
-#[derive(Drop)]
+#[derive(Clone, Copy)]
 pub struct Touched {
     pub data_at: usize,
     pub data_length: usize,

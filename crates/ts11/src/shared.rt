@@ -39,7 +39,7 @@ pub extern "C" fn ts11_host_store(
 }
 
 // What a step back hands back: its number, and which record comes back if one does.
-#[derive(Drop)]
+#[derive(Clone, Copy)]
 pub struct Back {
     pub put: bool,
     pub unit: usize,

@@ -10,7 +10,7 @@ use records::{UnitRecord, coupler_in, put_coupler, record_of, record_right, tran
 use worlds::{Session, coupler_of, session_over, transport_of};
 
 // What a call of a unit hands back: its number, and the record if it took a step.
-#[derive(Drop)]
+#[derive(Clone, Copy)]
 pub struct Given {
     pub stepped: bool,
     pub number: usize,

@@ -1,4 +1,6 @@
 // One TS11-compatible unit, as the journal sees it: mounting it, what is asked of it, what it is about to do and to touch, and doing that.
+#![tactic(auto)]
+
 mod asking;
 mod mounting;
 mod registers;

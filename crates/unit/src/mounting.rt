@@ -7,7 +7,7 @@ use state::{Lengths, Unit};
 use tape::{Geometry, Swept};
 
 // What a mount hands back: its answer and the state after it.
-#[derive(Drop)]
+#[derive(Clone, Copy)]
 pub struct Mounted {
     pub answer: Answer,
     pub unit: Unit,

@@ -4,7 +4,7 @@ ghost use Rattle.unit.specs.Registers.{register_word};
 
 use state::Unit;
 
-#[derive(Drop)]
+#[derive(Clone, Copy)]
 pub enum Register {
     Tsba,
     Tssr,

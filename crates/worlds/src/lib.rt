@@ -1,5 +1,7 @@
 // The calls by their meaning: specs/Calls.antt has those of one transport, each as a function of its world, and specs/Coupled.antt those over a row, with the host store and
 // the step back. The code is in crates journal and coupler; here stand only the values that the calls take and hand back, and the checks that they make first.
+#![tactic(auto)]
+
 mod checks;
 mod looks;
 mod rows;
@@ -12,7 +14,7 @@ pub use rows::{absent, coupler_check, coupler_of, no_transport, session_over, tr
 use state::{Attention, Characteristics, Panel, Registers, Tape, Unit};
 
 // The unit's state, the used places of the table, and the used journal and the mount's journal length, in bytes.
-#[derive(Drop)]
+#[derive(Clone, Copy)]
 pub struct Session {
     pub unit: Unit,
     pub objects: usize,
@@ -23,7 +25,7 @@ pub struct Session {
 pub const JOURNAL_LIMIT: usize = 16777216;
 
 // A unit's record in the row: its state, the mount's reel length in blocks, and the used places of its table. Memory's length is the coupler's.
-#[derive(Drop)]
+#[derive(Clone, Copy)]
 pub struct Transport {
     pub tape: Tape,
     pub registers: Registers,
@@ -35,7 +37,7 @@ pub struct Transport {
 }
 
 // What the transports share: the used journal, and the last mount's lengths of memory and journal, in bytes.
-#[derive(Drop)]
+#[derive(Clone, Copy)]
 pub struct Coupler {
     pub used: usize,
     pub memory: usize,
@@ -43,14 +45,14 @@ pub struct Coupler {
 }
 
 // A transport with the length in bytes of the reel that it is lent.
-#[derive(Drop)]
+#[derive(Clone, Copy)]
 pub struct Seat {
     pub transport: Transport,
     pub reel: usize,
 }
 
 // What a step back asks of a transport: whether it is in the row and mounted, and then whether refusal 1 and 3 hold for it.
-#[derive(Drop)]
+#[derive(Clone, Copy)]
 pub struct Look {
     pub mounted: bool,
     pub wrong: bool,
@@ -58,28 +60,28 @@ pub struct Look {
 }
 
 // What a call hands back.
-#[derive(Drop)]
+#[derive(Clone, Copy)]
 pub struct Outcome {
     pub answer: Answer,
     pub session: Session,
 }
 
 // What a call of no transport hands back.
-#[derive(Drop)]
+#[derive(Clone, Copy)]
 pub struct Shared {
     pub answer: Answer,
     pub coupler: Coupler,
 }
 
 // What reading a register hands back.
-#[derive(Drop)]
+#[derive(Clone, Copy)]
 pub struct RegisterRead {
     pub answer: Answer,
     pub word: u16,
 }
 
 // What a look-up in the table hands back.
-#[derive(Drop)]
+#[derive(Clone, Copy)]
 pub struct Finding {
     pub answer: Answer,
     pub found: Found,

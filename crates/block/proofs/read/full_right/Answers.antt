@@ -1,0 +1,8 @@
+-- `full_right` meets its contract: with no padding the check decides.
+use borrow.Author.Rules.{rules}
+use native.Mathlib.Omega.{arith}
+use Rattle.block.proofs.Bodies.{full_read}
+use Rattle.block.proofs.read.full_right.Goals as goal
+
+pub returns : goal.returns
+returns c = full_read c.args.b.now _ _ (omega (arith, c.requires)) c.word.ensures.is c.check_sum.ensures.same

@@ -1,0 +1,6 @@
+-- `no_span` is its definition.
+use borrow.Author.Rules.{rules}
+use Rattle.desk.proofs.arranges.no_span.Goals as goal
+
+pub returns : goal.returns
+returns c = rw c.no_sizes-from.ensures

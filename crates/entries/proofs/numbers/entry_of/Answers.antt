@@ -1,0 +1,8 @@
+-- `entry_of` is its definition.
+use Rattle.entries.specs.Numbers.{entry_of}
+use borrow.Author.Rules.{rules}
+use Rattle.entries.proofs.numbers.entry_of.Goals as goal
+
+pub returns : goal.returns
+unfolding entry_of
+returns c = rw (c.unit_of-unit.ensures, c.touched_of-touched.ensures)

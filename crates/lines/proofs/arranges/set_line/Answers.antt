@@ -1,0 +1,13 @@
+-- `set_line` meets its contract.
+use Rattle.lines.specs.Arranging.{set_line}
+use Rattle.lines.proofs.Asked.{number_not, number_read}
+use borrow.Author.Rules.{rules}
+use Rattle.lines.proofs.arranges.set_line.Goals as goal
+
+pub returns-in-Wrong : goal.returns-in-Wrong
+unfolding set_line
+returns-in-Wrong c = number_not _ _ _ _ c.argument.ensures _ c.in-Wrong.is c.wrong.ensures
+
+pub returns-in-Is : goal.returns-in-Is
+unfolding set_line
+returns-in-Is c = number_read _ _ _ _ c.argument.ensures _ c.in-Is.is (rw (← c.field_in.ensures) c.set_to.ensures)

@@ -1,0 +1,24 @@
+-- `word_sum` meets its contract. So far the sum is that of the first j words, and low enough not to wrap.
+use borrow.Author.Rules.{rules}
+use native.Mathlib.Omega.{arith}
+use mathlib.Core.Path.{◌≡◌}
+use Prim.Native.Nat.{◌≤◌, ◌-◌, ◌*◌}
+use lib.ListN.{take}
+use Rattle.lists.specs.Words.{word_limit, word_sum}
+use Rattle.lists.proofs.Sums.{sum_more}
+use Rattle.lists.proofs.words.word_sum.Goals as goal
+
+pub loop-j-init : goal.loop-j-init
+unfolding word_sum
+loop-j-init c = search rules
+
+pub loop-j-preserved : goal.loop-j-preserved
+loop-j-preserved c =
+    let b = c.args.b.now in
+    let j = c.loop-j.j in
+    (search rules, omega (arith, sum_more j b (omega arith)), omega arith)
+
+pub returns : goal.returns
+returns c =
+    let e : c.loop-j.j ≡ c.args.n = omega arith in
+    record { is = cc; low = omega arith }

@@ -1,0 +1,8 @@
+-- `no_room` meets its contract.
+use borrow.Author.Rules.{rules}
+use Rattle.motions.specs.Writes.{no_room}
+use Rattle.motions.proofs.writes.no_room.Goals as goal
+
+pub returns : goal.returns
+unfolding no_room
+returns c = rw (c.no_lay-laid.ensures, c.no_move-moved.ensures)

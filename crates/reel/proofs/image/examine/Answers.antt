@@ -1,0 +1,19 @@
+-- `examine` meets its contract: too long, not whole blocks, or what the sweep says.
+use borrow.Author.Rules.{rules}
+use Rattle.reel.proofs.Examined.{image_long, image_ragged, image_swept_lem}
+use Rattle.tape.specs.Listing.{image_swept}
+use Rattle.reel.proofs.image.examine.Goals as goal
+
+pub returns-then-image-gt-IMAGE_LIMIT : goal.returns-then-image-gt-IMAGE_LIMIT
+returns-then-image-gt-IMAGE_LIMIT c = image_long _ c.if-image-gt-IMAGE_LIMIT.true
+
+pub returns-then-image-ne0 : goal.returns-then-image-ne0
+returns-then-image-ne0 c = image_ragged _ c.if-image-gt-IMAGE_LIMIT.false c.if-image-ne0.true
+
+pub returns-in-Whole : goal.returns-in-Whole
+unfolding image_swept
+returns-in-Whole c = image_swept_lem _ c.if-image-gt-IMAGE_LIMIT.false c.if-image-ne0.false c.sweep.ensures (rw c.in-Whole.is)
+
+pub returns-in-Bad : goal.returns-in-Bad
+unfolding image_swept
+returns-in-Bad c = image_swept_lem _ c.if-image-gt-IMAGE_LIMIT.false c.if-image-ne0.false c.sweep.ensures (rw c.in-Bad.is)

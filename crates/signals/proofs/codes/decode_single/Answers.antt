@@ -1,0 +1,12 @@
+-- `decode_single` meets its contract: an arm says what the mode is, the last one what it is not.
+use Rattle.std.proofs.Common.{ne_eqb}
+use Rattle.signals.specs.Codes.{single_mode}
+use Rattle.signals.proofs.codes.decode_single.Goals as goal
+
+pub returns-in-0 : goal.returns-in-0
+unfolding single_mode
+returns-in-0 c = rw c.in-0.is
+
+pub returns-in_default : goal.returns-in_default
+unfolding single_mode
+returns-in_default c = simp (ne_eqb _ _ c.in_default.rest.1)
