@@ -6,6 +6,7 @@ use Prim.Native.Nat.{ℕ, ◌+◌, ◌≤◌}
 use native.Mathlib.Omega.{arith}
 use lib.Dec.{leb, ltb}
 use lib.ListN.{length}
+use Rattle.std.specs.Prelude.{Option, Some, None}
 use Rattle.lists.proofs.Cases.{pick_told}
 use Rattle.signals.specs.Numbers.{pointer_limit}
 use Rattle.signals.specs.declared.codes.Command.{Command}
@@ -24,7 +25,6 @@ use Rattle.moves.specs.Counting.{marks, records}
 use Rattle.moves.specs.declared.spacing.Count.{Count}
 use Rattle.motions.specs.Parts.{end, resting, standing}
 use Rattle.motions.specs.declared.parts.Laid.{Laid}
-use Rattle.motions.specs.declared.parts.Motion.TheVariants as motion
 use Rattle.motions.specs.declared.parts.Ending.{Ending}
 use Rattle.motions.specs.declared.parts.ObjectKind.{ObjectKind}
 use Rattle.motions.specs.declared.parts.ObjectKind.TheVariants as kind
@@ -34,6 +34,7 @@ use Rattle.commands.specs.Commands.{asked, carried_out, carried_out_under, chara
 use Rattle.commands.specs.Ends.{told}
 use Rattle.advance.proofs.Extents.{has_data}
 use Rattle.advance.proofs.Sound.{EndingFits, SoundPlan, motion_sound, no_lay_fits, no_move_fits, resting_fits, told_sound, untold_sound}
+use Rattle.std.specs.Prelude.{Ok}
 
 module _ (u : Unit) (l : Legal u) where
   -- a Read inside the recorded end is inside the reel
@@ -84,7 +85,7 @@ module _ (u : Unit) (l : Legal u) where
       motion_sound u l h.ie _ (λ x y. space_moves x (space_fits s u.tape l.place _ count u.characteristics.enb y))
 
   -- a write, or a retry
-  lay_moves : (s : List ℕ) (n : Laid) (mark again : Bool) → n.pointer + n.length ≤ u.lengths.memory → (x : Ending) → laying s u.tape u.lengths.blocks n mark again ≡ motion.Ended x → EndingFits u.lengths x
+  lay_moves : (s : List ℕ) (n : Laid) (mark again : Bool) → n.pointer + n.length ≤ u.lengths.memory → (x : Ending) → laying s u.tape u.lengths.blocks n mark again ≡ Ok x → EndingFits u.lengths x
   lay_moves s n mark true k x y = write_moves n k x (retry_fits u.tape u.lengths.blocks l.place l.capacity n mark s y)
   lay_moves s n mark false k x y = write_moves n k x (write_fits u.tape u.lengths.blocks l.place l.capacity n mark y)
 
@@ -150,26 +151,26 @@ module _ (u : Unit) (l : Legal u) where
         (λ t. taken_sound c (rw (← e) (buffer_right c (length m) (neither (leb pointer_limit c.address) (buffer_wrong c (length m)) t).1))))
 
 -- the data of a command that has any lie inside memory
-pub carried_sound : (u : Unit) → Legal u → (m s : List ℕ) (h : Header) (p : Packet) → length m ≡ u.lengths.memory → (c : Command) → (has_data c ≡ true → p.pointer + p.count ≤ u.lengths.memory) → SoundPlan u (carried_out u m s h p c)
+pub carried_sound : (u : Unit) → Legal u → (m s : List ℕ) (h : Header) (p : Packet) → length m ≡ u.lengths.memory → (c : Option Command) → (has_data c ≡ true → p.pointer + p.count ≤ u.lengths.memory) → SoundPlan u (carried_out u m s h p c)
 unfolding carried_out_under
-carried_sound u l m s h p e command.ReadNext k = read_sound u l s h p false (k refl)
-carried_sound u l m s h p e command.ReadPrevious k = read_sound u l s h p true (k refl)
-carried_sound u l m s h p e command.RereadPrevious k = reread_sound u l s h p true (k refl)
-carried_sound u l m s h p e command.RereadNext k = reread_sound u l s h p false (k refl)
-carried_sound u l m s h p e command.WriteCharacteristics k = characterize_sound u l h.ie m p e
-carried_sound u l m s h p e command.Write k = write_sound u l s h p false (k refl)
-carried_sound u l m s h p e command.WriteRetry k = write_sound u l s h p true (k refl)
-carried_sound u l m s h p e command.RecordsForward k = position_sound u l s h (records p.count) false
-carried_sound u l m s h p e command.RecordsReverse k = position_sound u l s h (records p.count) true
-carried_sound u l m s h p e command.MarksForward k = position_sound u l s h (marks p.count) false
-carried_sound u l m s h p e command.MarksReverse k = position_sound u l s h (marks p.count) true
-carried_sound u l m s h p e command.Rewind k = rewind_sound u l h.ie
-carried_sound u l m s h p e command.WriteMark k = format_sound u l s h kind.Mark true false
-carried_sound u l m s h p e command.Erase k = format_sound u l s h kind.Gap false false
-carried_sound u l m s h p e command.MarkRetry k = format_sound u l s h kind.Mark true true
-carried_sound u l m s h p e command.Release k = release_sound u l h.ie
-carried_sound u l m s h p e command.Unload k = unload_sound u l h.ie
-carried_sound u l m s h p e command.Clean k = plain_sound u l h.ie
-carried_sound u l m s h p e command.Initialize k = plain_sound u l h.ie
-carried_sound u l m s h p e command.GetStatus k = plain_sound u l h.ie
-carried_sound u l m s h p e command.Illegal k = plain_sound u l h.ie
+carried_sound u l m s h p e (Some command.ReadNext) k = read_sound u l s h p false (k refl)
+carried_sound u l m s h p e (Some command.ReadPrevious) k = read_sound u l s h p true (k refl)
+carried_sound u l m s h p e (Some command.RereadPrevious) k = reread_sound u l s h p true (k refl)
+carried_sound u l m s h p e (Some command.RereadNext) k = reread_sound u l s h p false (k refl)
+carried_sound u l m s h p e (Some command.WriteCharacteristics) k = characterize_sound u l h.ie m p e
+carried_sound u l m s h p e (Some command.Write) k = write_sound u l s h p false (k refl)
+carried_sound u l m s h p e (Some command.WriteRetry) k = write_sound u l s h p true (k refl)
+carried_sound u l m s h p e (Some command.RecordsForward) k = position_sound u l s h (records p.count) false
+carried_sound u l m s h p e (Some command.RecordsReverse) k = position_sound u l s h (records p.count) true
+carried_sound u l m s h p e (Some command.MarksForward) k = position_sound u l s h (marks p.count) false
+carried_sound u l m s h p e (Some command.MarksReverse) k = position_sound u l s h (marks p.count) true
+carried_sound u l m s h p e (Some command.Rewind) k = rewind_sound u l h.ie
+carried_sound u l m s h p e (Some command.WriteMark) k = format_sound u l s h kind.Mark true false
+carried_sound u l m s h p e (Some command.Erase) k = format_sound u l s h kind.Gap false false
+carried_sound u l m s h p e (Some command.MarkRetry) k = format_sound u l s h kind.Mark true true
+carried_sound u l m s h p e (Some command.Release) k = release_sound u l h.ie
+carried_sound u l m s h p e (Some command.Unload) k = unload_sound u l h.ie
+carried_sound u l m s h p e (Some command.Clean) k = plain_sound u l h.ie
+carried_sound u l m s h p e (Some command.Initialize) k = plain_sound u l h.ie
+carried_sound u l m s h p e (Some command.GetStatus) k = plain_sound u l h.ie
+carried_sound u l m s h p e None k = plain_sound u l h.ie

@@ -5,8 +5,9 @@ use mathlib.Core.List.{List}
 use Prim.Native.Nat.{ℕ}
 use Rattle.lists.specs.Pick.{pick}
 use Rattle.state.specs.declared.Unit.{Unit}
+use Rattle.std.specs.Prelude.{Ok}
 use Rattle.commands.specs.Ends.{still}
-use Rattle.commands.specs.declared.plans.Answer.TheVariants as answer
+use Rattle.commands.specs.declared.plans.Done.TheVariants as answer
 use Rattle.advance.specs.Steps.{advanced, advanced_under, attended, step_header}
 
 rests_pick : {A : Type 0} (b c : Bool) (x y z : A) → (b && not c) ≡ true → z ≡ pick b (pick c x z) y
@@ -24,7 +25,7 @@ abbrev is_idle : Unit → Bool
 is_idle u = u.registers.ssr && not (u.attention.pending && u.attention.unit_owns)
 
 module _ (u : Unit) (m s : List ℕ) where
-  pub idles : is_idle u ≡ true → still u answer.Idle ≡ advanced u m s
+  pub idles : is_idle u ≡ true → still u (Ok answer.Idle) ≡ advanced u m s
   unfolding advanced_under
   idles h = rests_pick u.registers.ssr (u.attention.pending && u.attention.unit_owns) _ _ _ h
 

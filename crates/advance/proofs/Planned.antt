@@ -8,9 +8,10 @@ use Rattle.signals.specs.Codes.{command_of}
 use Rattle.signals.specs.Message.{message_of}
 use Rattle.state.specs.Legal.{Legal}
 use Rattle.state.specs.declared.Unit.{Unit}
+use Rattle.std.specs.Prelude.{Ok}
 use Rattle.commands.specs.Ends.{ended, still, told_under, untold}
 use Rattle.commands.specs.declared.plans.Plan.{Plan}
-use Rattle.commands.specs.declared.plans.Answer.TheVariants as answer
+use Rattle.commands.specs.declared.plans.Done.TheVariants as answer
 use Rattle.commands.proofs.Every.{Stands, ToldAll, every_carried}
 use Rattle.advance.specs.Steps.{advanced}
 use Rattle.advance.proofs.Carrying.{carried_sound}
@@ -20,10 +21,10 @@ pub use Rattle.advance.proofs.Sound.{SoundPlan}
 
 module _ (u : Unit) (m s : List ℕ) where
   -- what holds of every end that is told, of every other plan that stores nothing, and of an idle advance, holds of an advance
-  pub every_advanced : (P : Plan → Type 0) → ToldAll u.characteristics (length m) P → Stands u.characteristics (length m) P → P (still u answer.Idle) → P (advanced u m s)
+  pub every_advanced : (P : Plan → Type 0) → ToldAll u.characteristics (length m) P → Stands u.characteristics (length m) P → P (still u (Ok answer.Idle)) → P (advanced u m s)
   unfolding untold ended
   every_advanced P tells stands idle =
-      advanced_all u m s P (λ v a ie x h. tells v (inl a.characteristics) ie _) (λ v a class i h. stands _ (inl a.characteristics) (answer.Done i) tt)
+      advanced_all u m s P (λ v a ie x h. tells v (inl a.characteristics) ie _) (λ v a class i h. stands _ (inl a.characteristics) (Ok (answer.Step i)) tt)
       (λ v a h p f d. every_carried v m P (λ w b ie x. tells w (rw a.characteristics at b) ie x) (λ w b x n. stands w (rw a.characteristics at b) x n) s h p (command_of h.code h.mode))
       idle
 

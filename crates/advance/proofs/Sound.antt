@@ -14,13 +14,13 @@ use Rattle.state.specs.declared.Unit.{Unit}
 use Rattle.motions.specs.Parts.{laid_blocks, no_lay, no_move, object_blocks, resting}
 use Rattle.motions.specs.declared.parts.Ending.{Ending}
 use Rattle.motions.specs.declared.parts.Laid.{Laid}
-use Rattle.motions.specs.declared.parts.Motion.{Motion}
-use Rattle.motions.specs.declared.parts.Motion.TheVariants as motion
 use Rattle.motions.specs.declared.parts.Moved.{Moved}
 use Rattle.commands.specs.Ends.{motion_plan, still, told, told_under, untold}
-use Rattle.commands.specs.declared.plans.Answer.{Answer}
+use Rattle.commands.specs.Answers.{Answer}
 use Rattle.commands.specs.declared.plans.Plan.{Plan}
 use Rattle.commands.proofs.Told.{ends_legal, motion_either, told_ends, told_sends, untold_ends}
+use Rattle.std.specs.Prelude.{Result, Ok}
+use Rattle.tape.specs.declared.Damage.{Damage}
 
 -- what is moved comes from the reel and goes to memory
 pub record MoveFits (n : Lengths) (x : Moved) : Type 0 where
@@ -102,5 +102,5 @@ module _ (u : Unit) (l : Legal u) where
         message = λ e. rw v.characteristics (l.buffer (told_sends u ie x e));
       }
 
-  pub motion_sound : (ie : Bool) (y : Motion) → ((x : Ending) → y ≡ motion.Ended x → EndingFits u.lengths x) → SoundPlan u (motion_plan u ie y)
+  pub motion_sound : (ie : Bool) (y : Result Ending Damage) → ((x : Ending) → y ≡ Ok x → EndingFits u.lengths x) → SoundPlan u (motion_plan u ie y)
   motion_sound ie y f = motion_either u ie (SoundPlan u) y (λ x e. told_sound ie x (f x e)) (λ why k e. still_sound _)

@@ -21,9 +21,10 @@ use Rattle.state.specs.declared.Unit.{Unit}
 use Rattle.state.proofs.Legal.{legal_with}
 use Rattle.state.proofs.Tests.{either, neither}
 use Rattle.motions.specs.Parts.{resting}
+use Rattle.std.specs.Prelude.{Ok}
 use Rattle.commands.specs.Commands.{carried_out}
 use Rattle.commands.specs.Ends.{still, told, untold}
-use Rattle.commands.specs.declared.plans.Answer.TheVariants as answer
+use Rattle.commands.specs.declared.plans.Done.TheVariants as answer
 use Rattle.commands.specs.declared.plans.Plan.{Plan}
 use Rattle.advance.specs.Rules.{has_extent, is_illegal, is_tape, length_wrong, not_executable, not_executable_under, reverse_first, writes}
 use Rattle.advance.specs.Steps.{advanced, advanced_under, attended, attended_under, rejected, rejected_under, step_attention, step_attention_under, step_executable, step_executable_under, step_extent, step_extent_under, step_fetch, step_fetch_under, step_header, step_header_under, step_illegal, step_illegal_under, step_no_buffer, step_no_buffer_under, step_owner, step_owner_under, step_pointer, step_pointer_under, step_volume, step_volume_under}
@@ -129,7 +130,7 @@ module _ (u : Unit) (m s : List ℕ) (P : Plan → Type 0) (rejects : Rejects u 
       either P (ltb (length m) (u.registers.pointer + 2)) _ _ (untolds u (same u) 5 false (omega arith))
       (owner_all (header_of (word_at m u.registers.pointer)))
 
-  pub advanced_all : P (still u answer.Idle) → P (advanced u m s)
+  pub advanced_all : P (still u (Ok answer.Idle)) → P (advanced u m s)
   unfolding advanced_under
   advanced_all idle =
       either P u.registers.ssr _ _

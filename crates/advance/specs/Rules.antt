@@ -1,9 +1,8 @@
 -- Which commands a step speaks of, by code and mode. (01, "Advance, in order", steps 5 to 10)
-use Rattle.std.specs.Prelude.{Bool, true, false, ◌||◌, ◌&&◌, ℕ, eqb, ltb}
+use Rattle.std.specs.Prelude.{Option, Some, None, Bool, true, false, ◌||◌, ◌&&◌, ℕ, eqb, ltb}
 use Rattle.lists.specs.Pick.{pick}
 use Rattle.tape.specs.Numbers.{record_limit}
 use Rattle.signals.specs.declared.codes.Command.{Command}
-use Rattle.signals.specs.declared.codes.Command.TheVariants as command
 use Rattle.signals.specs.Header.{has_pointer}
 use Rattle.signals.specs.declared.packet.Header.{Header}
 use Rattle.signals.specs.declared.packet.Packet.{Packet}
@@ -38,28 +37,10 @@ reverse_first h =
 abbrev pub has_extent : Header → Bool
 has_extent h = has_pointer h.code
 
-unfoldable pub is_illegal : Command → Bool
-is_illegal command.ReadNext = false
-is_illegal command.ReadPrevious = false
-is_illegal command.RereadPrevious = false
-is_illegal command.RereadNext = false
-is_illegal command.WriteCharacteristics = false
-is_illegal command.Write = false
-is_illegal command.WriteRetry = false
-is_illegal command.RecordsForward = false
-is_illegal command.RecordsReverse = false
-is_illegal command.MarksForward = false
-is_illegal command.MarksReverse = false
-is_illegal command.Rewind = false
-is_illegal command.WriteMark = false
-is_illegal command.Erase = false
-is_illegal command.MarkRetry = false
-is_illegal command.Release = false
-is_illegal command.Unload = false
-is_illegal command.Clean = false
-is_illegal command.Initialize = false
-is_illegal command.GetStatus = false
-is_illegal command.Illegal = true
+-- "unknown code or mode"
+unfoldable pub is_illegal : Option Command → Bool
+is_illegal None = true
+is_illegal (Some c) = false
 
 -- under any record limit
 module _ (limit : ℕ) where

@@ -26,10 +26,11 @@ use Rattle.signals.specs.declared.counts.Residual.{Residual}
 use Rattle.signals.specs.declared.counts.Residual.TheVariants as residual
 use Rattle.state.specs.declared.Unit.{Unit}
 use Rattle.motions.specs.Parts.{end, resting}
+use Rattle.std.specs.Prelude.{Ok}
 use Rattle.commands.specs.Ends.{still, told_under, untold, with_attention, with_owner, with_panel}
 use Rattle.commands.specs.Commands.{carried_out_under}
 use Rattle.advance.specs.Rules.{has_extent, is_illegal, is_tape, not_executable_under, whole_count, writes}
-use Rattle.commands.specs.declared.plans.Answer.TheVariants as answer
+use Rattle.commands.specs.declared.plans.Done.TheVariants as answer
 use Rattle.commands.specs.declared.plans.Plan.{Plan}
 
 -- under any EOT margin
@@ -119,7 +120,7 @@ module _ (limit eotMargin : ℕ) where
   unfoldable pub advanced_under : Unit → List ℕ → List ℕ → Plan
   advanced_under u m s =
       pick u.registers.ssr
-      (pick (u.attention.pending && u.attention.unit_owns) (attended_under eotMargin u u.attention.release_ie) (still u answer.Idle))
+      (pick (u.attention.pending && u.attention.unit_owns) (attended_under eotMargin u u.attention.release_ie) (still u (Ok answer.Idle)))
       (step_header_under u m s)
 
 -- and under this unit's own

@@ -4,7 +4,7 @@ use mathlib.Core.Path.{◌≡◌, ap, ◌∙◌}
 use Prim.Native.Nat.{ℕ, ◌+◌, ◌-◌, ◌*◌, ◌%◌, ◌≤◌}
 use native.Mathlib.Omega.{arith}
 use lib.ListN.{length, take, drop}
-use lib.Seq.{drop_at, length-take-le, take-add, take-take}
+use lib.Seq.{drop_at, length-take-le, take-add}
 use lib.Dec.{eqb}
 use Rattle.lists.specs.Words.{word_at, word_sum}
 use Rattle.lists.proofs.Sums.{sum_split}
@@ -18,14 +18,8 @@ module _ (b : List ℕ) (w : ℕ) (long : summed_bytes ≤ length b) (low : w �
       let e : summed_bytes ≡ 2 * w + (summed_bytes - 2 * w) = omega arith in
       ap (λ (n : ℕ). take n b) e ∙ take-add (2 * w) (summed_bytes - 2 * w) b
 
-  second : drop (2 * w) (take summed_bytes b) ≡ take (summed_bytes - 2 * w) (drop (2 * w) b)
+  pub second : drop (2 * w) (take summed_bytes b) ≡ take (summed_bytes - 2 * w) (drop (2 * w) b)
   second = rw in_two (drop_at (take (2 * w) b) (take (summed_bytes - 2 * w) (drop (2 * w) b)) (2 * w) (length-take-le (2 * w) b (omega arith)))
-
-  -- the second run, as the words of the part that is lent
-  pub second_lent : take (2 * (summed_words - w)) (take (summed_bytes - 2 * w) (drop (2 * w) b)) ≡ drop (2 * w) (take summed_bytes b)
-  second_lent =
-      let e : 2 * (summed_words - w) ≡ summed_bytes - 2 * w = omega arith in
-      rw (e, second) (take-take (summed_bytes - 2 * w) (summed_bytes - 2 * w) (drop (2 * w) b) (omega arith))
 
   pub check_in_two : check_right b ≡ eqb (word_at b summed_bytes) ((word_sum (take (2 * w) b) + word_sum (drop (2 * w) (take summed_bytes b))) % check_modulus)
   unfolding check_right check_of

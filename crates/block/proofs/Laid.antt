@@ -38,6 +38,6 @@ sealed b body h e =
 
 -- the check of b₅, stored into it
 module _ (b₀ b₅ b₆ d : List ℕ) (k n i s : ℕ) (long : length b₀ ≡ block_bytes) (low : length d ≤ data_bytes) where
-  pub block_laid : b₅ ≡ sets b₀ 0 (body_of k n i d) → s % check_modulus ≡ word_sum (take summed_bytes b₅) % check_modulus → b₆ ≡ sets b₅ summed_bytes (word_bytes (s % check_modulus)) → b₆ ≡ block_of k n i d
+  pub block_laid : b₅ ≡ sets b₀ 0 (body_of k n i d) → s ≡ word_sum (take summed_bytes b₅) % check_modulus → b₆ ≡ sets b₅ summed_bytes (word_bytes s) → b₆ ≡ block_of k n i d
   unfolding block_of
   block_laid e p q = rw (q, p, e) (sealed b₀ (body_of k n i d) long (length_body k n i d low))

@@ -1,15 +1,16 @@
 -- Numbers of four bytes for words: the same sum modulo 65,535, and 0 for the same bytes.
-use mathlib.Core.List.{List, [], ◌∷◌, ◌++◌}
+use mathlib.Core.List.{List, [], ◌∷◌}
 use mathlib.Core.Path.{◌≡◌, refl, ap, sym, ◌∙◌}
 use Prim.Native.Nat.{ℕ, zero, suc, ◌+◌, ◌-◌, ◌*◌, ◌/◌, ◌%◌, ◌≤◌, ◌<◌}
 use native.Mathlib.Omega.{arith}
 use borrow.Author.Tests.{eq-eqb, ne_eqb}
 use lib.Dec.{eqb}
-use lib.ListN.{length, take, drop, get_or}
-use lib.Seq.{take-add, take-take}
+use lib.ListN.{length, take, drop, get_or, length-drop, take-append-drop}
+use lib.Seq.{take-length, take-take}
 use Rattle.lists.specs.Words.{word_sum}
 use Rattle.lists.proofs.Sums.{sum_split}
-use Rattle.block.specs.Sums.{long_at, long_sum}
+use Rattle.lists.specs.Fours.{number_at}
+use Rattle.block.specs.Sums.{long_sum}
 use Rattle.tape.specs.Numbers.{check_modulus}
 
 -- four times a number by recursion, since `4 * suc j` does not compute
@@ -31,7 +32,7 @@ step zero (a ∷ (b ∷ (c ∷ (d ∷ r)))) h = omega arith
 step (suc j) (a ∷ (b ∷ (c ∷ (d ∷ r)))) h = omega (arith, step j r (omega arith))
 
 -- one number more
-more : (j : ℕ) (l : List ℕ) → 4 * j + 3 < length l → long_sum (take (4 * (j + 1)) l) ≡ long_sum (take (4 * j) l) + long_at l (4 * j)
+more : (j : ℕ) (l : List ℕ) → 4 * j + 3 < length l → long_sum (take (4 * (j + 1)) l) ≡ long_sum (take (4 * j) l) + number_at l (4 * j)
 more j l h =
     let e : 4 * (j + 1) ≡ four (suc j) = omega (arith, four_is j) in
     let f : 4 * j ≡ four j = omega (arith, four_is j) in
@@ -41,7 +42,7 @@ more j l h =
     rw (e, r, q, p, f) (step j l (omega (arith, four_is j)))
 
 -- two numbers more
-pub two_more : (j : ℕ) (l : List ℕ) → 8 * j + 7 < length l → long_sum (take (8 * (j + 1)) l) ≡ long_sum (take (8 * j) l) + (long_at l (8 * j) + long_at l (8 * j + 4))
+pub two_more : (j : ℕ) (l : List ℕ) → 8 * j + 7 < length l → long_sum (take (8 * (j + 1)) l) ≡ long_sum (take (8 * j) l) + (number_at l (8 * j) + number_at l (8 * j + 4))
 two_more j l h =
     let a : 8 * j ≡ 4 * (2 * j) = omega arith in
     let b : 8 * j + 4 ≡ 4 * (2 * j + 1) = omega arith in
@@ -76,25 +77,28 @@ module _ (s t : ℕ) (f : Folds s t) where
   pub fold_none : eqb s 0 ≡ eqb t 0
   fold_none = none_by s t f.over f.is f.least
 
--- the first n words: runs of eight bytes as numbers, and the words left over
-module _ (b : List ℕ) (n : ℕ) (long : 2 * n ≤ length b) where
+-- words in runs of eight bytes as numbers, and the words left over
+module _ (b : List ℕ) (even : length b % 2 ≡ 0) where
   abbrev cut : ℕ
-  cut = 8 * (n / 4)
+  cut = 8 * (length b / 8)
 
-  parts : word_sum (take (2 * n) b) ≡ word_sum (take cut b) + word_sum (take (2 * (n % 4)) (drop cut b))
+  parts : word_sum b ≡ word_sum (take cut b) + word_sum (drop cut b)
   parts =
-      let e : 2 * n ≡ cut + 2 * (n % 4) = omega arith in
-      let c : cut ≡ 2 * (4 * (n / 4)) = omega arith in
-      let whole : take (2 * n) b ≡ take cut b ++ take (2 * (n % 4)) (drop cut b) = ap (λ (k : ℕ). take k b) e ∙ take-add cut (2 * (n % 4)) b in
-      ap word_sum whole ∙ rw c (sum_split (4 * (n / 4)) b (take (2 * (n % 4)) (drop (2 * (4 * (n / 4))) b)) (omega arith))
+      let c : cut ≡ 2 * (4 * (length b / 8)) = omega arith in
+      ap word_sum (sym (take-append-drop cut b)) ∙ rw c (sum_split (4 * (length b / 8)) b (drop (2 * (4 * (length b / 8))) b) (omega arith))
 
-  pub summed : (x y : ℕ) → x ≡ long_sum (take cut b) → y ≡ word_sum (take (2 * (n % 4)) (drop cut b)) → Folds (x + y) (word_sum (take (2 * n) b))
+  -- the words left over are all that is left
+  left : take (2 * (length b % 8 / 2)) (take (length b - cut) (drop cut b)) ≡ drop cut b
+  left =
+      let n = length b - cut in
+      let e : 2 * (length b % 8 / 2) ≡ n = omega (arith, even) in
+      let whole : take n (drop cut b) ≡ drop cut b = ap (λ (k : ℕ). take k (drop cut b)) (sym (length-drop cut b)) ∙ take-length (drop cut b) in
+      rw e (take-take n n (drop cut b) (omega arith) ∙ whole)
+
+  pub summed : (x y : ℕ) → x ≡ long_sum (take cut b) → y ≡ word_sum (take (2 * (length b % 8 / 2)) (take (length b - cut) (drop cut b))) → Folds (x + y) (word_sum b)
   summed x y p q =
-      let e : four (2 * (n / 4)) ≡ cut = four_is (2 * (n / 4)) ∙ omega arith in
-      let f = folds (2 * (n / 4)) b (omega (arith, e)) in
+      let e : four (2 * (length b / 8)) ≡ cut = four_is (2 * (length b / 8)) ∙ omega arith in
+      let f = folds (2 * (length b / 8)) b (omega (arith, e)) in
       let g : Folds (long_sum (take cut b)) (word_sum (take cut b)) = rw (← e) f in
-      record { over = g.over; is = omega (arith, parts, p, q, g.is); least = omega (arith, parts, g.least) }
-
-  -- the words left over, as they stand in the part that is lent
-  pub summed_lent : (x y : ℕ) → x ≡ long_sum (take cut b) → y ≡ word_sum (take (2 * (n % 4)) (take (length b - cut) (drop cut b))) → Folds (x + y) (word_sum (take (2 * n) b))
-  summed_lent x y p q = summed x y p (q ∙ ap word_sum (take-take (2 * (n % 4)) (length b - cut) (drop cut b) (omega arith)))
+      let r : y ≡ word_sum (drop cut b) = q ∙ ap word_sum left in
+      record { over = g.over; is = omega (arith, parts, p, r, g.is); least = omega (arith, parts, g.least) }

@@ -1,14 +1,15 @@
 -- Padding by sums: bytes are all 0 just where the sum of their words is, and a byte that shares its word with data is looked at alone.
-use mathlib.Core.Bool.{false, true, ◌&&◌, ◌||◌, and-true}
+use mathlib.Core.Bool.{◌&&◌, ◌||◌, and-true}
 use mathlib.Core.List.{List, [], ◌∷◌, append-nil}
 use mathlib.Core.Path.{◌≡◌, refl, sym, ap, ◌∙◌}
-use Prim.Native.Nat.{ℕ, zero, suc, ◌+◌, ◌*◌, ◌/◌, ◌%◌, ◌≤◌, ◌<◌}
-use native.Mathlib.Numerals.{add-one}
+use Prim.Native.Nat.{ℕ, zero, suc, ◌+◌, ◌-◌, ◌*◌, ◌/◌, ◌%◌, ◌≤◌}
 use native.Mathlib.Omega.{arith}
-use borrow.Author.Tests.{eq-eqb, ne_eqb}
+use borrow.Author.Tests.{ne_eqb}
 use lib.Dec.{eqb}
 use lib.ListN.{length, take, drop, get_or}
 use lib.Seq.{drop_at, length-take-le, slice-cons}
+use Rattle.std.specs.List.{list_all}
+use Rattle.std.proofs.lemmas.List.{drop-take}
 use Rattle.lists.specs.Words.{word_sum}
 use Rattle.tape.specs.Numbers.{data_bytes, head_bytes, summed_bytes}
 use Rattle.tape.specs.Reading.{padding_right, zeros}
@@ -32,22 +33,19 @@ full_padding b long =
     ap (drop summed_bytes) (sym (append-nil (take summed_bytes b)))
     ∙ drop_at (take summed_bytes b) [] summed_bytes (length-take-le summed_bytes b long)
 
--- the same a byte at a time, from place j on
-module _ (b : List ℕ) (j : ℕ) (long : summed_bytes ≤ length b) where
-  zeros_at : j < summed_bytes → zeros (drop j (take summed_bytes b)) ≡ (eqb (get_or b j 0) 0 && zeros (drop (j + 1) (take summed_bytes b)))
-  unfolding zeros
-  zeros_at h = rw (add-one j, slice-cons j summed_bytes b 0 h long)
+-- the same a byte at a time
+all_zeros : (l : List ℕ) → list_all (λ x. eqb x 0) l ≡ zeros l
+unfolding zeros
+all_zeros [] = refl
+all_zeros (a ∷ r) = ap (λ z. eqb a 0 && z) (all_zeros r)
 
-  pub zeros_next : j < summed_bytes → get_or b j 0 ≡ 0 → zeros (drop (j + 1) (take summed_bytes b)) ≡ zeros (drop j (take summed_bytes b))
-  zeros_next h e = rw (zeros_at h, eq-eqb (get_or b j 0) 0 e)
-
-  pub zeros_stop : j < summed_bytes → (get_or b j 0 ≡ 0 → ⊥) → false ≡ zeros (drop j (take summed_bytes b))
-  zeros_stop h f = rw (zeros_at h, ne_eqb (get_or b j 0) 0 f)
-
-  -- and at the end nothing is left to look at
-  pub zeros_end : j ≡ summed_bytes → zeros (drop j (take summed_bytes b)) ≡ true
-  unfolding zeros
-  zeros_end e = rw (e, full_padding b long)
+pub padding_bytes : (b : List ℕ) (used : ℕ) → used ≤ data_bytes → list_all (λ x. eqb x 0) (take (summed_bytes - (head_bytes + used)) (drop (head_bytes + used) b)) ≡ padding_right b used
+unfolding padding_right
+padding_bytes b used low =
+    let i = head_bytes + used in
+    let n = summed_bytes - i in
+    let e : i + n ≡ summed_bytes = omega arith in
+    all_zeros (take n (drop i b)) ∙ ap zeros (rw e at (sym (drop-take i n b)))
 
 -- how many words hold the head and the data: an odd last byte counts as a word
 abbrev pub words_with : ℕ → ℕ

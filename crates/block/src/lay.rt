@@ -5,8 +5,8 @@ ghost use Rattle.lists.specs.Words.{word_limit};
 ghost use Rattle.tape.specs.Numbers.{block_bytes, data_bytes};
 ghost use Rattle.tape.specs.Layout.{block_of};
 
-use crate::sum::check_sum;
-use lists::{gather, put_word, zero_fill};
+use crate::sum::check_word;
+use lists::{gather, put_word};
 use tape::Geometry;
 
 // The block of kind k, with n and i, whose data are the `used` bytes at the places from address a on.
@@ -28,7 +28,7 @@ pub fn lay_block(
     put_word(b, 4, i);
     let pad = Geometry::HEAD + used;
     gather(&mut b[Geometry::HEAD..pad], mem, a, swb);
-    zero_fill(&mut b[pad..Geometry::SUMMED]);
-    let check = check_sum(b, Geometry::SUMMED_WORDS) % Geometry::CHECK_MODULUS;
+    b[pad..Geometry::SUMMED].fill(0);
+    let check = check_word(b);
     put_word(b, Geometry::SUMMED, check);
 }

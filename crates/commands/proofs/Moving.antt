@@ -4,6 +4,7 @@ use mathlib.Core.List.{List, [], ◌∷◌}
 use Prim.Native.Nat.{ℕ}
 use denote.Enum.Declared.{tag_of}
 use types.Run.{OneOf, miss}
+use Rattle.std.specs.Prelude.{Some}
 use Rattle.signals.specs.declared.codes.Command.{Command}
 use Rattle.signals.specs.declared.codes.Command.TheVariants as command
 use Rattle.signals.specs.declared.packet.Header.{Header}
@@ -15,16 +16,16 @@ use Rattle.commands.specs.Commands.{carried_out, carried_out_under, formatted_un
 
 -- by their tags: none of these three
 abbrev not_characteristics : List ℕ
-not_characteristics = 0 ∷ 1 ∷ 2 ∷ 3 ∷ 5 ∷ 6 ∷ 7 ∷ 8 ∷ 9 ∷ 10 ∷ 11 ∷ 12 ∷ 13 ∷ 14 ∷ 15 ∷ 16 ∷ 17 ∷ 18 ∷ 19 ∷ 20 ∷ []
+not_characteristics = 0 ∷ 1 ∷ 2 ∷ 3 ∷ 5 ∷ 6 ∷ 7 ∷ 8 ∷ 9 ∷ 10 ∷ 11 ∷ 12 ∷ 13 ∷ 14 ∷ 15 ∷ 16 ∷ 17 ∷ 18 ∷ 19 ∷ []
 
 abbrev not_release : List ℕ
-not_release = 0 ∷ 1 ∷ 2 ∷ 3 ∷ 4 ∷ 5 ∷ 6 ∷ 7 ∷ 8 ∷ 9 ∷ 10 ∷ 11 ∷ 12 ∷ 13 ∷ 14 ∷ 16 ∷ 17 ∷ 18 ∷ 19 ∷ 20 ∷ []
+not_release = 0 ∷ 1 ∷ 2 ∷ 3 ∷ 4 ∷ 5 ∷ 6 ∷ 7 ∷ 8 ∷ 9 ∷ 10 ∷ 11 ∷ 12 ∷ 13 ∷ 14 ∷ 16 ∷ 17 ∷ 18 ∷ 19 ∷ []
 
 abbrev not_unload : List ℕ
-not_unload = 0 ∷ 1 ∷ 2 ∷ 3 ∷ 4 ∷ 5 ∷ 6 ∷ 7 ∷ 8 ∷ 9 ∷ 10 ∷ 11 ∷ 12 ∷ 13 ∷ 14 ∷ 15 ∷ 17 ∷ 18 ∷ 19 ∷ 20 ∷ []
+not_unload = 0 ∷ 1 ∷ 2 ∷ 3 ∷ 4 ∷ 5 ∷ 6 ∷ 7 ∷ 8 ∷ 9 ∷ 10 ∷ 11 ∷ 12 ∷ 13 ∷ 14 ∷ 15 ∷ 17 ∷ 18 ∷ 19 ∷ []
 
 module _ (u : Unit) (m s : List ℕ) (h : Header) (p : Packet) where
-  pub ends_as_moved : (c : Command) → OneOf not_characteristics (tag_of variants.the_type c) → OneOf not_release (tag_of variants.the_type c) → OneOf not_unload (tag_of variants.the_type c) → motion_plan u h.ie (motion_of u s h p c) ≡ carried_out u m s h p c
+  pub ends_as_moved : (c : Command) → OneOf not_characteristics (tag_of variants.the_type c) → OneOf not_release (tag_of variants.the_type c) → OneOf not_unload (tag_of variants.the_type c) → motion_plan u h.ie (motion_of u s h p c) ≡ carried_out u m s h p (Some c)
   unfolding carried_out_under motion_of_under read_by_under reread_by_under positioned_by_under written_by_under formatted_under rewound_under plain_effect_under motion_plan_under
   ends_as_moved command.ReadNext a b d = refl
   ends_as_moved command.ReadPrevious a b d = refl
@@ -46,4 +47,3 @@ module _ (u : Unit) (m s : List ℕ) (h : Header) (p : Packet) where
   ends_as_moved command.Clean a b d = refl
   ends_as_moved command.Initialize a b d = refl
   ends_as_moved command.GetStatus a b d = refl
-  ends_as_moved command.Illegal a b d = refl

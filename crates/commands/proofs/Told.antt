@@ -12,12 +12,13 @@ use Rattle.state.specs.declared.Unit.{Unit}
 use Rattle.state.proofs.Legal.{legal_with}
 use Rattle.motions.specs.Parts.{no_lay, no_move}
 use Rattle.motions.specs.declared.parts.Ending.{Ending}
-use Rattle.motions.specs.declared.parts.Motion.{Motion}
-use Rattle.motions.specs.declared.parts.Motion.TheVariants as motion
+use Rattle.commands.specs.Answers.{bad_block}
 use Rattle.commands.specs.Ends.{ended, motion_plan, motion_plan_under, still, told, told_under, told_unit, untold, with_attention, with_tape}
-use Rattle.commands.specs.declared.plans.Answer.{Answer}
-use Rattle.commands.specs.declared.plans.Answer.TheVariants as answer
+use Rattle.commands.specs.Answers.{Answer}
 use Rattle.commands.specs.declared.plans.Plan.{Plan}
+use Rattle.std.specs.Prelude.{Result, Ok, Err}
+use Rattle.tape.specs.declared.Damage.{Damage}
+use Rattle.tape.specs.Damage.{damage}
 
 -- the state v that an end of class k leaves of u: all but the end's own registers, the tape and the message buffer's owner stays
 pub record EndsAs (u : Unit) (t : Tape) (k : ℕ) (v : Unit) : Type 0 where
@@ -70,10 +71,10 @@ unfolding told_under told_unit ended
 told_sends u ie x = not-true u.registers.nba
 
 -- what holds of every end that is told and of every fault holds of every motion
-pub motion_either : (u : Unit) (ie : Bool) (P : Plan → Type 0) (y : Motion) → ((x : Ending) → y ≡ motion.Ended x → P (told u ie x)) → ((why : BlockFault) (k : ℕ) → y ≡ motion.Fault why k → P (still u (answer.BadBlock why k))) → P (motion_plan u ie y)
+pub motion_either : (u : Unit) (ie : Bool) (P : Plan → Type 0) (y : Result Ending Damage) → ((x : Ending) → y ≡ Ok x → P (told u ie x)) → ((why : BlockFault) (k : ℕ) → y ≡ Err (damage why k) → P (still u (bad_block why k))) → P (motion_plan u ie y)
 unfolding motion_plan_under
-motion_either u ie P (motion.Ended x) p q = p x refl
-motion_either u ie P (motion.Fault why k) p q = q why k refl
+motion_either u ie P (Ok x) p q = p x refl
+motion_either u ie P (Err d) p q = q d.fault d.block refl
 
 pub record StoresNothing (p : Plan) : Type 0 where
   pub moved : p.moved ≡ no_move

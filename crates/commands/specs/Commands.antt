@@ -1,5 +1,5 @@
 -- The commands, carried out. (01, "Commands")
-use Rattle.std.specs.Prelude.{◌≡◌, Bool, true, false, ◌||◌, List, ℕ, ◌+◌, ◌*◌, ◌/◌, ◌%◌, ◌≤◌, eqb, leb, ltb, length}
+use Rattle.std.specs.Prelude.{Option, Some, None, ◌≡◌, Bool, true, false, ◌||◌, List, ℕ, ◌+◌, ◌*◌, ◌/◌, ◌%◌, ◌≤◌, eqb, leb, ltb, length, Result}
 use Rattle.lists.specs.Pick.{pick}
 use Rattle.lists.specs.Words.{word_at}
 use Rattle.tape.specs.Numbers.{margin, record_limit}
@@ -23,11 +23,12 @@ use Rattle.motions.specs.Spaces.{positioned_under}
 use Rattle.motions.specs.Writes.{retried_under, written_at_under}
 use Rattle.commands.specs.Ends.{motion_plan_under, told_under, untold, with_attention, with_panel}
 use Rattle.motions.specs.declared.parts.Laid.{Laid}
-use Rattle.motions.specs.declared.parts.Motion.{Motion}
+use Rattle.motions.specs.declared.parts.Ending.{Ending}
 use Rattle.motions.specs.declared.parts.ObjectKind.{ObjectKind}
 use Rattle.motions.specs.declared.parts.ObjectKind.TheVariants as kind
 use Rattle.motions.specs.declared.reads.Buffer.{Buffer}
 use Rattle.commands.specs.declared.plans.Plan.{Plan}
+use Rattle.tape.specs.declared.Damage.{Damage}
 
 abbrev pub plain_end : End
 plain_end = end 0 0 0 residual.Nothing
@@ -88,8 +89,8 @@ laid_here t o pointer n swb =
     record { at = t.position; gap_first = false; object = o; pointer = pointer; length = n; swb = swb }
 
 -- what a Write Characteristics asks of its packet: the data are in memory (step 10)
-abbrev pub DataFit : Command → Packet → List ℕ → Type 0
-DataFit c p m = c ≡ command.WriteCharacteristics → p.pointer + p.count ≤ length m
+abbrev pub DataFit : Option Command → Packet → List ℕ → Type 0
+DataFit c p m = c ≡ Some command.WriteCharacteristics → p.pointer + p.count ≤ length m
 
 -- under any EOT margin
 module _ (eotMargin : ℕ) where
@@ -126,7 +127,7 @@ module _ (eotMargin : ℕ) where
 -- under any record limit
 module _ (limit : ℕ) where
   -- "In Marks with ESS .. or with ENB too"
-  abbrev pub positioning_under : List ℕ → Tape → Characteristics → Count → Bool → Motion
+  abbrev pub positioning_under : List ℕ → Tape → Characteristics → Count → Bool → Result Ending Damage
   positioning_under s t c count reverse = positioned_under limit s t (record { reverse = reverse; ess = c.ess }) count c.enb
 
 -- under any record limit and any EOT margin
@@ -141,7 +142,7 @@ module _ (limit eotMargin : ℕ) where
   positioned_by_under u s h count reverse = motion_plan_under eotMargin u h.ie (positioning_under limit s u.tape u.characteristics count reverse)
 
   -- "Write 5 / 0, 2 retry", "Format 9 / 0 mark, .. 2 mark retry"
-  abbrev pub laying_under : List ℕ → Tape → ℕ → Laid → Bool → Bool → Motion
+  abbrev pub laying_under : List ℕ → Tape → ℕ → Laid → Bool → Bool → Result Ending Damage
   laying_under s t blocks l mark again = pick again (retried_under limit eotMargin s t blocks l mark) (written_at_under eotMargin t blocks l mark)
 
   unfoldable pub written_by_under : Unit → List ℕ → Header → Packet → Bool → Plan
@@ -154,7 +155,7 @@ module _ (limit eotMargin : ℕ) where
       motion_plan_under eotMargin u h.ie (laying_under s u.tape u.lengths.blocks (laid_here u.tape o 0 0 false) mark again)
 
   -- the motion of a command, as `carried_out_under` below has it; those that move nothing end where the tape stands
-  unfoldable pub motion_of_under : Unit → List ℕ → Header → Packet → Command → Motion
+  unfoldable pub motion_of_under : Unit → List ℕ → Header → Packet → Command → Result Ending Damage
   motion_of_under u s h p command.ReadNext = read_one_under limit s u.tape (asked h p) false
   motion_of_under u s h p command.ReadPrevious = read_one_under limit s u.tape (asked h p) true
   motion_of_under u s h p command.RereadPrevious = reread_under limit s u.tape (asked h p) true h.opp
@@ -175,31 +176,30 @@ module _ (limit eotMargin : ℕ) where
   motion_of_under u s h p command.Clean = stops plain_end u.tape
   motion_of_under u s h p command.Initialize = stops plain_end u.tape
   motion_of_under u s h p command.GetStatus = stops plain_end u.tape
-  motion_of_under u s h p command.Illegal = stops plain_end u.tape
 
-  unfoldable pub carried_out_under : Unit → List ℕ → List ℕ → Header → Packet → Command → Plan
-  carried_out_under u m s h p command.ReadNext = read_by_under u s h p false
-  carried_out_under u m s h p command.ReadPrevious = read_by_under u s h p true
-  carried_out_under u m s h p command.RereadPrevious = reread_by_under u s h p true
-  carried_out_under u m s h p command.RereadNext = reread_by_under u s h p false
-  carried_out_under u m s h p command.WriteCharacteristics = characterized_under eotMargin u m p h.ie
-  carried_out_under u m s h p command.Write = written_by_under u s h p false
-  carried_out_under u m s h p command.WriteRetry = written_by_under u s h p true
-  carried_out_under u m s h p command.RecordsForward = positioned_by_under u s h (records p.count) false
-  carried_out_under u m s h p command.RecordsReverse = positioned_by_under u s h (records p.count) true
-  carried_out_under u m s h p command.MarksForward = positioned_by_under u s h (marks p.count) false
-  carried_out_under u m s h p command.MarksReverse = positioned_by_under u s h (marks p.count) true
-  carried_out_under u m s h p command.Rewind = rewound_under eotMargin u h.ie
-  carried_out_under u m s h p command.WriteMark = formatted_under u s h kind.Mark true false
-  carried_out_under u m s h p command.Erase = formatted_under u s h kind.Gap false false
-  carried_out_under u m s h p command.MarkRetry = formatted_under u s h kind.Mark true true
-  carried_out_under u m s h p command.Release = released u h.ie
-  carried_out_under u m s h p command.Unload = unloaded_under eotMargin u h.ie
-  carried_out_under u m s h p command.Clean = plain_effect_under eotMargin u h.ie
-  carried_out_under u m s h p command.Initialize = plain_effect_under eotMargin u h.ie
-  carried_out_under u m s h p command.GetStatus = plain_effect_under eotMargin u h.ie
+  unfoldable pub carried_out_under : Unit → List ℕ → List ℕ → Header → Packet → Option Command → Plan
+  carried_out_under u m s h p (Some command.ReadNext) = read_by_under u s h p false
+  carried_out_under u m s h p (Some command.ReadPrevious) = read_by_under u s h p true
+  carried_out_under u m s h p (Some command.RereadPrevious) = reread_by_under u s h p true
+  carried_out_under u m s h p (Some command.RereadNext) = reread_by_under u s h p false
+  carried_out_under u m s h p (Some command.WriteCharacteristics) = characterized_under eotMargin u m p h.ie
+  carried_out_under u m s h p (Some command.Write) = written_by_under u s h p false
+  carried_out_under u m s h p (Some command.WriteRetry) = written_by_under u s h p true
+  carried_out_under u m s h p (Some command.RecordsForward) = positioned_by_under u s h (records p.count) false
+  carried_out_under u m s h p (Some command.RecordsReverse) = positioned_by_under u s h (records p.count) true
+  carried_out_under u m s h p (Some command.MarksForward) = positioned_by_under u s h (marks p.count) false
+  carried_out_under u m s h p (Some command.MarksReverse) = positioned_by_under u s h (marks p.count) true
+  carried_out_under u m s h p (Some command.Rewind) = rewound_under eotMargin u h.ie
+  carried_out_under u m s h p (Some command.WriteMark) = formatted_under u s h kind.Mark true false
+  carried_out_under u m s h p (Some command.Erase) = formatted_under u s h kind.Gap false false
+  carried_out_under u m s h p (Some command.MarkRetry) = formatted_under u s h kind.Mark true true
+  carried_out_under u m s h p (Some command.Release) = released u h.ie
+  carried_out_under u m s h p (Some command.Unload) = unloaded_under eotMargin u h.ie
+  carried_out_under u m s h p (Some command.Clean) = plain_effect_under eotMargin u h.ie
+  carried_out_under u m s h p (Some command.Initialize) = plain_effect_under eotMargin u h.ie
+  carried_out_under u m s h p (Some command.GetStatus) = plain_effect_under eotMargin u h.ie
   -- ended at step 5
-  carried_out_under u m s h p command.Illegal = plain_effect_under eotMargin u h.ie
+  carried_out_under u m s h p None = plain_effect_under eotMargin u h.ie
 
 -- and under this unit's own
 abbrev pub plain_effect : Unit → Bool → Plan
@@ -220,7 +220,7 @@ taken_characteristics = taken_characteristics_under margin
 abbrev pub characterized : Unit → List ℕ → Packet → Bool → Plan
 characterized = characterized_under margin
 
-abbrev pub positioning : List ℕ → Tape → Characteristics → Count → Bool → Motion
+abbrev pub positioning : List ℕ → Tape → Characteristics → Count → Bool → Result Ending Damage
 positioning = positioning_under record_limit
 
 abbrev pub read_by : Unit → List ℕ → Header → Packet → Bool → Plan
@@ -232,7 +232,7 @@ reread_by = reread_by_under record_limit margin
 abbrev pub positioned_by : Unit → List ℕ → Header → Count → Bool → Plan
 positioned_by = positioned_by_under record_limit margin
 
-abbrev pub laying : List ℕ → Tape → ℕ → Laid → Bool → Bool → Motion
+abbrev pub laying : List ℕ → Tape → ℕ → Laid → Bool → Bool → Result Ending Damage
 laying = laying_under record_limit margin
 
 abbrev pub written_by : Unit → List ℕ → Header → Packet → Bool → Plan
@@ -241,8 +241,8 @@ written_by = written_by_under record_limit margin
 abbrev pub formatted : Unit → List ℕ → Header → ObjectKind → Bool → Bool → Plan
 formatted = formatted_under record_limit margin
 
-abbrev pub motion_of : Unit → List ℕ → Header → Packet → Command → Motion
+abbrev pub motion_of : Unit → List ℕ → Header → Packet → Command → Result Ending Damage
 motion_of = motion_of_under record_limit margin
 
-abbrev pub carried_out : Unit → List ℕ → List ℕ → Header → Packet → Command → Plan
+abbrev pub carried_out : Unit → List ℕ → List ℕ → Header → Packet → Option Command → Plan
 carried_out = carried_out_under record_limit margin

@@ -1,6 +1,6 @@
 -- "Every end sets SSR and keeps RMR and NXM. A message goes out only if NBA is clear. After every end the CPU owns the message buffer,
 -- save step 1 and a release carried out, which sends none and keeps the owner. Interrupt if IE, save those two." (01)
-use Rattle.std.specs.Prelude.{Bool, true, false, ◌||◌, not, List, [], ◌∷◌, ℕ, eqb, leb}
+use Rattle.std.specs.Prelude.{Bool, true, false, ◌||◌, not, List, [], ◌∷◌, ℕ, eqb, leb, Result, Ok, Err}
 use Rattle.tape.specs.Numbers.{eot_marker_under, margin}
 use Rattle.signals.specs.Message.{message_of}
 use Rattle.signals.specs.declared.message.Status.{Status}
@@ -10,15 +10,15 @@ use Rattle.state.specs.declared.Panel.{Panel}
 use Rattle.state.specs.declared.Attention.{Attention}
 use Rattle.state.specs.Changes.{with_registers}
 use Rattle.motions.specs.Parts.{laid_blocks, no_lay, no_move}
-use Rattle.commands.specs.declared.plans.Answer.{Answer}
-use Rattle.commands.specs.declared.plans.Answer.TheVariants as answer
+use Rattle.state.specs.declared.refusal.Refusal.TheVariants as refusal
+use Rattle.commands.specs.Answers.{Answer}
+use Rattle.commands.specs.declared.plans.Done.TheVariants as answer
 use Rattle.commands.specs.declared.plans.Plan.{Plan}
 use Rattle.commands.specs.declared.plans.Course.{Course}
 use Rattle.commands.specs.declared.plans.How.{How}
 use Rattle.commands.specs.declared.plans.How.TheVariants as how
 use Rattle.motions.specs.declared.parts.Ending.{Ending}
-use Rattle.motions.specs.declared.parts.Motion.{Motion}
-use Rattle.motions.specs.declared.parts.Motion.TheVariants as motion
+use Rattle.tape.specs.declared.Damage.{Damage}
 
 -- the state with one part anew
 abbrev pub with_tape : Unit → Tape → Unit
@@ -90,7 +90,7 @@ told_unit u x = with_owner (ended (with_tape u x.tape) x.end.class) false
 -- an end that is not told: step 1 and "a release carried out, which sends none and keeps the owner", with no interrupt, and step 2,
 -- which interrupts if IE
 unfoldable pub untold : Unit → ℕ → Bool → Plan
-untold u class interrupts = still (ended u class) (answer.Done interrupts)
+untold u class interrupts = still (ended u class) (Ok (answer.Step interrupts))
 
 -- under any EOT margin
 module _ (eotMargin : ℕ) where
@@ -111,7 +111,7 @@ module _ (eotMargin : ℕ) where
   unfoldable pub told_under : Unit → Bool → Ending → Plan
   told_under u ie x =
       record {
-        answer = answer.Done ie;
+        answer = Ok (answer.Step ie);
         unit = told_unit u x;
         moved = x.moved;
         laid = x.laid;
@@ -120,9 +120,9 @@ module _ (eotMargin : ℕ) where
       }
 
   -- what a motion of the tape comes to; a block at fault refuses with 7, and a plan that is refused is not carried out
-  unfoldable pub motion_plan_under : Unit → Bool → Motion → Plan
-  motion_plan_under u ie (motion.Ended x) = told_under u ie x
-  motion_plan_under u ie (motion.Fault why k) = still u (answer.BadBlock why k)
+  unfoldable pub motion_plan_under : Unit → Bool → Result Ending Damage → Plan
+  motion_plan_under u ie (Ok x) = told_under u ie x
+  motion_plan_under u ie (Err d) = still u (Err (refusal.BadBlock d))
 
   -- told or not, as a plan
   unfoldable pub plan_by_under : Unit → Bool → How → Plan
@@ -140,7 +140,7 @@ status_of = status_of_under margin
 abbrev pub told : Unit → Bool → Ending → Plan
 told = told_under margin
 
-abbrev pub motion_plan : Unit → Bool → Motion → Plan
+abbrev pub motion_plan : Unit → Bool → Result Ending Damage → Plan
 motion_plan = motion_plan_under margin
 
 abbrev pub plan_by : Unit → Bool → How → Plan

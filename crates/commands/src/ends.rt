@@ -2,11 +2,11 @@
 ghost use Rattle.std.specs.Prelude.{◌≡◌};
 ghost use Rattle.commands.specs.Ends.{ended, motion_plan, plan_of, quiet, status_of, still, told, untold};
 
-use crate::plans::{Answer, Course, How, Plan};
-use motions::{Ending, Motion, laid_blocks, no_lay, no_move};
+use crate::plans::{Answer, Course, Done, How, Plan};
+use motions::{Ending, laid_blocks, no_lay, no_move};
 use signals::{Status, message_of};
-use state::Unit;
-use tape::Geometry;
+use state::{Refusal, Unit};
+use tape::{Damage, Geometry};
 
 fn quiet_message() -> [u16; 7]
     ensures { result ≡ quiet }
@@ -78,7 +78,7 @@ fn tell(u: Unit, ie: bool, x: Ending) -> Plan
     let message = message_of(end, status_of(unit, ie, mot));
     let sends = !unit.registers.nba;
     Plan {
-        answer: Answer::Done(ie),
+        answer: Ok(Done::Step(ie)),
         unit,
         moved,
         laid,
@@ -91,21 +91,21 @@ fn tell(u: Unit, ie: bool, x: Ending) -> Plan
 fn untell(u: Unit, class: usize, interrupts: bool) -> Plan
     ensures { result ≡ untold u class interrupts }
 {
-    still_plan(ended_unit(u, class), Answer::Done(interrupts))
+    still_plan(ended_unit(u, class), Ok(Done::Step(interrupts)))
 }
 
 // A motion that ended is told; a block at fault refuses with 7.
-fn plan_motion(u: Unit, ie: bool, m: Motion) -> Plan
+fn plan_motion(u: Unit, ie: bool, m: Result<Ending, Damage>) -> Plan
     ensures { result ≡ motion_plan u ie m }
 {
     match m {
-        Motion::Ended(x) => tell(u, ie, x),
-        Motion::Fault(fault, k) => still_plan(u, Answer::BadBlock(fault, k)),
+        Ok(x) => tell(u, ie, x),
+        Err(d) => still_plan(u, Err(Refusal::BadBlock(d))),
     }
 }
 
 // A motion that is told.
-pub fn told_course(unit: Unit, ie: bool, m: Motion) -> Course
+pub fn told_course(unit: Unit, ie: bool, m: Result<Ending, Damage>) -> Course
     ensures { plan_of result ≡ motion_plan unit ie m }
 {
     Course {

@@ -7,4 +7,4 @@ mod plans;
 
 pub use carried::carry_out;
 pub use ends::{plan_of, still_plan, told_course};
-pub use plans::{Answer, Course, How, Plan};
+pub use plans::{Answer, Course, Done, How, Plan};

@@ -1,25 +1,24 @@
 // What a step is about to do, as a value.
-use motions::{Laid, Motion, Moved};
-use state::Unit;
-use tape::BlockFault;
+use motions::{Ending, Laid, Moved};
+use state::{Refusal, Unit};
+use tape::Damage;
+
+// What a call that is answered 0 did.
+#[derive(Clone, Copy)]
+pub enum Done {
+    // A step taken, or taken back, a mount: whether it interrupts.
+    Step(bool),
+    Idle,
+}
 
 // The answers of the calls; a definition in specs/ gives each its number.
-#[derive(Clone, Copy)]
-pub enum Answer {
-    // Whether it interrupts.
-    Done(bool),
-    Idle,
-    // A refusal's number.
-    Refused(usize),
-    // Refusal 7: what is wrong with the block that it names, and the block.
-    BadBlock(BlockFault, usize),
-}
+pub type Answer = Result<Done, Refusal>;
 
 // Whether an advance tells how it ended.
 #[derive(Clone, Copy)]
 pub enum How {
     // With a message, if the unit has a buffer for it.
-    Told(Motion),
+    Told(Result<Ending, Damage>),
     // The class alone.
     Untold(usize),
 }
@@ -36,10 +35,12 @@ pub struct Course {
 // All that a step is about to store.
 #[derive(Clone, Copy)]
 pub struct Plan {
+    // Kept: `advanced` gives one plan whatever the answer, and the theorems speak of its parts.
     pub answer: Answer,
     pub unit: Unit,
     pub moved: Moved,
     pub laid: Laid,
+    // Kept: no `Option` of the message, since the table's `p3_message` and `p5` speak of its words whether it is sent or not.
     pub sends: bool,
     pub message: [u16; 7],
 }

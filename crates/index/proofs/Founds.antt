@@ -6,86 +6,61 @@ use Prim.Native.Nat.{ℕ, zero, suc, ◌+◌, ◌-◌, ◌*◌, ◌≤◌, ◌<�
 use native.Mathlib.Nat.{add-zero}
 use native.Mathlib.Numerals.{add-one}
 use native.Mathlib.Omega.{arith}
-use borrow.Author.Tests.{eq-eqb, eqb-false, le-leb, le-ltb, leb-false, lt-leb, lt-ltb, ltb-false, ltb-true, ne_eqb}
+use borrow.Author.Tests.{eq-eqb, eqb-false, le-ltb, leb-false, lt-leb, lt-ltb, ltb-false, ltb-true, ne_eqb}
 use lib.Dec.{eqb, leb, ltb}
 use lib.ListN.{drop, length, length-append, take}
 use lib.Seq.{get_or-append_seam, length-take-le, split_at, take_all, take-append-le, take-append_seam, take-length, take-suc, take-take}
+use Rattle.std.specs.Prelude.{Option, Some, None, SomeIff}
+use Rattle.std.proofs.lemmas.Option.{none-some, same_Some}
 use Rattle.lists.specs.Pick.{pick}
 use Rattle.lists.proofs.Cases.{by_test, past}
 use Rattle.tape.specs.Objects.{Object, blocks_in, blocks_of, gap, mark, record_of}
-use Rattle.tape.proofs.Accepted.{clash}
 use Rattle.tape.proofs.Fronts.{blocks_low, blocks_more, nth}
 use Rattle.index.specs.Finding.{FileBegins, Filed, HoldsBlock, block_found, file_found, files, no_file}
 use Rattle.index.specs.Halving.{halved, number_in, of_blocks, of_marks}
 use Rattle.index.specs.Table.{marks_in, marks_of, place_length, places_in, places_limit}
-use Rattle.index.specs.declared.Found.TheVariants as found
 use Rattle.index.proofs.Halves.{halved_before, halved_behind, halved_is, halved_low}
 use Rattle.index.proofs.Tables.{Worked, first_nth, mark_one, marks_append, marks_low, marks_more, marks_nth}
 
--- what `find_file` and `find_block` return, by the tests that lead there
+-- what is found where the tests let it be
 module _ (tb : List ℕ) (n f w : ℕ) (p : w ≡ places_in (length tb)) where
-  pub file_short : w < n → found.Nowhere ≡ file_found tb n f
-  unfolding file_found
-  file_short l = rw (← p, lt-ltb w n l)
-
   module _ (room : n ≤ w) (i : ℕ) (e : i ≡ halved tb of_marks f n) where
-    pub file_at : i < n → found.At i ≡ file_found tb n f
+    file_at : i < n → Some i ≡ file_found tb n f
     unfolding file_found
     file_at l = rw (← p, le-ltb w n room, ← e, lt-ltb i n l)
 
-    pub file_none : n ≤ i → found.Nowhere ≡ file_found tb n f
-    unfolding file_found
-    file_none l = rw (← p, le-ltb w n room, ← e, le-ltb i n l)
-
 module _ (tb : List ℕ) (n e b w : ℕ) (p : w ≡ places_in (length tb)) where
-  pub block_short : w < n → found.Nowhere ≡ block_found tb n e b
-  unfolding block_found
-  block_short l = rw (← p, lt-ltb w n l)
-
-  pub block_beyond : n ≤ w → e ≤ b → found.Nowhere ≡ block_found tb n e b
-  unfolding block_found
-  block_beyond l k = rw (← p, le-ltb w n l, le-leb e b k)
-
   module _ (room : n ≤ w) (below : b < e) (i : ℕ) (h : i ≡ halved tb of_blocks (b + 1) n) where
-    pub block_none : i ≡ 0 → found.Nowhere ≡ block_found tb n e b
+    block_at : (r : Option ℕ) → SomeIff r (1 ≤ i) (i - 1) → r ≡ block_found tb n e b
     unfolding block_found
-    block_none z = rw (← p, le-ltb w n room, lt-leb e b below, ← h, eq-eqb i 0 z)
-
-    pub block_at : (i ≡ 0 → ⊥) → found.At (i - 1) ≡ block_found tb n e b
-    unfolding block_found
-    block_at z = rw (← p, le-ltb w n room, lt-leb e b below, ← h, ne_eqb i 0 z)
+    block_at None x = rw (← p, le-ltb w n room, lt-leb e b below, ← h, eq-eqb i 0 (omega arith))
+    block_at (Some k) x = rw (← p, le-ltb w n room, lt-leb e b below, ← h, ne_eqb i 0 (λ z. omega arith), x.1)
 
 -- and what an answer says of the tests
-not_nowhere : (i : ℕ) → found.Nowhere ≡ found.At i → ⊥
-not_nowhere i e = clash (cc)
-
-the_place : (i j : ℕ) → found.At i ≡ found.At j → i ≡ j
-the_place i j e = cc
-
-at_first : (t : Bool) (i j : ℕ) → pick t (found.At i) found.Nowhere ≡ found.At j → (t ≡ true) × (i ≡ j)
-at_first true i j e = (refl, the_place i j e)
-at_first false i j e = absurd (not_nowhere j e)
+at_first : (t : Bool) (i j : ℕ) → pick t (Some i) None ≡ Some j → (t ≡ true) × (i ≡ j)
+at_first true i j e = (refl, same_Some i j e)
+at_first false i j e = absurd (none-some j e)
 
 module _ (tb : List ℕ) (n i : ℕ) where
   -- the place is where the halving ends
-  pub file_told : (f : ℕ) → file_found tb n f ≡ found.At i → (i ≡ halved tb of_marks f n) × (i < n)
+  pub file_told : (f : ℕ) → file_found tb n f ≡ Some i → (i ≡ halved tb of_marks f n) × (i < n)
   unfolding file_found
   file_told f e =
       let at = halved tb of_marks f n in
-      let q = past (ltb (places_in (length tb)) n) found.Nowhere (pick (ltb at n) (found.At at) found.Nowhere) (found.At i) (not_nowhere i) e in
+      let q = past (ltb (places_in (length tb)) n) None (pick (ltb at n) (Some at) None) (Some i) (none-some i) e in
       let r = at_first (ltb at n) at i q.1 in
       let l : at < n = ltb-true at n r.0 in
       (sym r.1, omega (arith, r.1))
 
-  pub block_told : (e b : ℕ) → block_found tb n e b ≡ found.At i → (b < e) × (suc i ≡ halved tb of_blocks (b + 1) n) × (i < n)
+  pub block_told : (e b : ℕ) → block_found tb n e b ≡ Some i → (b < e) × (suc i ≡ halved tb of_blocks (b + 1) n) × (i < n)
   unfolding block_found
   block_told e b h =
       let at = halved tb of_blocks (b + 1) n in
-      let rest = pick (eqb at 0) found.Nowhere (found.At (at - 1)) in
-      let q = past (ltb (places_in (length tb)) n) found.Nowhere (pick (leb e b) found.Nowhere rest) (found.At i) (not_nowhere i) h in
-      let r = past (leb e b) found.Nowhere rest (found.At i) (not_nowhere i) q.1 in
-      let t = past (eqb at 0) found.Nowhere (found.At (at - 1)) (found.At i) (not_nowhere i) r.1 in
-      let u = the_place (at - 1) i t.1 in
+      let rest = pick (eqb at 0) None (Some (at - 1)) in
+      let q = past (ltb (places_in (length tb)) n) None (pick (leb e b) None rest) (Some i) (none-some i) h in
+      let r = past (leb e b) None rest (Some i) (none-some i) q.1 in
+      let t = past (eqb at 0) None (Some (at - 1)) (Some i) (none-some i) r.1 in
+      let u = same_Some (at - 1) i t.1 in
       let z = eqb-false at 0 t.0 in
       let s : suc i ≡ at = omega arith in
       (leb-false e b r.0, s, omega (arith, halved_low tb of_blocks (b + 1) n))
@@ -120,7 +95,7 @@ module _ {tb : List ℕ} {n : ℕ} {os : List Object} (w : Worked tb n os) (room
   large = omega arith
 
   -- every place before the file's first has fewer marks, and none from there on
-  pub file_found_lem : {f i : ℕ} → FileBegins os f i → file_found tb n f ≡ found.At i
+  pub file_found_lem : {f i : ℕ} → FileBegins os f i → file_found tb n f ≡ Some i
   file_found_lem {f} {i} x =
       let long : length os ≡ length x.before + suc (length x.after) = ap length x.whole ∙ length-append x.before (x.object ∷ x.after) in
       let below : i < n = omega (arith, w.count, x.place) in
@@ -131,7 +106,7 @@ module _ {tb : List ℕ} {n : ℕ} {os : List Object} (w : Worked tb n os) (room
       (λ j l k. omega (arith, marks_nth w j k, marks_low os i j l, ap marks_of front, x.marks)) in
       sym (file_at tb n f (places_in (length tb)) refl large i (sym at) below)
 
-  pub file_begins : {f i : ℕ} → file_found tb n f ≡ found.At i → FileBegins os f i
+  pub file_begins : {f i : ℕ} → file_found tb n f ≡ Some i → FileBegins os f i
   file_begins {f} {i} e =
       let t = file_told tb n i f e in
       let l : i < length os = omega (arith, t.1, w.count) in
@@ -151,7 +126,7 @@ module _ {tb : List ℕ} {n : ℕ} {os : List Object} (w : Worked tb n os) (room
   upto : (i : ℕ) → i < length os → blocks_of (take i os) + blocks_in (nth os i) ≤ blocks_of os
   upto i l = omega (arith, blocks_more os i l, blocks_low os (i + 1) (length os) (omega arith), ap blocks_of (take-length os))
 
-  pub block_found_lem : {b i : ℕ} → HoldsBlock os b i → block_found tb n (blocks_of os) b ≡ found.At i
+  pub block_found_lem : {b i : ℕ} → HoldsBlock os b i → block_found tb n (blocks_of os) b ≡ Some i
   block_found_lem {b} {i} x =
       let long : length os ≡ length x.before + suc (length x.after) = ap length x.whole ∙ length-append x.before (x.object ∷ x.after) in
       let l : i < length os = omega (arith, x.place) in
@@ -164,9 +139,9 @@ module _ {tb : List ℕ} {n : ℕ} {os : List Object} (w : Worked tb n os) (room
       (λ j k. rw (add-zero (place_length * j), first_nth w j (omega (arith, w.count))) (omega (arith, blocks_low os j i (omega arith))))
       (λ j k m. rw (add-zero (place_length * j), first_nth w j m) (omega (arith, blocks_more os i l, blocks_low os (i + 1) j (omega arith)))) in
       let back : suc i - 1 ≡ i = omega arith in
-      sym (block_at tb n (blocks_of os) b (places_in (length tb)) refl large (omega (arith, upto i l)) (suc i) (sym at) (λ z. omega arith)) ∙ ap (λ (k : ℕ). found.At k) back
+      sym (block_at tb n (blocks_of os) b (places_in (length tb)) refl large (omega (arith, upto i l)) (suc i) (sym at) (Some i) (omega arith, sym back))
 
-  pub block_holds : {b i : ℕ} → block_found tb n (blocks_of os) b ≡ found.At i → HoldsBlock os b i
+  pub block_holds : {b i : ℕ} → block_found tb n (blocks_of os) b ≡ Some i → HoldsBlock os b i
   block_holds {b} {i} e =
       let t = block_told tb n i (blocks_of os) b e in
       let l : i < length os = omega (arith, t.2, w.count) in

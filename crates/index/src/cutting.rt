@@ -10,6 +10,7 @@ use lists::{number_at, put_number, word};
 use tape::{Geometry, MARK_KIND};
 
 // Block k's kind; the table may name a block that is not there.
+// Kept: the word that stands there, here and in filling.rt, as `kind_at`, `blocks_at` and `marks_on` ask it; of a made-up table's block it may be any.
 fn kind_at(reel: &[u8], k: usize) -> usize
     ensures { result ≡ kind_at reel.now k }
 {
@@ -28,15 +29,14 @@ fn marks_at(table: &[u8], reel: &[u8], m: usize) -> u32
         return 0;
     }
     let at = PLACE * (m - 1);
-    let marks = number_at(table, at + 4) as usize;
+    let marks = number_at(table, at + 4);
     let kind = kind_at(reel, number_at(table, at) as usize);
-    if kind == MARK_KIND {
-        return ((marks + 1) % 4294967296) as u32;
-    }
-    marks as u32
+    marks.wrapping_add(u32::from(kind == MARK_KIND))
 }
 
 // A write at block b, over a table of n places.
+// Kept: n beside the table, here and in halving.rt: promised for a table that goes on behind its n places.
+#[tactic(auto, unfolding(crate::specs::Cutting::cut_at))]
 pub fn cut_at(table: &[u8], n: usize, reel: &[u8], b: usize) -> Cut
     requires { place_length * n ≤ length table.now }
     ensures { result ≡ cut_at table.now n reel.now b }
@@ -61,9 +61,7 @@ pub fn put_places(table: &mut [u8], c: Cut, b: usize, n: usize)
     requires { (place_length * (c.place + n) ≤ length table.old) × (b + n ≤ 4294967295) }
     ensures { table.new ≡ sets table.old (place_length * c.place) (places_row b c.marks n) }
 {
-    let mut i: usize = 0;
-    while i < n {
+    for i in 0..n {
         put_place(table, c.place + i, (b + i) as u32, c.marks);
-        i += 1;
     }
 }

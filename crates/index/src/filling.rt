@@ -1,4 +1,5 @@
 // A mount's table: the reel is whole, so the first block of each object says how many blocks it has.
+// Kept: that the reel is whole up to e is asked by two functions here and one above, each of a reel and an e that a mount has just swept; a type of both would be made and taken apart there.
 ghost use Rattle.std.specs.Prelude.{◌≡◌, ◌+◌, ◌*◌, ◌≤◌, length};
 ghost use Rattle.std.proofs.lemmas.List.Edits.{sets};
 ghost use Rattle.tape.specs.Afresh.{objects_in};
@@ -12,6 +13,7 @@ use lists::word;
 use tape::{Geometry, MARK_KIND, PIECE_KIND};
 
 // The blocks of the object whose first block is p.
+#[tactic(auto, unfolding(crate::specs::Heads::blocks_at))]
 fn blocks_at(reel: &[u8], p: usize) -> usize
     requires { block_bytes * (p + 1) ≤ length reel.now }
     ensures { result ≡ blocks_at reel.now p }
@@ -24,17 +26,15 @@ fn blocks_at(reel: &[u8], p: usize) -> usize
 }
 
 // 1 if it is a mark.
+#[tactic(auto, unfolding(crate::specs::Heads::marks_on))]
 fn marks_on(reel: &[u8], p: usize) -> u32
     requires { block_bytes * (p + 1) ≤ length reel.now }
     ensures { result ≡ marks_on reel.now p }
 {
-    if word(reel, Geometry::BLOCK * p) == MARK_KIND {
-        1
-    } else {
-        0
-    }
+    u32::from(word(reel, Geometry::BLOCK * p) == MARK_KIND)
 }
 
+// Kept: two walks by objects, each as long as its first block says; as a `for` over e each would need a way out in its middle, which `p < e` is.
 // How many objects a whole reel has below e.
 pub fn count_objects(reel: &[u8], e: usize) -> usize
     requires { Holds reel.now e (objects_in reel.now e) × (e ≤ capacity_limit) }

@@ -4,16 +4,18 @@ ghost use Rattle.index.specs.Halving.{halved};
 ghost use Rattle.index.specs.Table.{place_length, places_in};
 
 use crate::{PLACE, PLACES_LIMIT};
-use lists::{least, number_at};
+use lists::number_at;
 
 // How many places a slice of n bytes has.
 pub fn places(n: usize) -> usize
     ensures { result ≡ places_in n }
 {
-    least(n / PLACE, PLACES_LIMIT)
+    (n / PLACE).min(PLACES_LIMIT)
 }
 
+// Kept: `partition_point` promises nothing on a made-up table, whose numbers may fall, and `halved` is one answer for every table.
 // Of the first n places, by the number that stands at `field` in each.
+// Kept: `field` is a place in the bytes, as `halved` is promised for every one up to 4.
 pub fn halve(table: &[u8], field: usize, v: usize, n: usize) -> usize
     requires { (place_length * n ≤ length table.now) × (field ≤ 4) }
     ensures is { result ≡ halved table.now field v n }

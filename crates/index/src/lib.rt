@@ -19,15 +19,8 @@ pub const PLACE: usize = 8;
 pub const PLACES_LIMIT: usize = 4294967295;
 
 // Where a write cuts the table: the first place that goes, and the marks before the object that it is then for.
-#[derive(Clone, Copy)]
+#[derive(Clone, Copy, Default)]
 pub struct Cut {
     pub place: usize,
     pub marks: u32,
-}
-
-// What a look-up finds: a place of the table, or that there is none.
-#[derive(Clone, Copy)]
-pub enum Found {
-    At(usize),
-    Nowhere,
 }

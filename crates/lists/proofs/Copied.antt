@@ -1,7 +1,8 @@
 -- Bytes that are copied from a list to a place in another, a part at a time: n bytes of d from `from` on are `take n (drop from d)`.
 use mathlib.Core.Path.{◌≡◌, ◌∙◌}
 use mathlib.Core.List.{List}
-use Prim.Native.Nat.{ℕ, ◌+◌, ◌-◌, ◌≤◌, ◌<◌}
+use Prim.Native.Nat.{ℕ, ◌+◌, ◌-◌, ◌*◌, ◌/◌, ◌≤◌, ◌<◌}
+use Rattle.std.proofs.Math.Nat.{lt-mul-div-succ, mul-add, mul-div-le, mul-le-mul_left}
 use native.Mathlib.Omega.{arith}
 use lib.ListN.{length, take, drop, get_or, set}
 use lib.Seq.{sets, take-add, drop-cons, drop-drop}
@@ -37,3 +38,16 @@ module _ (b d : List ℕ) (from at i m : ℕ) {x r y : List ℕ} (e : x ≡ sets
 
   pub copied_last : (k n : ℕ) → r ≡ take m (drop (from + k) d) → y ≡ sets x (at + k) r → n ≡ k + m → k ≤ i → i ≤ n → from + n ≤ length d → y ≡ sets b at (take n (drop from d))
   copied_last k n p q f h g j = rw (q, p, e, f) (copy_last b d from at i k m h (omega arith) (omega arith))
+
+-- whole runs of m of n bytes: run k lies within them, the one after it begins where it ends, and behind the last fewer are left than a run has
+module _ (m n : ℕ) where
+  pub run_next : (k : ℕ) → m * (k + 1) ≡ m * k + m
+  run_next k = omega (arith, mul-add m k 1)
+
+  pub run_within : (k : ℕ) → k < n / m → m * k + m ≤ n
+  run_within k h =
+      let within : m * (k + 1) ≤ m * (n / m) = mul-le-mul_left m (omega arith) in
+      omega (arith, within, mul-div-le n m, run_next k)
+
+  pub runs_rest : 0 < m → n ≤ m * (n / m) + m
+  runs_rest h = omega (arith, lt-mul-div-succ n h, run_next (n / m))

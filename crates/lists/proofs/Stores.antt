@@ -5,7 +5,7 @@ use Prim.Native.Nat.{ℕ, zero, suc, ◌+◌, ◌-◌, ◌≤◌, ◌<◌}
 use native.Mathlib.Nat.{add-suc, suc-add, add-zero}
 use native.Mathlib.Omega.{arith}
 use borrow.Rule.Slice.PartMut.{put_mid}
-use lib.ListN.{length, take, drop, get_or, set, replicate, length-drop, length-replicate, length-set, replicate-append-replicate, drop_of_length-le}
+use lib.ListN.{length, take, drop, get_or, set, length-drop, length-set, drop_of_length-le}
 use lib.Seq.{sets, sets-eq, set_comm, set-set, drop-drop, length-take-le, get_or-set_other, get_or-set_same, take-set-le, drop-set-lt, drop_at, take-append_seam}
 
 -- two runs that meet are one run
@@ -16,16 +16,12 @@ sets_more (a ∷ vs) ws l i = rw (add-suc, ← suc-add) (sets_more vs ws (set l 
 pub sets_at : (vs ws l : List ℕ) (i j : ℕ) → j ≡ i + length vs → sets (sets l i vs) j ws ≡ sets l i (vs ++ ws)
 sets_at vs ws l i j e = rw e (sets_more vs ws l i)
 
--- a fill, by one more store
-pub fill_more : (l : List ℕ) (v at i : ℕ) → set (sets l at (replicate i v)) (at + i) v ≡ sets l at (replicate (i + 1) v)
-fill_more l v at i = sets_at (replicate i v) (v ∷ []) l at (at + i) (rw length-replicate) ∙ ap (sets l at) (replicate-append-replicate i 1 v)
-
 -- a run over the whole list leaves nothing of it
 pub sets_whole : (vs b : List ℕ) → length vs ≡ length b → sets b 0 vs ≡ vs
 sets_whole vs b e = sets-eq vs b 0 (omega arith) ∙ ap (λ (t : List ℕ). vs ++ t) (drop_of_length-le b {i = 0 + length vs} (omega arith)) ∙ append-nil vs
 
 -- a store before a run may come first
-set_first : (vs l : List ℕ) (i p v : ℕ) → p < i → set (sets l i vs) p v ≡ sets (set l p v) i vs
+pub set_first : (vs l : List ℕ) (i p v : ℕ) → p < i → set (sets l i vs) p v ≡ sets (set l p v) i vs
 set_first [] l i p v h = refl
 set_first (w ∷ vs) l i p v h = set_first vs (set l i w) (suc i) p v (omega arith) ∙ ap (λ (m : List ℕ). sets m (suc i) vs) (set_comm l i p w v (λ e. omega arith))
 

@@ -6,7 +6,7 @@ mod places;
 mod runs;
 mod words;
 
-pub use numbers::{number_at, put_number};
-pub use places::{gather, place_of, scatter, zero_fill};
+pub use numbers::{low, number_at, put_number};
+pub use places::{gather, place_of, scatter};
 pub use runs::copy;
-pub use words::{least, put_word, wide, word, word_sum};
+pub use words::{put_word, word, word_sum};

@@ -1,9 +1,10 @@
-// Runs of bytes between a slice and the places in memory that the paper names, and a run of zeros.
-ghost use Rattle.std.specs.Prelude.{◌≡◌, ◌+◌, ◌*◌, ◌<◌, ◌≤◌, ◌%◌, true, length, replicate};
+// Runs of bytes between a slice and the places in memory that the paper names.
+// Kept: that memory is even, and that a run lies in it, is asked of each call, here and above. C lends plain bytes, each call has its own run, and the same functions move a reel's blocks.
+ghost use Rattle.std.specs.Prelude.{◌≡◌, ◌+◌, ◌*◌, ◌<◌, ◌≤◌, ◌%◌, true, length};
 ghost use Rattle.std.proofs.lemmas.List.Edits.{sets};
 ghost use Rattle.lists.specs.Places.{gathered, place, placed};
 
-use crate::runs::{copy, put_swapped, run_at};
+use crate::runs::{copy, put_run, run_at, swapped};
 
 // Where the data byte of address a lies: with SWB the lowest bit is flipped.
 pub fn place_of(swb: bool, a: usize) -> usize
@@ -13,24 +14,24 @@ pub fn place_of(swb: bool, a: usize) -> usize
     if swb { a + 1 - 2 * (a % 2) } else { a }
 }
 
-// With SWB. From an even address on, 64 bytes at a time change their places by pairs.
+// With SWB. A byte at an odd address goes first; from an even one on, 64 bytes at a time change their places by pairs, and the rest go one by one.
 fn scatter_swapped(d: &[u8], mem: &mut [u8], a: usize)
     requires { (a + length d.now ≤ length mem.old) × (length mem.old % 2 ≡ 0) }
     ensures { mem.new ≡ placed true mem.old a d.now }
 {
-    let mut i: usize = 0;
-    if (a % 2 == 1) & (0 < d.len()) {
+    let n = d.len();
+    let lead = n.min(a % 2);
+    if lead == 1 {
         mem[a - 1] = d[0];
-        i = 1;
     }
-    while (64 <= d.len() - i) & ((a + i) % 2 == 0) {
-        put_swapped(mem, a + i, run_at(d, i));
-        i += 64;
+    let runs = (n - lead) / 64;
+    for k in 0..runs {
+        let i = lead + 64 * k;
+        put_run(mem, a + i, swapped(run_at::<64>(d, i)));
     }
-    while i < d.len() {
+    for i in lead + 64 * runs..n {
         let at = place_of(true, a + i);
         mem[at] = d[i];
-        i += 1;
     }
 }
 
@@ -51,19 +52,18 @@ fn gather_swapped(b: &mut [u8], mem: &[u8], a: usize)
     ensures { b.new ≡ gathered true mem.now a (length b.old) }
 {
     let n = b.len();
-    let mut i: usize = 0;
-    if (a % 2 == 1) & (0 < n) {
+    let lead = n.min(a % 2);
+    if lead == 1 {
         b[0] = mem[a - 1];
-        i = 1;
     }
-    while (64 <= n - i) & ((a + i) % 2 == 0) {
-        put_swapped(b, i, run_at(mem, a + i));
-        i += 64;
+    let runs = (n - lead) / 64;
+    for k in 0..runs {
+        let i = lead + 64 * k;
+        put_run(b, i, swapped(run_at::<64>(mem, a + i)));
     }
-    while i < n {
+    for i in lead + 64 * runs..n {
         let from = place_of(true, a + i);
         b[i] = mem[from];
-        i += 1;
     }
 }
 
@@ -77,15 +77,5 @@ pub fn gather(b: &mut [u8], mem: &[u8], a: usize, swb: bool)
     } else {
         let n = b.len();
         copy(mem, a, b, 0, n);
-    }
-}
-
-pub fn zero_fill(b: &mut [u8])
-    ensures { b.new ≡ replicate (length b.old) 0 }
-{
-    let mut i: usize = 0;
-    while i < b.len() {
-        b[i] = 0;
-        i += 1;
     }
 }

@@ -16,14 +16,14 @@ use Rattle.moves.specs.declared.spacing.Stop.{Stop}
 use Rattle.moves.specs.declared.spacing.Stop.TheVariants as stop-as
 use Rattle.motions.specs.Reads.{mark_end, nothing_end, read_end}
 use Rattle.motions.specs.Spaces.{left_over, passed_mark, space_end}
-use Rattle.motions.specs.declared.parts.Motion.{Motion}
-use Rattle.motions.specs.declared.parts.Motion.TheVariants as motion
 use Rattle.motions.specs.declared.parts.Ending.{Ending}
+use Rattle.std.specs.Prelude.{Result, Ok, Err}
+use Rattle.tape.specs.declared.Damage.{Damage}
 
 -- one thing of a motion that ended
-abbrev pub Has : (Ending → Type 0) → Motion → Type 0
-Has P (motion.Ended x) = P x
-Has P (motion.Fault why k) = Always
+abbrev pub Has : (Ending → Type 0) → Result Ending Damage → Type 0
+Has P (Ok x) = P x
+Has P (Err d) = Always
 
 pub record EndFits (x : End) : Type 0 where
   pub class : x.class ≤ 6
@@ -72,4 +72,3 @@ module _ (r : Rule) (x : Span) where
       either EndFits r.reverse _ _
       (record { class = omega arith; found = omega (arith, passed_most, left_most); xst3 = omega arith })
       (record { class = omega arith; found = omega (arith, passed_most); xst3 = omega arith })
-  space_end_fits (stop-as.Bad why k) = record { class = omega arith; found = omega arith; xst3 = omega arith }

@@ -13,7 +13,9 @@ use Rattle.moves.specs.declared.spacing.Count.{Count}
 use Rattle.moves.specs.declared.spacing.Rule.{Rule}
 use Rattle.moves.specs.declared.spacing.Span.{Span}
 use Rattle.moves.specs.declared.spacing.Stop.{Stop}
-use Rattle.moves.specs.declared.spacing.Stop.TheVariants as stop-as
+use Rattle.moves.specs.declared.spacing.Spaced.{Spaced}
+use Rattle.std.specs.Prelude.{Result, Ok, Err, IfOk}
+use Rattle.tape.specs.declared.Damage.{Damage}
 use Rattle.moves.proofs.Within.{spaced_within}
 use Rattle.signals.specs.declared.message.End.{End}
 use Rattle.motions.specs.Parts.{no_lay, no_move, standing, stops}
@@ -35,16 +37,17 @@ module _ (e : ℕ) where
 
   space_by : (r : Rule) (y : Span) (stop : Stop) → y.position ≤ e → Has (SpaceFits e) (space_motion_by r y e stop)
   unfolding space_motion_by
-  space_by r y stop-as.Count h = halts _ _ (space_end_fits r y stop-as.Count) h
-  space_by r y stop-as.Mark h = halts _ _ (space_end_fits r y stop-as.Mark) h
-  space_by r y stop-as.LogicalEnd h = halts _ _ (space_end_fits r y stop-as.LogicalEnd) h
-  space_by r y stop-as.Nothing h = halts _ _ (space_end_fits r y stop-as.Nothing) h
-  space_by r y (stop-as.Bad why k) h = tt
+  space_by r y stop h = halts _ _ (space_end_fits r y stop) h
+
+  space_ended : (r : Rule) (f : Result Spaced Damage) → IfOk f (λ z. z.span.position ≤ e) → Has (SpaceFits e) (space_motion r f e)
+  unfolding space_motion
+  space_ended r (Ok z) h = space_by r z.span z.stop h
+  space_ended r (Err d) h = tt
 
 pub space_has : (s : List ℕ) (t : Tape) (r : Rule) (count : Count) (enb : Bool) → t.position ≤ t.end → Has (SpaceFits t.end) (positioned s t r count enb)
-unfolding positioned_under space_motion
+unfolding positioned_under
 space_has s t r count enb h =
     let from = start_span t count enb in
     either (Has (SpaceFits t.end)) (eqb (how_many count) 0) _ _
     (halts t.end _ t.position (record { class = omega arith; found = omega arith; xst3 = omega arith }) h)
-    (space_by t.end r (spaced s r t.end from).span (spaced s r t.end from).stop (spaced_within s r t.end from h))
+    (space_ended t.end r (spaced s r t.end from) (spaced_within s r t.end from h))

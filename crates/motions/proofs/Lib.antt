@@ -1,5 +1,4 @@
 -- Laws of the motions: how a stop ends a space, and what is known of every motion that ended, whatever the reel holds.
-pub mod Stops
 pub mod Ends
 pub mod Onward
 pub mod Stages

@@ -1,19 +1,20 @@
 -- What holds of every end of a stage, and of all that goes on from its record, holds of the two together.
 use Prim.Native.Nat.{ℕ}
 use Rattle.motions.specs.Reads.{on_record}
-use Rattle.motions.specs.declared.parts.Motion.{Motion}
-use Rattle.motions.specs.declared.parts.Motion.TheVariants as motion
+use Rattle.motions.specs.declared.parts.Ending.{Ending}
 use Rattle.motions.specs.declared.reads.Stage.{Stage}
 use Rattle.motions.specs.declared.reads.Stage.TheVariants as stage
+use Rattle.std.specs.Prelude.{Result, Ok, Err}
+use Rattle.tape.specs.declared.Damage.{Damage}
 
 -- R of the record that a stage found, or P of the end that it came to
-abbrev pub StageHas : (Motion → Type 0) → (ℕ → ℕ → Type 0) → Stage → Type 0
-StageHas P R (stage.Record n q) = R n q
-StageHas P R (stage.Over x) = P (motion.Ended x)
-StageHas P R (stage.Bad why k) = P (motion.Fault why k)
+abbrev pub StageHas : (Result Ending Damage → Type 0) → (ℕ → ℕ → Type 0) → Result Stage Damage → Type 0
+StageHas P R (Ok (stage.Record n q)) = R n q
+StageHas P R (Ok (stage.Over x)) = P (Ok x)
+StageHas P R (Err d) = P (Err d)
 
-pub on_record_lem : (P : Motion → Type 0) (R : ℕ → ℕ → Type 0) (x : Stage) (f : ℕ → ℕ → Motion) → StageHas P R x → ((n q : ℕ) → R n q → P (f n q)) → P (on_record x f)
+pub on_record_lem : (P : Result Ending Damage → Type 0) (R : ℕ → ℕ → Type 0) (x : Result Stage Damage) (f : ℕ → ℕ → Result Ending Damage) → StageHas P R x → ((n q : ℕ) → R n q → P (f n q)) → P (on_record x f)
 unfolding on_record
-on_record_lem P R (stage.Record n q) f h on = on n q h
-on_record_lem P R (stage.Over x) f h on = h
-on_record_lem P R (stage.Bad why k) f h on = h
+on_record_lem P R (Ok (stage.Record n q)) f h on = on n q h
+on_record_lem P R (Ok (stage.Over x)) f h on = h
+on_record_lem P R (Err d) f h on = h

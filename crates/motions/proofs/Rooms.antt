@@ -20,6 +20,8 @@ use Rattle.motions.specs.Writes.{behind_gap, no_room, retried, retried_under, re
 use Rattle.motions.specs.declared.parts.Laid.{Laid}
 use Rattle.motions.specs.declared.parts.Ending.{Ending}
 use Rattle.motions.proofs.Ends.{EndFits, Has, flag_most}
+use Rattle.std.specs.Prelude.{Result, Ok, Err}
+use Rattle.tape.specs.declared.Damage.{Damage}
 
 -- a write as asked by l that ended, on a reel of so many blocks
 pub record WriteFits (blocks : ℕ) (l : Laid) (x : Ending) : Type 0 where
@@ -72,12 +74,12 @@ module _ (blocks : ℕ) (l : Laid) where
     unfolding behind_gap
     behind_has q = written_has (behind_gap l q) mark (omega arith) t h k
 
-    retried_by_lem : (f : Sought) → SoughtIn true t.position t.end f → Has (WriteFits blocks l) (retried_by t blocks l mark f)
+    retried_by_lem : (f : Result Sought Damage) → SoughtIn true t.position t.end f → Has (WriteFits blocks l) (retried_by t blocks l mark f)
     unfolding retried_by_under
-    retried_by_lem (sought-as.Record n q) i = behind_has q
-    retried_by_lem (sought-as.Mark q) i = behind_has q
-    retried_by_lem (sought-as.Nothing q) i = unlaid_has _ _ (record { class = omega arith; found = omega arith; xst3 = omega arith }) i k
-    retried_by_lem (sought-as.Bad why b) i = tt
+    retried_by_lem (Ok (sought-as.Record n q)) i = behind_has q
+    retried_by_lem (Ok (sought-as.Mark q)) i = behind_has q
+    retried_by_lem (Ok (sought-as.Nothing q)) i = unlaid_has _ _ (record { class = omega arith; found = omega arith; xst3 = omega arith }) i k
+    retried_by_lem (Err d) i = tt
 
     pub retried_has : (s : List ℕ) → Has (WriteFits blocks l) (retried s t blocks l mark)
     unfolding retried_under

@@ -18,6 +18,8 @@ use Rattle.motions.specs.declared.reads.Buffer.{Buffer}
 use Rattle.motions.specs.declared.reads.Stage.{Stage}
 use Rattle.motions.proofs.Onward.{StageHas, on_record_lem}
 use Rattle.motions.proofs.Ends.{EndFits, Has, mark_end_fits, nothing_end_fits, read_end_fits}
+use Rattle.std.specs.Prelude.{Result, Ok, Err}
+use Rattle.tape.specs.declared.Damage.{Damage}
 
 -- a Read as asked by r that ended, on a tape whose recorded end is e
 pub record ReadFits (e : ℕ) (r : Buffer) (x : Ending) : Type 0 where
@@ -40,15 +42,15 @@ module _ (e : ℕ) (r : Buffer) where
       record { place = h; kept = refl; source = omega (arith, i.inside); buffer = omega arith; unlaid = refl; told = read_end_fits n r.count rev }
 
   -- what is known of a stage
-  abbrev StageFits : Bool → Stage → Type 0
+  abbrev StageFits : Bool → Result Stage Damage → Type 0
   StageFits reverse = StageHas (Has (ReadFits e r)) (RecordIn reverse e)
 
-  stage_by_lem : (p : ℕ) (reverse : Bool) (f : Sought) → SoughtIn reverse p e f → StageFits reverse (stage_by (standing p e) r.count reverse f)
+  stage_by_lem : (p : ℕ) (reverse : Bool) (f : Result Sought Damage) → SoughtIn reverse p e f → StageFits reverse (stage_by (standing p e) r.count reverse f)
   unfolding stage_by stop_motion
-  stage_by_lem p reverse (sought-as.Record n q) i = i.0
-  stage_by_lem p reverse (sought-as.Mark q) i = stop_has (mark_end r.count reverse) q (mark_end_fits r.count reverse) i.below
-  stage_by_lem p reverse (sought-as.Nothing q) i = stop_has (nothing_end r.count reverse) q (nothing_end_fits r.count reverse) i
-  stage_by_lem p reverse (sought-as.Bad why k) i = tt
+  stage_by_lem p reverse (Ok (sought-as.Record n q)) i = i.0
+  stage_by_lem p reverse (Ok (sought-as.Mark q)) i = stop_has (mark_end r.count reverse) q (mark_end_fits r.count reverse) i.below
+  stage_by_lem p reverse (Ok (sought-as.Nothing q)) i = stop_has (nothing_end r.count reverse) q (nothing_end_fits r.count reverse) i
+  stage_by_lem p reverse (Err d) i = tt
 
   module _ (s : List ℕ) where
     stage_has : (p : ℕ) (reverse : Bool) → p ≤ e → StageFits reverse (stage_of s (standing p e) r.count reverse)

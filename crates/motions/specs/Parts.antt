@@ -1,5 +1,5 @@
 -- The parts of what a command is about to do: ends, moves and blocks laid.
-use Rattle.std.specs.Prelude.{false, ℕ, ◌+◌, min}
+use Rattle.std.specs.Prelude.{false, ℕ, ◌+◌, min, Result, Ok}
 use Rattle.lists.specs.Pick.{pick}
 use Rattle.tape.specs.Numbers.{pieces_of}
 use Rattle.signals.specs.declared.message.End.{End}
@@ -10,8 +10,7 @@ use Rattle.motions.specs.declared.parts.Laid.{Laid}
 use Rattle.motions.specs.declared.parts.ObjectKind.{ObjectKind}
 use Rattle.motions.specs.declared.parts.ObjectKind.TheVariants as kind
 use Rattle.motions.specs.declared.parts.Ending.{Ending}
-use Rattle.motions.specs.declared.parts.Motion.{Motion}
-use Rattle.motions.specs.declared.parts.Motion.TheVariants as motion
+use Rattle.tape.specs.declared.Damage.{Damage}
 
 -- an end: class, what was found for XST0, XST3, residual
 abbrev pub end : ℕ → ℕ → ℕ → Residual → End
@@ -30,8 +29,8 @@ no_lay = record { at = 0; gap_first = false; object = kind.Nothing; pointer = 0;
 abbrev pub resting : End → Tape → Ending
 resting x t = record { end = x; tape = t; moved = no_move; laid = no_lay }
 
-abbrev pub stops : End → Tape → Motion
-stops x t = motion.Ended (resting x t)
+abbrev pub stops : End → Tape → Result Ending Damage
+stops x t = Ok (resting x t)
 
 -- the blocks of what is laid
 unfoldable pub object_blocks : ObjectKind → ℕ → ℕ

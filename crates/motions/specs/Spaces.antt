@@ -1,5 +1,5 @@
 -- "Position 8 / 0, 1 records forward, reverse; 2, 3 marks" (01, Commands): how a space or a skip ends.
-use Rattle.std.specs.Prelude.{Bool, false, ◌&&◌, not, List, ℕ, ◌+◌, eqb}
+use Rattle.std.specs.Prelude.{Bool, false, ◌&&◌, not, List, ℕ, ◌+◌, eqb, Result, Ok, Err}
 use Rattle.lists.specs.Pick.{pick}
 use Rattle.tape.specs.Numbers.{record_limit}
 use Rattle.signals.specs.Bits.{LET, OPI, REV, RIB, RLS, TMK}
@@ -18,8 +18,8 @@ use Rattle.moves.specs.declared.spacing.Spaced.{Spaced}
 use Rattle.moves.specs.declared.spacing.Stop.{Stop}
 use Rattle.moves.specs.declared.spacing.Stop.TheVariants as stop-as
 use Rattle.motions.specs.Parts.{end, standing, stops}
-use Rattle.motions.specs.declared.parts.Motion.{Motion}
-use Rattle.motions.specs.declared.parts.Motion.TheVariants as motion
+use Rattle.motions.specs.declared.parts.Ending.{Ending}
+use Rattle.tape.specs.declared.Damage.{Damage}
 
 -- "records or marks for Position modes 0 to 3"
 unfoldable pub residual_of : Count → Residual
@@ -46,18 +46,14 @@ space_end r x stop-as.Nothing =
     pick r.reverse
     (end 2 (passed_mark x + left_over x) (REV + RIB) (residual_of x.left))
     (end 6 (passed_mark x) OPI (residual_of x.left))
+
+unfoldable pub space_motion_by : Rule → Span → ℕ → Stop → Result Ending Damage
+space_motion_by r x e stop = stops (space_end r x stop) (standing x.position e)
+
 -- a fault refuses: no end is told
-space_end r x (stop-as.Bad why k) = end 0 0 0 (residual_of x.left)
-
-unfoldable pub space_motion_by : Rule → Span → ℕ → Stop → Motion
-space_motion_by r x e (stop-as.Bad why k) = motion.Fault why k
-space_motion_by r x e stop-as.Count = stops (space_end r x stop-as.Count) (standing x.position e)
-space_motion_by r x e stop-as.Mark = stops (space_end r x stop-as.Mark) (standing x.position e)
-space_motion_by r x e stop-as.LogicalEnd = stops (space_end r x stop-as.LogicalEnd) (standing x.position e)
-space_motion_by r x e stop-as.Nothing = stops (space_end r x stop-as.Nothing) (standing x.position e)
-
-unfoldable pub space_motion : Rule → Spaced → ℕ → Motion
-space_motion r y e = space_motion_by r y.span e y.stop
+unfoldable pub space_motion : Rule → Result Spaced Damage → ℕ → Result Ending Damage
+space_motion r (Ok y) e = space_motion_by r y.span e y.stop
+space_motion r (Err d) e = Err d
 
 -- "with ENB too a mark met first from block 0": it counts as the second in a row
 abbrev pub start_span : Tape → Count → Bool → Span
@@ -66,11 +62,11 @@ start_span t count enb = span t.position count false (enb && eqb t.position 0)
 -- under any record limit
 module _ (limit : ℕ) where
   -- "A Position count of 0 moves nothing, class 0"
-  unfoldable pub positioned_under : List ℕ → Tape → Rule → Count → Bool → Motion
+  unfoldable pub positioned_under : List ℕ → Tape → Rule → Count → Bool → Result Ending Damage
   positioned_under s t r count enb =
       pick (eqb (how_many count) 0) (stops (end 0 0 0 (residual_of count)) t)
       (space_motion r (spaced_under limit s r t.end (start_span t count enb)) t.end)
 
 -- and under this unit's own
-abbrev pub positioned : List ℕ → Tape → Rule → Count → Bool → Motion
+abbrev pub positioned : List ℕ → Tape → Rule → Count → Bool → Result Ending Damage
 positioned = positioned_under record_limit

@@ -6,9 +6,7 @@ mod reads;
 mod spaces;
 mod writes;
 
-pub use parts::{
-    Ending, Laid, Motion, Moved, ObjectKind, laid_blocks, moved_bytes, no_lay, no_move, rest,
-};
+pub use parts::{Ending, Laid, Moved, ObjectKind, laid_blocks, moved_bytes, no_lay, no_move, rest};
 pub use reads::{Buffer, read_one, reread_one};
 pub use spaces::position;
 pub use writes::{retry, write_at};

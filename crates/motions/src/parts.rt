@@ -5,7 +5,6 @@ ghost use Rattle.motions.specs.Parts.{laid_blocks, moved_length, no_lay, no_move
 
 use signals::End;
 use state::Tape;
-use tape::BlockFault;
 
 // The bytes that a Read moves: of the record of `length` bytes at block `first`, to a buffer of `count` bytes at `pointer`.
 #[derive(Clone, Copy)]
@@ -28,6 +27,7 @@ pub enum ObjectKind {
 }
 
 // What is laid at block `at`: for a retry a gap first, then the object.
+// Kept: nothing laid, and nothing moved, are values of their own (`no_lay`, `no_move`): definitions and theorems speak of any plan's parts (`laid_blocks`, `moved_on`).
 #[derive(Clone, Copy)]
 pub struct Laid {
     pub at: usize,
@@ -45,13 +45,6 @@ pub struct Ending {
     pub tape: Tape,
     pub moved: Moved,
     pub laid: Laid,
-}
-
-#[derive(Clone, Copy)]
-pub enum Motion {
-    Ended(Ending),
-    // A block at fault: what is wrong with it, and its number.
-    Fault(BlockFault, usize),
 }
 
 pub fn no_move() -> Moved
@@ -117,8 +110,9 @@ pub fn laid_blocks(l: Laid) -> usize
 }
 
 // How many memory bytes a Read stores.
+#[tactic(auto, unfolding(crate::specs::Parts::moved_length))]
 pub fn moved_bytes(m: Moved) -> usize
     ensures { result ≡ moved_length m }
 {
-    lists::least(m.length, m.count as usize)
+    m.length.min(usize::from(m.count))
 }

@@ -1,12 +1,13 @@
 // Read: one stage, or two for a reread.
-ghost use Rattle.std.specs.Prelude.{◌≡◌};
+ghost use Rattle.std.specs.Prelude.{◌≡◌, Ok};
+ghost use Rattle.motions.specs.Parts.{standing};
 ghost use Rattle.motions.specs.Reads.{first_block, mark_end, nothing_end, read_end, read_motion, read_one, read_then_space, reread, space_back, space_then_read, stage_of};
 
-use crate::parts::{Ending, Motion, Moved, no_lay, rest};
+use crate::parts::{Ending, Moved, rest};
 use moves::{Sought, seek};
 use signals::{ByteCount, End, Residual, flag};
 use state::Tape;
-use tape::BlockFault;
+use tape::Damage;
 
 // What a Read asks for.
 #[derive(Clone, Copy)]
@@ -16,12 +17,12 @@ pub struct Buffer {
     pub swb: bool,
 }
 
-// A stage found a record, with the position beyond it, or the command is over, or a block is at fault.
+// A stage found a record, with the position beyond it, or the command is over.
+// Kept: no Result, since neither end of a stage is a failure.
 #[derive(Clone, Copy)]
 pub enum Stage {
     Record(usize, usize),
     Over(Ending),
-    Bad(BlockFault, usize),
 }
 
 // A record of n bytes against the count: RLS if shorter, RLL if longer, class 2 for both.
@@ -32,7 +33,7 @@ fn read_end(n: usize, count: ByteCount, rev: bool) -> End
     let class = if n == c { 0 } else { 2 };
     let found = flag(n < c, signals::RLS) + flag(c < n, signals::RLL);
     let xst3 = flag(rev, signals::REV);
-    let left = (c - lists::least(n, c)) as u16;
+    let left = (c - n.min(c)) as u16;
     let residual = Residual::Bytes(ByteCount(left));
     End {
         class,
@@ -77,30 +78,6 @@ fn nothing_end(count: ByteCount, reverse: bool) -> End
     }
 }
 
-// Seek, and say how the command ends where no record is found.
-fn run_stage(reel: &[u8], t: Tape, count: ByteCount, reverse: bool) -> Stage
-    ensures { result ≡ stage_of reel.now t count reverse }
-{
-    match seek(reel, reverse, t.position, t.end) {
-        Sought::Record(n, q) => Stage::Record(n, q),
-        Sought::Mark(q) => Stage::Over(rest(
-            mark_end(count, reverse),
-            Tape {
-                position: q,
-                end: t.end,
-            },
-        )),
-        Sought::Nothing(q) => Stage::Over(rest(
-            nothing_end(count, reverse),
-            Tape {
-                position: q,
-                end: t.end,
-            },
-        )),
-        Sought::Bad(fault, k) => Stage::Bad(fault, k),
-    }
-}
-
 // The first block of the record of n bytes beyond which the position is q.
 fn first_block(reverse: bool, n: usize, q: usize) -> usize
     ensures { result ≡ first_block reverse n q }
@@ -112,116 +89,130 @@ fn first_block(reverse: bool, n: usize, q: usize) -> usize
     if q < m { 0 } else { q - m }
 }
 
-// The record's bytes go to the buffer by the direction of the read, and the tape stands at `position` after the last stage.
-fn read_motion(r: Buffer, reverse: bool, n: usize, q: usize, t: Tape, rev: bool) -> Motion
-    ensures { result ≡ read_motion r reverse n q t rev }
-{
-    let count = r.count;
-    let end = read_end(n, count, rev);
-    let first = first_block(reverse, n, q);
-    let moved = Moved {
-        first,
-        length: n,
-        reverse,
-        pointer: r.pointer,
-        count: count.0,
-        swb: r.swb,
-    };
-    let laid = no_lay();
-    Motion::Ended(Ending {
-        end,
-        tape: t,
-        moved,
-        laid,
-    })
+// A Read on its way: the reel, where the tape stands now, and what was asked for.
+#[derive(Clone, Copy)]
+struct Reading<'a> {
+    reel: &'a [u8],
+    tape: Tape,
+    buffer: Buffer,
 }
 
+impl Reading<'_> {
+    // Seek, and say how the command ends where no record is found.
+    fn stage(self, reverse: bool) -> Result<Stage, Damage>
+        ensures { result ≡ stage_of self.entry.reel.now self.entry.tape self.entry.buffer.count reverse }
+    {
+        let t = self.tape;
+        let count = self.buffer.count;
+        Ok(match seek(self.reel, reverse, t.position, t.end)? {
+            Sought::Record(n, q) => Stage::Record(n, q),
+            Sought::Mark(q) => Stage::Over(rest(
+                mark_end(count, reverse),
+                Tape { position: q, ..t },
+            )),
+            Sought::Nothing(q) => Stage::Over(rest(
+                nothing_end(count, reverse),
+                Tape { position: q, ..t },
+            )),
+        })
+    }
+
+    // The record's bytes go to the buffer by the direction of the read, and the tape stands at `position` after the last stage.
+    // Kept: `position` is handed apart: with the tape moved first, ts11_advance wants 2,208 bytes of stack, and 2,048 is the most.
+    fn ended(self, position: usize, reverse: bool, n: usize, q: usize, rev: bool) -> Ending
+        ensures { Ok result ≡ read_motion self.entry.buffer reverse n q (standing position self.entry.tape.end) rev }
+    {
+        let r = self.buffer;
+        let count = r.count;
+        let end = read_end(n, count, rev);
+        let first = first_block(reverse, n, q);
+        let moved = Moved {
+            first,
+            length: n,
+            reverse,
+            pointer: r.pointer,
+            count: count.0,
+            swb: r.swb,
+        };
+        let tape = Tape {
+            position,
+            ..self.tape
+        };
+        Ending {
+            moved,
+            ..rest(end, tape)
+        }
+    }
+
+    // Space, then read back over it.
+    fn space_then_read(mut self, reverse: bool) -> Result<Ending, Damage>
+        ensures { result ≡ space_then_read self.entry.reel.now self.entry.tape self.entry.buffer reverse }
+    {
+        match self.stage(reverse)? {
+            Stage::Record(_, q) => {
+                self.tape.position = q;
+                read_one(self.reel, self.tape, self.buffer, !reverse)
+            }
+            Stage::Over(x) => Ok(x),
+        }
+    }
+
+    // The space back after a read, for OPP.
+    fn space_back(mut self, reverse: bool, n: usize, q: usize) -> Result<Ending, Damage>
+        ensures { result ≡ space_back self.entry.reel.now self.entry.tape.end self.entry.buffer reverse n q }
+    {
+        self.tape.position = q;
+        match self.stage(!reverse)? {
+            Stage::Record(_, b) => Ok(self.ended(b, reverse, n, q, !reverse)),
+            Stage::Over(x) => Ok(x),
+        }
+    }
+
+    // Read, then space back over it: OPP.
+    fn read_then_space(self, reverse: bool) -> Result<Ending, Damage>
+        ensures { result ≡ read_then_space self.entry.reel.now self.entry.tape self.entry.buffer reverse }
+    {
+        match self.stage(reverse)? {
+            Stage::Record(n, q) => self.space_back(reverse, n, q),
+            Stage::Over(x) => Ok(x),
+        }
+    }
+}
+
+// Read in one stage; the second of a plain reread, too.
 #[inline(always)]
-pub fn read_one(reel: &[u8], t: Tape, r: Buffer, reverse: bool) -> Motion
+pub fn read_one(reel: &[u8], t: Tape, r: Buffer, reverse: bool) -> Result<Ending, Damage>
     ensures { result ≡ read_one reel.now t r reverse }
 {
-    match run_stage(reel, t, r.count, reverse) {
-        Stage::Record(n, q) => read_motion(
-            r,
-            reverse,
-            n,
-            q,
-            Tape {
-                position: q,
-                end: t.end,
-            },
-            reverse,
-        ),
-        Stage::Over(x) => Motion::Ended(x),
-        Stage::Bad(fault, k) => Motion::Fault(fault, k),
-    }
-}
-
-// Space, then read back over it.
-fn space_then_read(reel: &[u8], t: Tape, r: Buffer, reverse: bool) -> Motion
-    ensures { result ≡ space_then_read reel.now t r reverse }
-{
-    match run_stage(reel, t, r.count, reverse) {
-        Stage::Record(_, q) => read_one(
-            reel,
-            Tape {
-                position: q,
-                end: t.end,
-            },
-            r,
-            !reverse,
-        ),
-        Stage::Over(x) => Motion::Ended(x),
-        Stage::Bad(fault, k) => Motion::Fault(fault, k),
-    }
-}
-
-// The space back after a read, for OPP.
-fn space_back(reel: &[u8], e: usize, r: Buffer, reverse: bool, n: usize, q: usize) -> Motion
-    ensures { result ≡ space_back reel.now e r reverse n q }
-{
-    match run_stage(
+    let reading = Reading {
         reel,
-        Tape {
-            position: q,
-            end: e,
-        },
-        r.count,
-        !reverse,
-    ) {
-        Stage::Record(_, b) => read_motion(
-            r,
-            reverse,
-            n,
-            q,
-            Tape {
-                position: b,
-                end: e,
-            },
-            !reverse,
-        ),
-        Stage::Over(x) => Motion::Ended(x),
-        Stage::Bad(fault, k) => Motion::Fault(fault, k),
+        tape: t,
+        buffer: r,
+    };
+    match reading.stage(reverse)? {
+        Stage::Record(n, q) => Ok(reading.ended(q, reverse, n, q, reverse)),
+        Stage::Over(x) => Ok(x),
     }
 }
 
-// Read, then space back over it: OPP.
-fn read_then_space(reel: &[u8], t: Tape, r: Buffer, reverse: bool) -> Motion
-    ensures { result ≡ read_then_space reel.now t r reverse }
-{
-    match run_stage(reel, t, r.count, reverse) {
-        Stage::Record(n, q) => space_back(reel, t.end, r, reverse, n, q),
-        Stage::Over(x) => Motion::Ended(x),
-        Stage::Bad(fault, k) => Motion::Fault(fault, k),
-    }
-}
-
+// Kept: `opp` is the packet's bit, and `reread` is promised for both.
 #[inline(always)]
-pub fn reread_one(reel: &[u8], t: Tape, r: Buffer, reverse: bool, opp: bool) -> Motion
+pub fn reread_one(
+    reel: &[u8],
+    t: Tape,
+    r: Buffer,
+    reverse: bool,
+    opp: bool,
+) -> Result<Ending, Damage>
     ensures { result ≡ reread reel.now t r reverse opp }
 {
+    let reading = Reading {
+        reel,
+        tape: t,
+        buffer: r,
+    };
     if opp {
-        return read_then_space(reel, t, r, reverse);
+        return reading.read_then_space(reverse);
     }
-    space_then_read(reel, t, r, reverse)
+    reading.space_then_read(reverse)
 }

@@ -1,12 +1,13 @@
 // Position: records and marks, forward and in reverse.
-ghost use Rattle.std.specs.Prelude.{◌≡◌, ◌≤◌};
+ghost use Rattle.std.specs.Prelude.{◌≡◌, ◌≤◌, Ok};
 ghost use Rattle.tape.specs.Numbers.{capacity_limit};
 ghost use Rattle.motions.specs.Spaces.{positioned, residual_of, space_end, space_motion};
 
-use crate::parts::{Ending, Motion, no_lay, no_move};
+use crate::parts::{Ending, rest};
 use moves::{Count, Rule, Spaced, Span, Stop, none_left, space};
 use signals::{End, Residual, flag};
 use state::Tape;
+use tape::Damage;
 
 fn residual_of(left: Count) -> Residual
     ensures { result ≡ residual_of left }
@@ -60,40 +61,23 @@ fn space_end(r: Rule, s: Span, stop: Stop) -> End
                 residual,
             }
         },
-        Stop::Bad(_, _) => End {
-            class: 0,
-            found: 0,
-            xst3: 0,
-            residual,
-        },
     }
 }
 
-fn space_motion(r: Rule, x: Spaced, e: usize) -> Motion
-    ensures { result ≡ space_motion r x e }
+fn space_motion(r: Rule, x: Spaced, e: usize) -> Ending
+    ensures { Ok result ≡ space_motion r (Ok x) e }
 {
-    let stop = x.stop;
     let span = x.span;
-    if let Stop::Bad(fault, k) = stop {
-        return Motion::Fault(fault, k);
-    }
-    let end = space_end(r, span, stop);
+    let end = space_end(r, span, x.stop);
     let tape = Tape {
         position: span.position,
         end: e,
     };
-    let moved = no_move();
-    let laid = no_lay();
-    Motion::Ended(Ending {
-        end,
-        tape,
-        moved,
-        laid,
-    })
+    rest(end, tape)
 }
 
 // A count of 0 moves nothing and no stage runs. With ENB a mark met first from block 0 counts as the second in a row.
-pub fn position(reel: &[u8], t: Tape, r: Rule, count: Count, enb: bool) -> Motion
+pub fn position(reel: &[u8], t: Tape, r: Rule, count: Count, enb: bool) -> Result<Ending, Damage>
     requires { t.end ≤ capacity_limit }
     ensures { result ≡ positioned reel.now t r count enb }
 {
@@ -105,14 +89,7 @@ pub fn position(reel: &[u8], t: Tape, r: Rule, count: Count, enb: bool) -> Motio
             xst3: 0,
             residual,
         };
-        let moved = no_move();
-        let laid = no_lay();
-        return Motion::Ended(Ending {
-            end,
-            tape: t,
-            moved,
-            laid,
-        });
+        return Ok(rest(end, t));
     }
     let after_mark = enb & (t.position == 0);
     let from = Span {
@@ -121,5 +98,5 @@ pub fn position(reel: &[u8], t: Tape, r: Rule, count: Count, enb: bool) -> Motio
         tmk: false,
         after_mark,
     };
-    space_motion(r, space(reel, r, t.end, from), t.end)
+    Ok(space_motion(r, space(reel, r, t.end, from)?, t.end))
 }

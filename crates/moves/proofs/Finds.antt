@@ -16,6 +16,8 @@ use Rattle.moves.specs.declared.seeking.Sought.{Sought}
 pub use Rattle.moves.specs.Finding.{Finds, finds_mark, finds_nothing, finds_record}
 use Rattle.moves.proofs.Bounds.{bound_below, bound_to, joins, stays}
 use Rattle.moves.proofs.Steps.{Stepped, at_last, past, steps}
+use Rattle.std.specs.Prelude.{Result}
+use Rattle.tape.specs.declared.Damage.{Damage}
 
 -- no block is ahead only at the end of the way
 nothing_ahead : (reverse : Bool) (p e : ℕ) → p ≤ e → ahead reverse p e ≤ 0 → p ≡ pick reverse 0 e
@@ -36,7 +38,7 @@ module _ {os : List Object} where
   alone false b = b
 
   -- what is found behind a gap is found from before it
-  after_gap : (reverse : Bool) {p q : ℕ} {f : Sought} → AllAllowed os → Between os reverse p q (gap ∷ []) → Finds os reverse q f → Finds os reverse p f
+  after_gap : (reverse : Bool) {p q : ℕ} {f : Result Sought Damage} → AllAllowed os → Between os reverse p q (gap ∷ []) → Finds os reverse q f → Finds os reverse p f
   after_gap true h b (finds_record d g c) = finds_record d (more_gaps g) (joins true h b c)
   after_gap true h b (finds_mark g c) = finds_mark (more_gaps g) (joins true h b c)
   after_gap true h b (finds_nothing g c z) = finds_nothing (more_gaps g) (joins true h b c) z
@@ -45,7 +47,7 @@ module _ {os : List Object} where
   after_gap false h b (finds_nothing g c z) = finds_nothing (one_gap g) (joins false h b c) z
 
 module _ {s : List ℕ} {e : ℕ} {os : List Object} (h : Holds s e os) where
-  on_step : (reverse : Bool) (turns : ℕ) {p : ℕ} (m : Met) → Bound os p → passed s reverse p e ≡ m → Stepped os reverse p m → ahead reverse p e ≤ suc turns
+  on_step : (reverse : Bool) (turns : ℕ) {p : ℕ} (m : Result Met Damage) → Bound os p → passed s reverse p e ≡ m → Stepped os reverse p m → ahead reverse p e ≤ suc turns
       → ((q : ℕ) → Bound os q → ahead reverse q e ≤ turns → Finds os reverse q (sought_from turns s reverse q e)) → Finds os reverse p (sought_on m p (λ q. sought_from turns s reverse q e))
   unfolding sought_on met_as
   on_step reverse turns m b k (at_last z y) a on = rw y (finds_nothing no_gap (stays reverse b) z)

@@ -11,9 +11,11 @@ use Rattle.tape.specs.declared.Met.{Met}
 use Rattle.tape.specs.declared.Met.TheVariants as met
 use Rattle.tape.proofs.Passes.{forward_ends, forward_meets, reverse_ends, reverse_meets}
 use Rattle.moves.specs.Between.{Between, Bound}
+use Rattle.std.specs.Prelude.{Result, Ok}
+use Rattle.tape.specs.declared.Damage.{Damage}
 
-pub data Stepped (os : List Object) (reverse : Bool) (p : ℕ) (m : Met) : Type 0 where
-  at_last : p ≡ pick reverse 0 (blocks_of os) → m ≡ met.Nothing → Stepped os reverse p m
+pub data Stepped (os : List Object) (reverse : Bool) (p : ℕ) (m : Result Met Damage) : Type 0 where
+  at_last : p ≡ pick reverse 0 (blocks_of os) → m ≡ Ok met.Nothing → Stepped os reverse p m
   past : (o : Object) (q : ℕ) → Between os reverse p q (o ∷ []) → m ≡ met_as o q → Stepped os reverse p m
 
 -- a list is empty or has a last object

@@ -1,6 +1,6 @@
 -- "Records: a mark stops them, isn't counted, is passed .. In Marks with ESS two marks with no record between them in one command ..
 -- end it, that mark counted" (01, Commands)
-use Rattle.std.specs.Prelude.{Bool, true, false, ◌&&◌, List, ℕ, suc, ◌+◌, ◌-◌, eqb}
+use Rattle.std.specs.Prelude.{Bool, true, false, ◌&&◌, List, ℕ, suc, ◌+◌, ◌-◌, eqb, Result, Ok, Err}
 use Rattle.lists.specs.Pick.{pick}
 use Rattle.tape.specs.Numbers.{record_limit}
 use Rattle.signals.specs.declared.counts.MarkCount.{MarkCount}
@@ -17,6 +17,7 @@ use Rattle.moves.specs.declared.spacing.Stop.{Stop}
 use Rattle.moves.specs.declared.spacing.Stop.TheVariants as stop-as
 use Rattle.moves.specs.declared.spacing.Turn.{Turn}
 use Rattle.moves.specs.declared.spacing.Turn.TheVariants as turn-as
+use Rattle.tape.specs.declared.Damage.{Damage}
 
 abbrev pub span : ℕ → Count → Bool → Bool → Span
 span q l t a = record { position = q; left = l; tmk = t; after_mark = a }
@@ -47,27 +48,32 @@ unfoldable pub turn_of : Rule → Span → Sought → Turn
 turn_of r x (sought-as.Record n q) = record_turn x q
 turn_of r x (sought-as.Mark q) = mark_turn r x q
 turn_of r x (sought-as.Nothing q) = turn-as.Over (stopped stop-as.Nothing (span q x.left x.tmk x.after_mark))
-turn_of r x (sought-as.Bad why k) = turn-as.Over (stopped (stop-as.Bad why k) x)
 
-unfoldable pub spaced_on : Turn → (Span → Spaced) → Spaced
-spaced_on (turn-as.On x) onward = onward x
-spaced_on (turn-as.Over y) onward = y
+-- a fault that the search met ends the space
+unfoldable pub turn_after : Rule → Span → Result Sought Damage → Result Turn Damage
+turn_after r x (Ok f) = Ok (turn_of r x f)
+turn_after r x (Err d) = Err d
+
+unfoldable pub spaced_on : Result Turn Damage → (Span → Result Spaced Damage) → Result Spaced Damage
+spaced_on (Ok (turn-as.On x)) onward = onward x
+spaced_on (Ok (turn-as.Over y)) onward = Ok y
+spaced_on (Err d) onward = Err d
 
 -- under any record limit
 module _ (limit : ℕ) where
-  unfoldable pub spaced_from_under : ℕ → List ℕ → Rule → ℕ → Span → Spaced
-  spaced_from_under ℕ.zero s r e x = stopped stop-as.Count x
+  unfoldable pub spaced_from_under : ℕ → List ℕ → Rule → ℕ → Span → Result Spaced Damage
+  spaced_from_under ℕ.zero s r e x = Ok (stopped stop-as.Count x)
   spaced_from_under (suc turns) s r e x =
-      let rest = spaced_on (turn_of r x (sought_under limit s r.reverse x.position e)) (λ y. spaced_from_under turns s r e y) in
-      pick (eqb (how_many x.left) 0) (stopped stop-as.Count x) rest
+      let rest = spaced_on (turn_after r x (sought_under limit s r.reverse x.position e)) (λ y. spaced_from_under turns s r e y) in
+      pick (eqb (how_many x.left) 0) (Ok (stopped stop-as.Count x)) rest
 
   -- each turn passes a block or more, so a turn for each block and one more are enough
-  unfoldable pub spaced_under : List ℕ → Rule → ℕ → Span → Spaced
+  unfoldable pub spaced_under : List ℕ → Rule → ℕ → Span → Result Spaced Damage
   spaced_under s r e x = spaced_from_under (e + 1) s r e x
 
 -- and under this unit's own
-abbrev pub spaced_from : ℕ → List ℕ → Rule → ℕ → Span → Spaced
+abbrev pub spaced_from : ℕ → List ℕ → Rule → ℕ → Span → Result Spaced Damage
 spaced_from = spaced_from_under record_limit
 
-abbrev pub spaced : List ℕ → Rule → ℕ → Span → Spaced
+abbrev pub spaced : List ℕ → Rule → ℕ → Span → Result Spaced Damage
 spaced = spaced_under record_limit

@@ -5,7 +5,7 @@ ghost use Rattle.moves.specs.Spacing.{mark_turn, record_turn, skip_turn, spaced,
 
 use crate::seeking::{Sought, seek};
 use signals::{MarkCount, RecordCount};
-use tape::BlockFault;
+use tape::Damage;
 
 // What a Position counts, and how many of it. A space over records never becomes a skip over marks on its way.
 #[derive(Clone, Copy)]
@@ -37,7 +37,6 @@ pub enum Stop {
     Mark,
     LogicalEnd,
     Nothing,
-    Bad(BlockFault, usize),
 }
 
 #[derive(Clone, Copy)]
@@ -46,6 +45,7 @@ pub struct Spaced {
     pub stop: Stop,
 }
 
+// Kept: no Result or `ControlFlow`, since neither end of a turn is a failure, and both have a name here.
 #[derive(Clone, Copy)]
 pub enum Turn {
     On(Span),
@@ -73,110 +73,104 @@ fn after_record(c: Count) -> Count
     }
 }
 
-fn record_turn(s: Span, q: usize) -> Turn
-    requires { 1 ≤ how_many s.left }
-    ensures { result ≡ record_turn s q }
-{
-    let c = s.left;
-    let left = after_record(c);
-    Turn::On(Span {
-        position: q,
-        left,
-        tmk: s.tmk,
-        after_mark: false,
-    })
+// What a turn goes by: the rule, and how far it came, with some of the count left.
+#[derive(Clone, Copy)]
+struct Onward {
+    rule: Rule,
+    span: Span,
+    ghost some_left: { 1 ≤ how_many span.left },
 }
 
-// Of marks a mark is counted, and ends the command where the one before was a mark too.
-fn skip_turn(r: Rule, s: Span, n: MarkCount, q: usize) -> Turn
-    requires { 1 ≤ n.0 }
-    ensures { result ≡ skip_turn r s n q }
-{
-    let counted = Span {
-        position: q,
-        left: Count::Marks(MarkCount(n.0 - 1)),
-        tmk: true,
-        after_mark: true,
-    };
-    if r.ess & s.after_mark {
-        return Turn::Over(Spaced {
-            span: counted,
-            stop: Stop::LogicalEnd,
-        });
+impl Onward {
+    fn record_turn(self, q: usize) -> Turn
+        ensures { result ≡ record_turn self.span q }
+    {
+        let left = after_record(self.span.left);
+        Turn::On(Span {
+            position: q,
+            left,
+            after_mark: false,
+            ..self.span
+        })
     }
-    Turn::On(counted)
-}
 
-// A mark stops records and isn't counted.
-fn mark_turn(r: Rule, s: Span, q: usize) -> Turn
-    requires { 1 ≤ how_many s.left }
-    ensures { result ≡ mark_turn r s q }
-{
-    let c = s.left;
-    match c {
-        Count::Records(n) => Turn::Over(Spaced {
-            span: Span {
-                position: q,
-                left: Count::Records(n),
-                tmk: true,
-                after_mark: true,
-            },
-            stop: Stop::Mark,
-        }),
-        Count::Marks(n) => skip_turn(r, s, n, q),
-    }
-}
-
-fn turn_over(r: Rule, s: Span, f: Sought) -> Turn
-    requires { 1 ≤ how_many s.left }
-    ensures { result ≡ turn_of r s f }
-{
-    match f {
-        Sought::Record(_, q) => record_turn(s, q),
-        Sought::Mark(q) => mark_turn(r, s, q),
-        Sought::Nothing(q) => {
-            let left = s.left;
-            let there = Span {
-                position: q,
-                left,
-                tmk: s.tmk,
-                after_mark: s.after_mark,
-            };
-            Turn::Over(Spaced {
-                span: there,
-                stop: Stop::Nothing,
-            })
+    // Of marks a mark is counted, and ends the command where the one before was a mark too.
+    fn skip_turn(self, n: MarkCount, q: usize) -> Turn
+        requires { 1 ≤ n.0 }
+        ensures { result ≡ skip_turn self.rule self.span n q }
+    {
+        let counted = Span {
+            position: q,
+            left: Count::Marks(MarkCount(n.0 - 1)),
+            tmk: true,
+            after_mark: true,
+        };
+        if self.rule.ess & self.span.after_mark {
+            return Turn::Over(Spaced {
+                span: counted,
+                stop: Stop::LogicalEnd,
+            });
         }
-        Sought::Bad(fault, k) => Turn::Over(Spaced {
-            span: s,
-            stop: Stop::Bad(fault, k),
-        }),
+        Turn::On(counted)
+    }
+
+    // A mark stops records and isn't counted.
+    fn mark_turn(self, q: usize) -> Turn
+        ensures { result ≡ mark_turn self.rule self.span q }
+    {
+        match self.span.left {
+            Count::Records(n) => Turn::Over(Spaced {
+                span: Span {
+                    position: q,
+                    left: Count::Records(n),
+                    tmk: true,
+                    after_mark: true,
+                },
+                stop: Stop::Mark,
+            }),
+            Count::Marks(n) => self.skip_turn(n, q),
+        }
+    }
+
+    fn turn_over(self, f: Sought) -> Turn
+        ensures { result ≡ turn_of self.rule self.span f }
+    {
+        match f {
+            Sought::Record(_, q) => self.record_turn(q),
+            Sought::Mark(q) => self.mark_turn(q),
+            Sought::Nothing(q) => Turn::Over(Spaced {
+                span: Span {
+                    position: q,
+                    ..self.span
+                },
+                stop: Stop::Nothing,
+            }),
+        }
     }
 }
 
 // Each turn passes a block or more, so a turn for each block and one more are enough.
-pub fn space(reel: &[u8], r: Rule, e: usize, from: Span) -> Spaced
+pub fn space(reel: &[u8], r: Rule, e: usize, from: Span) -> Result<Spaced, Damage>
     requires { e < 18446744073709551615 }
     ensures { result ≡ spaced reel.now r e from }
 {
     let mut s = from;
-    let mut turns = e + 1;
-    while 0 < turns {
-        turns -= 1;
+    for _ in 0..e + 1 {
         let left = s.left;
         if none_left(left) {
-            return Spaced {
+            return Ok(Spaced {
                 span: s,
                 stop: Stop::Count,
-            };
+            });
         }
-        match turn_over(r, s, seek(reel, r.reverse, s.position, e)) {
+        let onward = Onward { rule: r, span: s };
+        match onward.turn_over(seek(reel, r.reverse, s.position, e)?) {
             Turn::On(next) => s = next,
-            Turn::Over(last) => return last,
+            Turn::Over(last) => return Ok(last),
         }
     }
-    Spaced {
+    Ok(Spaced {
         span: s,
         stop: Stop::Count,
-    }
+    })
 }

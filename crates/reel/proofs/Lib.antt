@@ -1,5 +1,4 @@
 -- Case laws of the definitions that the code computes, one for each way that it returns, and the laws of its loops.
-pub mod Ways
 pub mod Walks
 pub mod Pieces
 pub mod Meetings

@@ -2,20 +2,20 @@
 ghost use Rattle.std.specs.Prelude.{◌≡◌};
 ghost use Rattle.tape.specs.Listing.{examined};
 
-use tape::{Geometry, Image, Swept};
+use tape::{Geometry, ImageFault};
 
-pub fn examine(image: &[u8]) -> Image
+pub fn examine(image: &[u8]) -> Result<usize, ImageFault>
     ensures { result ≡ examined image.now }
 {
     if Geometry::IMAGE_LIMIT < image.len() {
-        return Image::TooLong;
+        return Err(ImageFault::TooLong);
     }
     if image.len() % Geometry::BLOCK != 0 {
-        return Image::NotWhole;
+        return Err(ImageFault::NotWhole);
     }
     let e = image.len() / Geometry::BLOCK;
     match crate::sweep(image, e) {
-        Swept::Whole => Image::Whole(e),
-        Swept::Bad(fault, k) => Image::Bad(fault, k),
+        Ok(_) => Ok(e),
+        Err(d) => Err(ImageFault::Bad(d)),
     }
 }

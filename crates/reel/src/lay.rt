@@ -1,4 +1,5 @@
 // Laying objects: only the new object's blocks change.
+// Kept: that the object's blocks lie on the reel is asked of each call, for its own place; a record's length goes beside memory, which is longer.
 ghost use Rattle.std.specs.Prelude.{◌≡◌, ◌+◌, ◌*◌, ◌≤◌, ◌<◌, ◌%◌, [], length};
 ghost use Rattle.std.proofs.lemmas.List.Edits.{sets};
 ghost use Rattle.lists.specs.Places.{gathered};
@@ -8,7 +9,6 @@ ghost use Rattle.tape.specs.Layout.{block_of};
 ghost use Rattle.tape.specs.Objects.{Object, image_of, piece_of};
 
 use block::lay_block;
-use lists::least;
 use tape::Geometry;
 
 // A block with no data: a mark or a gap.
@@ -43,7 +43,7 @@ fn lay_piece(reel: &mut [u8], p: usize, n: usize, i: usize, mem: &[u8], a: usize
     let at = Geometry::BLOCK * (p + i);
     let end = at + Geometry::BLOCK;
     let from = Geometry::DATA * i;
-    let used = least(n - from, Geometry::DATA);
+    let used = (n - from).min(Geometry::DATA);
     lay_block(
         &mut reel[at..end],
         tape::PIECE_KIND,
@@ -62,9 +62,7 @@ pub fn lay_record(reel: &mut [u8], p: usize, mem: &[u8], a: usize, n: usize, swb
     ensures { reel.new ≡ sets reel.old (block_bytes * p) (image_of (Object.record_of (gathered swb mem.now a n))) }
 {
     let m = tape::pieces(n);
-    let mut i: usize = 0;
-    while i < m {
+    for i in 0..m {
         lay_piece(reel, p, n, i, mem, a, swb);
-        i += 1;
     }
 }

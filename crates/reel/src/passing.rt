@@ -4,114 +4,132 @@ ghost use Rattle.tape.specs.Numbers.{pieces_of};
 ghost use Rattle.tape.specs.Pass.{ahead, beyond, fault_of, first_met, is_piece, lowest, order_met, passed, pieces_met, record_met};
 
 use block::read_block;
-use tape::{Block, BlockFault, Met};
+use tape::{Block, BlockFault, Damage, Met};
 
-// How many blocks lie ahead: up to the recorded end, or down to block 0.
-fn ahead_of(reverse: bool, p: usize, e: usize) -> usize
-    ensures { result ≡ ahead reverse p e }
-{
-    if reverse {
-        return p;
-    }
-    if p < e { e - p } else { 0 }
-}
-
-fn first_met(reverse: bool, p: usize, e: usize) -> usize
-    requires { 1 ≤ ahead reverse p e }
-    ensures { result ≡ first_met reverse p }
-{
-    if reverse { p - 1 } else { p }
-}
-
-fn beyond_of(reverse: bool, p: usize, e: usize, m: usize) -> usize
-    requires { m ≤ ahead reverse p e }
-    ensures { result ≡ beyond reverse p m }
-{
-    if reverse { p - m } else { p + m }
-}
-
-fn lowest_of(reverse: bool, p: usize, e: usize, m: usize) -> usize
-    requires { m ≤ ahead reverse p e }
-    ensures { result ≡ lowest reverse p m }
-{
-    if reverse { p - m } else { p }
-}
-
-fn order_met(reverse: bool, m: usize, j: usize) -> usize
-    requires { j < m }
-    ensures { result ≡ order_met reverse m j }
-{
-    if reverse { m - 1 - j } else { j }
-}
-
-fn is_piece(b: Block, n: usize, i: usize) -> bool
+fn is_piece(b: Result<Block, BlockFault>, n: usize, i: usize) -> bool
     ensures { result ≡ is_piece b n i }
 {
-    match b {
-        Block::Piece(n2, i2) => (n2 == n) & (i2 == i),
-        Block::Mark => false,
-        Block::Gap => false,
-        Block::Damaged(_) => false,
-    }
+    b == Ok(Block::Piece(n, i))
 }
 
 // What is wrong with a block that can't be taken: its own fault, and if it has none, its place.
-fn fault_of(b: Block) -> BlockFault
+fn fault_of(b: Result<Block, BlockFault>) -> BlockFault
     ensures { result ≡ fault_of b }
 {
     match b {
-        Block::Damaged(f) => f,
-        Block::Piece(_, _) => BlockFault::Index,
-        Block::Mark => BlockFault::Index,
-        Block::Gap => BlockFault::Index,
+        Err(f) => f,
+        Ok(_) => BlockFault::Index,
     }
 }
 
-// The pieces due after the first, in the order met: the first at fault, else what was met.
-fn pieces_met(reel: &[u8], reverse: bool, n: usize, p: usize, m: usize, whole: Met) -> Met
-    requires { (1 ≤ m) × (p + m < 18446744073709551616) }
-    ensures { result ≡ pieces_met reel.now reverse n p m 1 (m - 1) whole }
-{
-    let mut j: usize = 1;
-    while j < m {
-        let i = order_met(reverse, m, j);
-        let k = p + i;
-        let b = read_block(reel, k);
-        if !is_piece(b, n, i) {
-            return Met::Bad(fault_of(b), k);
+// Which way, from which position, and up to which recorded end.
+#[derive(Clone, Copy)]
+struct Way {
+    reverse: bool,
+    position: usize,
+    end: usize,
+}
+
+impl Way {
+    // How many blocks lie ahead: up to the recorded end, or down to block 0.
+    fn ahead(self) -> usize
+        ensures { result ≡ ahead self.reverse self.position self.end }
+    {
+        if self.reverse {
+            return self.position;
         }
-        j += 1;
+        self.end.saturating_sub(self.position)
     }
-    whole
-}
 
-// A record of n bytes, met at piece i.
-fn record_met(reel: &[u8], reverse: bool, p: usize, e: usize, n: usize, i: usize) -> Met
-    requires { (1 ≤ ahead reverse p e) × (1 ≤ pieces_of n) }
-    ensures { result ≡ record_met reel.now reverse p e n i }
-{
-    let m = tape::pieces(n);
-    let due = (i == order_met(reverse, m, 0)) & (m <= ahead_of(reverse, p, e));
-    if !due {
-        return Met::Bad(BlockFault::Index, first_met(reverse, p, e));
+    fn first_met(self) -> usize
+        requires { 1 ≤ ahead self.reverse self.position self.end }
+        ensures { result ≡ first_met self.reverse self.position }
+    {
+        if self.reverse {
+            self.position - 1
+        } else {
+            self.position
+        }
     }
-    let whole = Met::Record(n, beyond_of(reverse, p, e, m));
-    pieces_met(reel, reverse, n, lowest_of(reverse, p, e, m), m, whole)
+
+    fn beyond(self, m: usize) -> usize
+        requires { m ≤ ahead self.reverse self.position self.end }
+        ensures { result ≡ beyond self.reverse self.position m }
+    {
+        if self.reverse {
+            self.position - m
+        } else {
+            self.position + m
+        }
+    }
+
+    fn order_met(self, m: usize, j: usize) -> usize
+        requires { j < m }
+        ensures { result ≡ order_met self.reverse m j }
+    {
+        if self.reverse { m - 1 - j } else { j }
+    }
+
+    // The pieces due after the first, in the order met: the first at fault, else what was met.
+    fn pieces_met(self, reel: &[u8], n: usize, m: usize, whole: Met) -> Result<Met, Damage>
+        requires { (1 ≤ m) × (m ≤ ahead self.reverse self.position self.end) }
+        ensures { result ≡ pieces_met reel.now self.reverse n (lowest self.reverse self.position m) m 1 (m - 1) whole }
+    {
+        // From the lower bound of the record's blocks.
+        let p = if self.reverse {
+            self.position - m
+        } else {
+            self.position
+        };
+        for j in 1..m {
+            let i = self.order_met(m, j);
+            let k = p + i;
+            let b = read_block(reel, k);
+            if !is_piece(b, n, i) {
+                return Err(Damage {
+                    fault: fault_of(b),
+                    block: k,
+                });
+            }
+        }
+        Ok(whole)
+    }
+
+    // A record of n bytes, met at piece i.
+    fn record_met(self, reel: &[u8], n: usize, i: usize) -> Result<Met, Damage>
+        requires { (1 ≤ ahead self.reverse self.position self.end) × (1 ≤ pieces_of n) }
+        ensures { result ≡ record_met reel.now self.reverse self.position self.end n i }
+    {
+        let m = tape::pieces(n);
+        let due = (i == self.order_met(m, 0)) & (m <= self.ahead());
+        if !due {
+            return Err(Damage {
+                fault: BlockFault::Index,
+                block: self.first_met(),
+            });
+        }
+        self.pieces_met(reel, n, m, Met::Record(n, self.beyond(m)))
+    }
 }
 
 // What passing one object from position p meets, on a reel recorded up to e.
-pub fn pass(reel: &[u8], reverse: bool, p: usize, e: usize) -> Met
+pub fn pass(reel: &[u8], reverse: bool, p: usize, e: usize) -> Result<Met, Damage>
     ensures { result ≡ passed reel.now reverse p e }
 {
-    if ahead_of(reverse, p, e) == 0 {
-        return Met::Nothing;
+    let way = Way {
+        reverse,
+        position: p,
+        end: e,
+    };
+    if way.ahead() == 0 {
+        return Ok(Met::Nothing);
     }
-    let k = first_met(reverse, p, e);
+    let k = way.first_met();
     let b = read_block(reel, k);
     match b {
-        Block::Piece(n, i) => record_met(reel, reverse, p, e, n, i),
-        Block::Mark => Met::Mark(beyond_of(reverse, p, e, 1)),
-        Block::Gap => Met::Gap(beyond_of(reverse, p, e, 1)),
-        Block::Damaged(fault) => Met::Bad(fault, k),
+        Ok(Block::Piece(n, i)) => way.record_met(reel, n, i),
+        Ok(Block::Mark) => Ok(Met::Mark(way.beyond(1))),
+        Ok(Block::Gap) => Ok(Met::Gap(way.beyond(1))),
+        Err(fault) => Err(Damage { fault, block: k }),
     }
 }

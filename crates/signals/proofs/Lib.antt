@@ -1,2 +1,3 @@
--- The laws of the words and bytes of a message.
+-- The laws of the words and bytes of a message, and of the commands' codes.
+pub mod Coded
 pub mod Messages

@@ -1,8 +1,8 @@
-// Command codes and modes.
+// The commands, by code and mode.
 ghost use Rattle.std.specs.Prelude.{◌≡◌};
 ghost use Rattle.signals.specs.Codes.{command_of, control_mode, format_mode, position_mode, read_mode, single_mode, write_mode};
 
-#[derive(Clone, Copy)]
+#[derive(Clone, Copy, PartialEq, Eq)]
 pub enum Command {
     ReadNext,
     ReadPrevious,
@@ -24,78 +24,84 @@ pub enum Command {
     Clean,
     Initialize,
     GetStatus,
-    Illegal,
 }
 
-fn decode_read(mode: usize) -> Command
+#[tactic(auto, unfolding(crate::specs::Codes::read_mode))]
+fn decode_read(mode: usize) -> Option<Command>
     ensures { result ≡ read_mode mode }
 {
     match mode {
-        0 => Command::ReadNext,
-        1 => Command::ReadPrevious,
-        2 => Command::RereadPrevious,
-        3 => Command::RereadNext,
-        _ => Command::Illegal,
+        0 => Some(Command::ReadNext),
+        1 => Some(Command::ReadPrevious),
+        2 => Some(Command::RereadPrevious),
+        3 => Some(Command::RereadNext),
+        _ => None,
     }
 }
 
-fn decode_position(mode: usize) -> Command
+#[tactic(auto, unfolding(crate::specs::Codes::position_mode))]
+fn decode_position(mode: usize) -> Option<Command>
     ensures { result ≡ position_mode mode }
 {
     match mode {
-        0 => Command::RecordsForward,
-        1 => Command::RecordsReverse,
-        2 => Command::MarksForward,
-        3 => Command::MarksReverse,
-        4 => Command::Rewind,
-        _ => Command::Illegal,
+        0 => Some(Command::RecordsForward),
+        1 => Some(Command::RecordsReverse),
+        2 => Some(Command::MarksForward),
+        3 => Some(Command::MarksReverse),
+        4 => Some(Command::Rewind),
+        _ => None,
     }
 }
 
-fn decode_format(mode: usize) -> Command
+#[tactic(auto, unfolding(crate::specs::Codes::format_mode))]
+fn decode_format(mode: usize) -> Option<Command>
     ensures { result ≡ format_mode mode }
 {
     match mode {
-        0 => Command::WriteMark,
-        1 => Command::Erase,
-        2 => Command::MarkRetry,
-        _ => Command::Illegal,
+        0 => Some(Command::WriteMark),
+        1 => Some(Command::Erase),
+        2 => Some(Command::MarkRetry),
+        _ => None,
     }
 }
 
-fn decode_control(mode: usize) -> Command
+#[tactic(auto, unfolding(crate::specs::Codes::control_mode))]
+fn decode_control(mode: usize) -> Option<Command>
     ensures { result ≡ control_mode mode }
 {
     match mode {
-        0 => Command::Release,
-        1 => Command::Unload,
-        2 => Command::Clean,
-        _ => Command::Illegal,
+        0 => Some(Command::Release),
+        1 => Some(Command::Unload),
+        2 => Some(Command::Clean),
+        _ => None,
     }
 }
 
-fn decode_write(mode: usize) -> Command
+#[tactic(auto, unfolding(crate::specs::Codes::write_mode))]
+fn decode_write(mode: usize) -> Option<Command>
     ensures { result ≡ write_mode mode }
 {
     match mode {
-        0 => Command::Write,
-        2 => Command::WriteRetry,
-        _ => Command::Illegal,
+        0 => Some(Command::Write),
+        2 => Some(Command::WriteRetry),
+        _ => None,
     }
 }
 
 // A command that has mode 0 alone.
-fn decode_single(mode: usize, c: Command) -> Command
+#[tactic(auto, unfolding(crate::specs::Codes::single_mode))]
+fn decode_single(mode: usize, c: Command) -> Option<Command>
     ensures { result ≡ single_mode c mode }
 {
     match mode {
-        0 => c,
-        _ => Command::Illegal,
+        0 => Some(c),
+        _ => None,
     }
 }
 
-// The command of a code and a mode; all else is illegal.
-pub fn decode(code: usize, mode: usize) -> Command
+// The command of a code and a mode; all else is none.
+#[tactic(auto, unfolding(crate::specs::Codes::command_of))]
+pub fn decode(code: usize, mode: usize) -> Option<Command>
     ensures { result ≡ command_of code mode }
 {
     match code {
@@ -107,6 +113,6 @@ pub fn decode(code: usize, mode: usize) -> Command
         10 => decode_control(mode),
         11 => decode_single(mode, Command::Initialize),
         15 => decode_single(mode, Command::GetStatus),
-        _ => Command::Illegal,
+        _ => None,
     }
 }

@@ -20,13 +20,15 @@ pub enum Residual {
 }
 
 // Only here do the three become a word.
-pub fn residual_word(r: Residual) -> u16
-    ensures { result ≡ residual_word r }
-{
-    match r {
-        Residual::Bytes(b) => b.0,
-        Residual::Records(n) => n.0,
-        Residual::Marks(m) => m.0,
-        Residual::Nothing => 0,
+impl From<Residual> for u16 {
+    fn from(r: Residual) -> u16
+        ensures { result ≡ residual_word r }
+    {
+        match r {
+            Residual::Bytes(b) => b.0,
+            Residual::Records(n) => n.0,
+            Residual::Marks(m) => m.0,
+            Residual::Nothing => 0,
+        }
     }
 }

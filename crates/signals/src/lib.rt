@@ -7,7 +7,7 @@ mod message;
 mod packet;
 
 pub use codes::{Command, decode};
-pub use counts::{ByteCount, MarkCount, RecordCount, Residual, residual_word};
+pub use counts::{ByteCount, MarkCount, RecordCount, Residual};
 pub use message::{End, Status, flag, message_of, put_message};
 pub use packet::{Header, Packet, fetch, has_pointer, header_of};
 

@@ -2,13 +2,13 @@
 ghost use Rattle.std.specs.Prelude.{◌≡◌, ◌+◌, ◌≤◌, length};
 ghost use Rattle.signals.specs.Message.{flag_of, header_word, message_of, messaged, status_byte};
 
-use crate::counts::{Residual, residual_word};
+use crate::counts::Residual;
 use lists::put_word;
-use std::num::wrapping_add_u16;
 
 // What the end of a command says of itself.
 #[derive(Clone, Copy)]
 pub struct End {
+    // Kept: a number, since `message_of` and `header_word` answer for every one; in `commands` and `advance` too.
     pub class: usize,
     // XST0's bits 15 to 8, at their places.
     pub found: u16,
@@ -49,12 +49,12 @@ fn status_byte(s: Status) -> u16
 }
 
 // The header word, by the class; 3 goes by NEF.
+#[tactic(auto, unfolding(crate::specs::Message::header_word))]
 fn header_word(class: usize, nef: bool) -> u16
     ensures { result ≡ header_word class nef }
 {
     match class {
-        0 => 0x8010,
-        2 => 0x8010,
+        0 | 2 => 0x8010,
         1 => 0x0013,
         3 => if nef { 0x8211 } else { 0x8111 },
         _ => 0x8012,
@@ -64,13 +64,12 @@ fn header_word(class: usize, nef: bool) -> u16
 pub fn message_of(e: End, s: Status) -> [u16; 7]
     ensures { result ≡ message_of e s }
 {
-    let residual = e.residual;
     let nef = e.found / crate::NEF % 2 == 1;
     [
         header_word(e.class, nef),
         10,
-        residual_word(residual),
-        wrapping_add_u16(e.found, status_byte(s)),
+        u16::from(e.residual),
+        e.found.wrapping_add(status_byte(s)),
         0,
         0,
         e.xst3,
@@ -82,9 +81,7 @@ pub fn put_message(mem: &mut [u8], a: usize, m: [u16; 7])
     requires { a + 14 ≤ length mem.old }
     ensures { mem.new ≡ messaged mem.old a m }
 {
-    let mut i: usize = 0;
-    while i < 7 {
-        put_word(mem, a + 2 * i, m[i] as usize);
-        i += 1;
+    for (i, w) in m.iter().enumerate() {
+        put_word(mem, a + 2 * i, usize::from(*w));
     }
 }

@@ -6,6 +6,7 @@ ghost use Rattle.signals.specs.Numbers.{packet_bytes, pointer_limit};
 use lists::word;
 
 // The header word's fields.
+// Kept: mode and code are numbers, since every word has them, and steps 2 to 4 take words that no command has; `decode` gives the command.
 #[derive(Clone, Copy)]
 pub struct Header {
     pub ack: bool,
@@ -35,6 +36,7 @@ pub fn header_of(w: usize) -> Header
 }
 
 // Does the packet name data in memory?
+// Kept: `has_pointer` and `fetch` answer for every code, as their contracts say; a `Command` would ask for one that has a command.
 pub fn has_pointer(code: usize) -> bool
     ensures { result ≡ has_pointer code }
 {
@@ -42,7 +44,7 @@ pub fn has_pointer(code: usize) -> bool
 }
 
 // What the words after the header say: the data pointer and the count.
-#[derive(Clone, Copy)]
+#[derive(Clone, Copy, Default)]
 pub struct Packet {
     pub pointer: usize,
     // Pointer bits above A17 are set.
@@ -50,6 +52,7 @@ pub struct Packet {
     pub count: u16,
 }
 
+#[tactic(auto, unfolding(crate::specs::Header::packet_of))]
 pub fn fetch(mem: &[u8], at: usize, code: usize) -> Packet
     requires { (at + packet_bytes ≤ length mem.now) × (at < pointer_limit) }
     ensures is { result ≡ packet_of mem.now at code }
@@ -65,14 +68,9 @@ pub fn fetch(mem: &[u8], at: usize, code: usize) -> Packet
     }
     if code == 8 {
         return Packet {
-            pointer: 0,
-            high: false,
             count: word(mem, at + 2) as u16,
+            ..Packet::default()
         };
     }
-    Packet {
-        pointer: 0,
-        high: false,
-        count: 0,
-    }
+    Packet::default()
 }

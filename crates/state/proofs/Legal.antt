@@ -22,6 +22,10 @@ use Rattle.state.specs.Changes.{accepted_write, initialized, mounted_as, operate
 use Rattle.state.specs.Checks.{blocks_right, buffer_wrong, last_class, lengths_wrong, memory_limit, memory_right, refusal_of, registers_wrong, state_wrong, tape_wrong}
 use Rattle.state.specs.Legal.{BufferFits, Legal}
 use Rattle.lists.proofs.Cases.{past}
+use Rattle.std.specs.Prelude.{Result, Ok, Err, ⊤}
+use Rattle.state.specs.declared.refusal.Refusal.{Refusal}
+use Rattle.state.specs.declared.refusal.Refusal.TheVariants as refusal
+use Rattle.state.proofs.Behind.{never}
 use Rattle.state.proofs.Tests.{either, neither, none_unless, unless}
 
 -- What each part of the check says where it finds nothing wrong.
@@ -110,14 +114,14 @@ right u l =
     )
 
 -- what a call knows that refusals 1, 2 and 3 let pass
-pub accepted : (u : Unit) (memory reel : ℕ) → refusal_of u memory reel ≡ 0 → Legal u × (memory ≡ u.lengths.memory) × (reel ≡ block_bytes * u.lengths.blocks)
+pub accepted : (u : Unit) (memory reel : ℕ) → refusal_of u memory reel ≡ Ok tt → Legal u × (memory ≡ u.lengths.memory) × (reel ≡ block_bytes * u.lengths.blocks)
 unfolding refusal_of
 accepted u memory reel h =
-    let third : ℕ = pick (not (eqb reel (block_bytes * u.lengths.blocks))) 3 0 in
-    let second : ℕ = pick (not (eqb memory u.lengths.memory)) 2 third in
-    let p = past (state_wrong u) 1 second 0 (λ e. omega arith) h in
-    let q = past (not (eqb memory u.lengths.memory)) 2 third 0 (λ e. omega arith) p.1 in
-    let r = past (not (eqb reel (block_bytes * u.lengths.blocks))) 3 0 0 (λ e. omega arith) q.1 in
+    let third : Result ⊤ Refusal = pick (not (eqb reel (block_bytes * u.lengths.blocks))) (Err refusal.Reel) (Ok tt) in
+    let second : Result ⊤ Refusal = pick (not (eqb memory u.lengths.memory)) (Err refusal.Memory) third in
+    let p = past (state_wrong u) (Err refusal.State) second (Ok tt) (never _) h in
+    let q = past (not (eqb memory u.lengths.memory)) (Err refusal.Memory) third (Ok tt) (never _) p.1 in
+    let r = past (not (eqb reel (block_bytes * u.lengths.blocks))) (Err refusal.Reel) (Ok tt) (Ok tt) (never _) q.1 in
     (legal u p.0, eqb-true memory u.lengths.memory (not-false (eqb memory u.lengths.memory) q.0), eqb-true reel (block_bytes * u.lengths.blocks) (not-false (eqb reel (block_bytes * u.lengths.blocks)) r.0))
 
 -- The mount's lengths never change: a state with the same ones is legal if its own numbers fit.

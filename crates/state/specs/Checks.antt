@@ -1,5 +1,5 @@
 -- Refusals 1, 2 and 3 (01, the table): which states, and which lengths of memory and reel.
-use Rattle.std.specs.Prelude.{Bool, ◌||◌, ◌&&◌, not, ℕ, ◌+◌, ◌*◌, ◌%◌, eqb, leb, ltb}
+use Rattle.std.specs.Prelude.{Bool, Result, Ok, Err, ⊤, ◌||◌, ◌&&◌, not, ℕ, ◌+◌, ◌*◌, ◌%◌, eqb, leb, ltb}
 use Rattle.lists.specs.Pick.{pick}
 use Rattle.tape.specs.Numbers.{block_bytes, capacity_limit}
 use Rattle.signals.specs.Message.{message_bytes}
@@ -9,6 +9,8 @@ use Rattle.state.specs.declared.Tape.{Tape}
 use Rattle.state.specs.declared.Registers.{Registers}
 use Rattle.state.specs.declared.Characteristics.{Characteristics}
 use Rattle.state.specs.declared.Lengths.{Lengths}
+use Rattle.state.specs.declared.refusal.Refusal.{Refusal}
+use Rattle.state.specs.declared.refusal.Refusal.TheVariants as refusal
 
 -- "Memory: even length, 2 to 262,144 bytes."
 abbrev pub memory_limit : ℕ
@@ -47,9 +49,9 @@ state_wrong u =
     || (registers_wrong u.registers
     || ((not u.registers.nba && buffer_wrong u.characteristics u.lengths.memory) || lengths_wrong u.lengths))
 
--- the first of refusals 1, 2, 3 that holds, for lengths in bytes; 0 where none does
-unfoldable pub refusal_of : Unit → ℕ → ℕ → ℕ
+-- the first of refusals 1, 2, 3 that holds, for lengths in bytes
+unfoldable pub refusal_of : Unit → ℕ → ℕ → Result ⊤ Refusal
 refusal_of u memory reel =
-    pick (state_wrong u) 1
-    (pick (not (eqb memory u.lengths.memory)) 2
-    (pick (not (eqb reel (block_bytes * u.lengths.blocks))) 3 0))
+    pick (state_wrong u) (Err refusal.State)
+    (pick (not (eqb memory u.lengths.memory)) (Err refusal.Memory)
+    (pick (not (eqb reel (block_bytes * u.lengths.blocks))) (Err refusal.Reel) (Ok tt)))

@@ -2,4 +2,5 @@
 pub mod Changes
 pub mod Checks
 pub mod Legal
+pub mod Refusals
 pub mod Readings

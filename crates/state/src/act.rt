@@ -1,6 +1,6 @@
 // Register writes and operator acts: each hands back the next state.
 ghost use Rattle.std.specs.Prelude.{◌≡◌, ◌<◌};
-ghost use Rattle.state.specs.Changes.{initial_registers, initialized, mounted_as, no_attention, no_characteristics, operated, pointer_of, switched_line, switched_lock, tsdb_written};
+ghost use Rattle.state.specs.Changes.{initial_registers, initialized, mounted_as, operated, pointer_of, switched_line, switched_lock, tsdb_written};
 
 use crate::{Attention, Characteristics, Lengths, Panel, Registers, Tape, Unit};
 
@@ -19,43 +19,18 @@ fn pointer_of(word: u16) -> usize
     w / 4 * 4 + 65536 * (w % 4)
 }
 
-// The characteristics that an initialize leaves.
-fn no_characteristics() -> Characteristics
-    ensures { result ≡ no_characteristics }
-{
-    Characteristics {
-        address: 0,
-        length: 0,
-        eai: false,
-        ess: false,
-        enb: false,
-    }
-}
-
 fn initial_registers() -> Registers
     ensures { result ≡ initial_registers }
 {
     Registers {
-        pointer: 0,
-        class: 0,
-        rmr: false,
-        nxm: false,
         nba: true,
         ssr: true,
-    }
-}
-
-fn no_attention() -> Attention
-    ensures { result ≡ no_attention }
-{
-    Attention {
-        unit_owns: false,
-        pending: false,
-        release_ie: false,
+        ..Registers::default()
     }
 }
 
 // A mounted unit: position 0 and the rest as an initialize leaves it.
+#[tactic(auto, unfolding(crate::specs::Changes::mounted_as))]
 pub fn mounted(end: usize, online: bool, locked: bool, lengths: Lengths) -> Unit
     ensures { result ≡ mounted_as end online locked lengths }
 {
@@ -66,20 +41,19 @@ pub fn mounted(end: usize, online: bool, locked: bool, lengths: Lengths) -> Unit
         locked,
         vck: true,
     };
-    let attention = no_attention();
-    let characteristics = no_characteristics();
     Unit {
         tape,
         registers,
         panel,
-        attention,
-        characteristics,
+        attention: Attention::default(),
+        characteristics: Characteristics::default(),
         lengths,
     }
 }
 
 impl Unit {
     // A TSDB write: with SSR clear it sets RMR and nothing else.
+    #[tactic(auto, unfolding(crate::specs::Changes::tsdb_written))]
     pub fn write_tsdb(mut self, word: u16) -> Unit
         ensures { result ≡ tsdb_written self word }
     {
@@ -87,50 +61,44 @@ impl Unit {
             self.registers.rmr = true;
             return self;
         }
-        let pointer = pointer_of(word);
-        let nba = self.registers.nba;
-        let g = Registers {
-            pointer,
+        self.registers = Registers {
+            pointer: pointer_of(word),
             class: 0,
             rmr: false,
             nxm: false,
-            nba,
+            nba: self.registers.nba,
             ssr: false,
         };
-        self.registers = g;
         self
     }
 
     // A TSSR write initializes. Off line the tape stays where it is.
+    #[tactic(auto, unfolding(crate::specs::Changes::initialized))]
     pub fn initialize(mut self) -> Unit
         ensures { result ≡ initialized self }
     {
-        let g = initial_registers();
-        let a = no_attention();
-        let c = no_characteristics();
-        self.registers = g;
+        self.registers = initial_registers();
         self.panel.vck = true;
-        self.attention = a;
-        self.characteristics = c;
+        self.attention = Attention::default();
+        self.characteristics = Characteristics::default();
         if self.panel.online {
             self.tape.position = 0;
-            return self;
         }
         self
     }
 
     // Going on or off line makes an attention pending if EAI is set; going on line sets VCK.
+    #[tactic(auto, unfolding(crate::specs::Changes::switched_line))]
     fn switch_line(mut self, online: bool) -> Unit
         ensures { result ≡ switched_line self online }
     {
-        let vck = self.panel.vck | online;
-        let pending = self.attention.pending | self.characteristics.eai;
         self.panel.online = online;
-        self.panel.vck = vck;
-        self.attention.pending = pending;
+        self.panel.vck |= online;
+        self.attention.pending |= self.characteristics.eai;
         self
     }
 
+    #[tactic(auto, unfolding(crate::specs::Changes::switched_lock))]
     fn lock(mut self, on: bool) -> Unit
         ensures { result ≡ switched_lock self on }
     {
@@ -139,6 +107,7 @@ impl Unit {
     }
 
     // An act that finds its switch already so raises and sets nothing.
+    #[tactic(auto, unfolding(crate::specs::Changes::operated))]
     pub fn operate(self, act: Act) -> Unit
         ensures { result ≡ operated self act }
     {

@@ -2,7 +2,7 @@
 ghost use Rattle.std.specs.Prelude.{◌≡◌};
 ghost use Rattle.state.specs.Checks.{blocks_right, buffer_wrong, lengths_wrong, memory_right, refusal_of, registers_wrong, state_wrong, tape_wrong};
 
-use crate::{Characteristics, Lengths, Registers, Tape, Unit};
+use crate::{Characteristics, Lengths, Refusal, Registers, Tape, Unit};
 use tape::Geometry;
 
 pub const MEMORY_LIMIT: usize = 262144;
@@ -60,19 +60,19 @@ pub fn state_wrong(u: Unit) -> bool
         | (registers_wrong(g) | (((!g.nba) & buffer_wrong(c, l.memory)) | lengths_wrong(l)))
 }
 
-// The first of refusals 1, 2, 3 that holds, or 0. The lengths are in bytes.
-pub fn refusal(u: Unit, memory: usize, reel: usize) -> usize
+// The first of refusals 1, 2, 3 that holds. The lengths are in bytes.
+pub fn unit_check(u: Unit, memory: usize, reel: usize) -> Result<(), Refusal>
     ensures { result ≡ refusal_of u memory reel }
 {
     if state_wrong(u) {
-        return 1;
+        return Err(Refusal::State);
     }
     if memory != u.lengths.memory {
-        return 2;
+        return Err(Refusal::Memory);
     }
     let whole = (reel % Geometry::BLOCK == 0) & (reel / Geometry::BLOCK == u.lengths.blocks);
     if !whole {
-        return 3;
+        return Err(Refusal::Reel);
     }
-    0
+    Ok(())
 }

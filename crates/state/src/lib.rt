@@ -3,21 +3,24 @@
 
 mod act;
 mod check;
+mod refusal;
 mod register;
 
 pub use act::{Act, mounted};
-pub use check::{MEMORY_LIMIT, blocks_right, buffer_wrong, memory_right, refusal, state_wrong};
+pub use check::{MEMORY_LIMIT, blocks_right, buffer_wrong, memory_right, state_wrong, unit_check};
+pub use refusal::Refusal;
 
 // In blocks.
-#[derive(Clone, Copy)]
+#[derive(Clone, Copy, Default)]
 pub struct Tape {
     pub position: usize,
     pub end: usize,
 }
 
-#[derive(Clone, Copy)]
+#[derive(Clone, Copy, Default)]
 pub struct Registers {
     pub pointer: usize,
+    // Kept: a number, as TSSR shows it; a state that is handed in may say any, and `registers_wrong` refuses those past 6.
     pub class: usize,
     pub rmr: bool,
     pub nxm: bool,
@@ -26,7 +29,7 @@ pub struct Registers {
     pub ssr: bool,
 }
 
-#[derive(Clone, Copy)]
+#[derive(Clone, Copy, Default)]
 pub struct Panel {
     pub online: bool,
     pub locked: bool,
@@ -34,7 +37,7 @@ pub struct Panel {
 }
 
 // The message buffer's owner, and the attention that waits for the unit to own it.
-#[derive(Clone, Copy)]
+#[derive(Clone, Copy, Default)]
 pub struct Attention {
     pub unit_owns: bool,
     pub pending: bool,
@@ -42,7 +45,7 @@ pub struct Attention {
 }
 
 // What Write Characteristics took.
-#[derive(Clone, Copy)]
+#[derive(Clone, Copy, Default)]
 pub struct Characteristics {
     pub address: u32,
     pub length: u32,
@@ -52,13 +55,13 @@ pub struct Characteristics {
 }
 
 // The mount's lengths: bytes of memory, blocks of reel.
-#[derive(Clone, Copy)]
+#[derive(Clone, Copy, Default, PartialEq, Eq)]
 pub struct Lengths {
     pub memory: usize,
     pub blocks: usize,
 }
 
-#[derive(Clone, Copy)]
+#[derive(Clone, Copy, Default)]
 pub struct Unit {
     pub tape: Tape,
     pub registers: Registers,

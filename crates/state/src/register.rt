@@ -1,9 +1,9 @@
 // TSBA and TSSR as they read.
-ghost use Rattle.std.specs.Prelude.{◌≡◌, ◌≤◌};
-ghost use Rattle.signals.specs.Message.{flag_of};
+ghost use Rattle.std.specs.Prelude.{◌≡◌};
 ghost use Rattle.state.specs.Readings.{sc_of, tsba_of, tssr_of};
 
 use crate::Unit;
+use signals::flag;
 
 // TSSR's bits, by their numbers in the paper; the class takes bits 3:1.
 const SC: u16 = 0x8000; // 15
@@ -29,13 +29,6 @@ const BIT_17: usize = 0x20000;
 
 const BIT_16: usize = 0x10000;
 
-fn flag_word(b: bool, w: u16) -> u16
-    ensures is { result ≡ flag_of b w }
-    ensures low { result ≤ w }
-{
-    if b { w } else { 0 }
-}
-
 impl Unit {
     // The low 16 bits of the pointer last accepted.
     pub fn tsba(self) -> u16
@@ -51,6 +44,7 @@ impl Unit {
         (self.registers.class != 0) | self.registers.rmr | self.registers.nxm
     }
 
+    #[tactic(auto, unfolding(crate::specs::Readings::tssr_of))]
     pub fn tssr(self) -> u16
         ensures { result ≡ tssr_of self }
     {
@@ -58,14 +52,14 @@ impl Unit {
         let a17 = g.pointer / BIT_17 % 2 == 1;
         let a16 = g.pointer / BIT_16 % 2 == 1;
         let class = (g.class % 8) as u16;
-        flag_word(self.sc(), SC)
-            + flag_word(g.rmr, RMR)
-            + flag_word(g.nxm, NXM)
-            + flag_word(g.nba, NBA)
-            + flag_word(a17, A17)
-            + flag_word(a16, A16)
-            + flag_word(g.ssr, SSR)
-            + flag_word(!self.panel.online, OFL)
+        flag(self.sc(), SC)
+            + flag(g.rmr, RMR)
+            + flag(g.nxm, NXM)
+            + flag(g.nba, NBA)
+            + flag(a17, A17)
+            + flag(a16, A16)
+            + flag(g.ssr, SSR)
+            + flag(!self.panel.online, OFL)
             + CLASS * class
     }
 }

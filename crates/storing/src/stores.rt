@@ -34,6 +34,7 @@ pub fn lay(reel: &mut [u8], l: Laid, mem: &[u8])
     }
 }
 
+#[tactic(auto, unfolding(crate::specs::Stored::moved_on))]
 pub fn move_data(reel: &[u8], m: Moved, mem: &mut [u8])
     requires { MovedFits m (length mem.old) (length reel.now) }
     ensures { mem.new ≡ moved_on reel.now m mem.old }

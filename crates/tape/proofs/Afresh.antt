@@ -8,12 +8,12 @@ use Rattle.tape.specs.Afresh.{met_then, objects_from, objects_in}
 use Rattle.tape.specs.Meeting.{met_as}
 use Rattle.tape.specs.Objects.{Allowed, Holds, Object, StandsAt, blocks_of, gap, mark, record_of}
 use Rattle.tape.specs.Sweep.{swept_below}
-use Rattle.tape.specs.declared.Swept.TheVariants as swept
 use Rattle.tape.proofs.Images.{one_or_more}
 use Rattle.tape.proofs.Passes.{allowed_at, forward_ends, forward_meets}
 use Rattle.tape.proofs.Recorded.{record_stands}
 use Rattle.tape.proofs.Standing.{stands_in}
 use Rattle.tape.proofs.Sweeps.{whole_swept}
+use Rattle.std.specs.Prelude.{Ok}
 
 -- an object that stands at p is taken as itself
 met_is : (s : List ℕ) (p q : ℕ) (o : Object) (onward : ℕ → List Object) → Allowed o → StandsAt s p o → met_then s p (met_as o q) onward ≡ o ∷ onward q
@@ -41,7 +41,7 @@ unfolding objects_in blocks_of
 objects_are {s} {e} {os} h = objects_from_lem s e e [] os h (omega (arith, h.ends))
 
 -- and a reel whose sweep finds nothing holds them
-pub objects_held : {s : List ℕ} {e : ℕ} → Bytes s → swept_below s e ≡ swept.Whole → Holds s e (objects_in s e)
+pub objects_held : {s : List ℕ} {e : ℕ} → Bytes s → swept_below s e ≡ Ok tt → Holds s e (objects_in s e)
 objects_held {s} {e} bytes w =
     let h = whole_swept s e bytes w in
     rw (objects_are h.1) h.1

@@ -17,6 +17,8 @@ use Rattle.tape.specs.declared.Met.{Met}
 use Rattle.tape.specs.declared.Met.TheVariants as met
 use Rattle.tape.proofs.Passes.{class_at_lem, order_below}
 use Rattle.tape.proofs.Runs.{part_of_front}
+use Rattle.std.specs.Prelude.{Result, Ok, Err}
+use Rattle.tape.specs.declared.BlockFault.{BlockFault}
 
 -- a choice between answers that agree, each where it is chosen
 pub pick_agree : {A : Type 0} (t : Bool) (x x' y y' : A) → (t ≡ true → x ≡ x') → (t ≡ false → y ≡ y') → pick t x y ≡ pick t x' y'
@@ -52,12 +54,12 @@ module _ (limit limit' : ℕ) (s s' : List ℕ) (reverse : Bool) (e : ℕ) (same
       (λ t. pieces_agree n p m 1 (m - 1) (met.Record n (beyond reverse q m)) (lowest_below reverse q e m h (leb-true _ _ ((and-eq-true_iff met-first fits).0 t).1)) (omega arith))
       (λ t. refl)
 
-  by_agree : (q : ℕ) (b : Block) → q ≤ e → met_by_under limit s reverse q e b ≡ met_by_under limit' s' reverse q e b
+  by_agree : (q : ℕ) (b : Result Block BlockFault) → q ≤ e → met_by_under limit s reverse q e b ≡ met_by_under limit' s' reverse q e b
   unfolding met_by_under
-  by_agree q (block.Piece n i) h = record_agree q n i h
-  by_agree q block.Mark h = refl
-  by_agree q block.Gap h = refl
-  by_agree q (block.Damaged f) h = refl
+  by_agree q (Ok (block.Piece n i)) h = record_agree q n i h
+  by_agree q (Ok block.Mark) h = refl
+  by_agree q (Ok block.Gap) h = refl
+  by_agree q (Err f) h = refl
 
   pub pass_agree : (q : ℕ) → q ≤ e → passed_under limit s reverse q e ≡ passed_under limit' s' reverse q e
   unfolding passed_under

@@ -8,7 +8,7 @@ use borrow.Author.Tests.{eq-eqb, eqb-false, eqb-true, le-leb, le-ltb, leb-true, 
 use lib.Dec.{eqb, leb, ltb}
 use lib.ListN.{length, take, drop, get_or, length-take, get_or-eq_default}
 use lib.Seq.{get_or-drop, get_or-take}
-use Rattle.lists.specs.Pick.{Always, pick}
+use Rattle.lists.specs.Pick.{Always}
 use Rattle.lists.specs.Words.{word_at}
 use Rattle.lists.proofs.Cases.{by_test, pick_told}
 use Rattle.tape.specs.Layout.{check_of, mark_kind, piece_kind}
@@ -20,8 +20,8 @@ use Rattle.tape.specs.Wrong.{CheckGood, FirstWrong, IndexGood, KindGood, LengthG
 use Rattle.tape.specs.declared.BlockFault.{BlockFault}
 use Rattle.tape.specs.declared.BlockFault.TheVariants as fault
 use Rattle.tape.specs.declared.Block.{Block}
-use Rattle.tape.specs.declared.Block.TheVariants as block
 use Rattle.tape.proofs.Accepted.{clash, third}
+use Rattle.std.specs.Prelude.{Result, Ok, Err}
 
 -- a test that is true exactly where the fact holds
 record Decides (t : Bool) (P : Type 0) : Type 0 where
@@ -136,14 +136,9 @@ module _ (b : List ℕ) where
   check_tells = record { so = λ h. eqb-true (word_at b summed_bytes) (check_of (take summed_bytes b)) h; sure = λ h. eq-eqb (word_at b summed_bytes) (check_of (take summed_bytes b)) h }
 
   -- a fault that is told is the first of the five that is wrong
-  abbrev Told : Block → Type 0
-  Told (block.Damaged f) = FirstWrong b f
-  Told (block.Piece x y) = Always
-  Told block.Mark = Always
-  Told block.Gap = Always
-
-  sound_told : Told (kind_of k n i)
-  sound_told = pick_told Told (eqb k piece_kind) (block.Piece n i) (pick (eqb k mark_kind) block.Mark block.Gap) (λ t. tt) (λ t. pick_told Told (eqb k mark_kind) block.Mark block.Gap (λ m. tt) (λ m. tt))
+  abbrev Told : Result Block BlockFault → Type 0
+  Told (Err f) = FirstWrong b f
+  Told (Ok x) = Always
 
   told_all : Told (class_of b)
   unfolding class_of_under class_by_under
@@ -158,17 +153,17 @@ module _ (b : List ℕ) where
       (λ d.
       let due = index_so d in
       pick_told Told (padding_right b (used_of k n i)) _ _
-      (λ e. pick_told Told (check_right b) (kind_of k n i) _ (λ f. sound_told) (λ f. check good long due (padding_tells.so e) (not_so check_tells f)))
+      (λ e. pick_told Told (check_right b) (Ok (kind_of k n i)) _ (λ f. tt) (λ f. check good long due (padding_tells.so e) (not_so check_tells f)))
       (λ e. padding good long due (not_so padding_tells e)))
       (λ d. index good long (not_so index_tells d)))
       (λ c. size good (not_so length_tells c)))
       (λ a. kind (not_so kind_tells a))
 
-  pub told_first : (f : BlockFault) → class_of b ≡ block.Damaged f → FirstWrong b f
+  pub told_first : (f : BlockFault) → class_of b ≡ Err f → FirstWrong b f
   told_first f e = rw e at told_all
 
   -- and the other way: the first that is wrong is the one told
-  pub first_told : (f : BlockFault) → FirstWrong b f → class_of b ≡ block.Damaged f
+  pub first_told : (f : BlockFault) → FirstWrong b f → class_of b ≡ Err f
   unfolding class_of_under class_by_under
   first_told f (kind a) = rw (not_sure kind_tells a)
   first_told f (size a c) = rw (kind_sure a, not_sure length_tells c)
@@ -178,12 +173,10 @@ module _ (b : List ℕ) where
 
 -- what is wrong with a block that can't be taken, by its bytes
 module _ (s : List ℕ) (k : ℕ) where
-  sound_or_not : (b : Block) → class_of (block_at s k) ≡ b → k < length s / block_bytes → WrongAt s k (fault_of b)
+  sound_or_not : (b : Result Block BlockFault) → class_of (block_at s k) ≡ b → k < length s / block_bytes → WrongAt s k (fault_of b)
   unfolding fault_of
-  sound_or_not (block.Damaged f) e h = by_itself h (told_first (block_at s k) f e)
-  sound_or_not (block.Piece n i) e h = misplaced h (λ f w. clash (cc (e, first_told (block_at s k) f w)))
-  sound_or_not block.Mark e h = misplaced h (λ f w. clash (cc (e, first_told (block_at s k) f w)))
-  sound_or_not block.Gap e h = misplaced h (λ f w. clash (cc (e, first_told (block_at s k) f w)))
+  sound_or_not (Err f) e h = by_itself h (told_first (block_at s k) f e)
+  sound_or_not (Ok b) e h = misplaced h (λ f w. clash (cc (e, first_told (block_at s k) f w)))
 
   pub wrong_at : WrongAt s k (fault_of (class_at s k))
   unfolding class_at_under fault_of
@@ -201,15 +194,13 @@ module _ (s : List ℕ) (k : ℕ) where
   absent h = rw (le-ltb k (length s / block_bytes) h)
 
   -- a block that none of the five is wrong with is sound
-  abbrev Soundly : Block → Type 0
-  Soundly b = ((f : BlockFault) → b ≡ block.Damaged f → ⊥) → fault_of b ≡ fault.Index
+  abbrev Soundly : Result Block BlockFault → Type 0
+  Soundly b = ((f : BlockFault) → b ≡ Err f → ⊥) → fault_of b ≡ fault.Index
 
-  soundly : (b : Block) → Soundly b
+  soundly : (b : Result Block BlockFault) → Soundly b
   unfolding fault_of
-  soundly (block.Damaged f) g = absurd (g f refl)
-  soundly (block.Piece n i) g = refl
-  soundly block.Mark g = refl
-  soundly block.Gap g = refl
+  soundly (Err f) g = absurd (g f refl)
+  soundly (Ok b) g = refl
 
   -- one fault only is what is wrong with it
   pub wrong_told : (f : BlockFault) → WrongAt s k f → fault_of (class_at s k) ≡ f

@@ -22,32 +22,33 @@ use Rattle.tape.proofs.Passes.{PiecesAt}
 use Rattle.tape.proofs.ReadBlocks.{piece_read, whole_gap, whole_mark, whole_piece}
 use Rattle.tape.proofs.Recorded.{record_length, record_part}
 use Rattle.tape.proofs.Runs.{part_of_front}
+use Rattle.std.specs.Prelude.{Result, Ok, Err}
 
 -- what a block that is not damaged says: the slice holds it
-record ReadAt (s : List ℕ) (k : ℕ) (b : Block) : Type 0 where
+record ReadAt (s : List ℕ) (k : ℕ) (b : Result Block BlockFault) : Type 0 where
   room : block_bytes * (k + 1) ≤ length s
   bytes : Bytes (block_at s k)
   size : length (block_at s k) ≡ block_bytes
   class : class_of (block_at s k) ≡ b
 
 module _ (s : List ℕ) (k : ℕ) (all : Bytes s) where
-  read_at : (b : Block) → ((f : BlockFault) → block.Damaged f ≡ b → ⊥) → class_at s k ≡ b → ReadAt s k b
+  read_at : (b : Result Block BlockFault) → ((f : BlockFault) → Err f ≡ b → ⊥) → class_at s k ≡ b → ReadAt s k b
   unfolding class_at_under
   read_at b sound e =
       let p = pick_first (ltb k (length s / block_bytes)) (class_of (block_at s k)) _ b e (sound fault.Index) in
       let fits : block_bytes * (k + 1) ≤ length s = omega (arith, ltb-true k (length s / block_bytes) p.0) in
       record { room = fits; bytes = bytes_part block_bytes (block_bytes * k) s all; size = simp (length-take, length-drop) (omega arith); class = p.1 }
 
-  pub mark_stands : class_at s k ≡ block.Mark → StandsAt s k mark
+  pub mark_stands : class_at s k ≡ Ok block.Mark → StandsAt s k mark
   unfolding blocks_in
-  mark_stands e = let r = read_at block.Mark (λ f h. clash cc) e in whole_mark (block_at s k) r.bytes r.size r.class
+  mark_stands e = let r = read_at (Ok block.Mark) (λ f h. clash cc) e in whole_mark (block_at s k) r.bytes r.size r.class
 
-  pub gap_stands : class_at s k ≡ block.Gap → StandsAt s k gap
+  pub gap_stands : class_at s k ≡ Ok block.Gap → StandsAt s k gap
   unfolding blocks_in
-  gap_stands e = let r = read_at block.Gap (λ f h. clash cc) e in whole_gap (block_at s k) r.bytes r.size r.class
+  gap_stands e = let r = read_at (Ok block.Gap) (λ f h. clash cc) e in whole_gap (block_at s k) r.bytes r.size r.class
 
-  piece_at : (n i : ℕ) → class_at s k ≡ block.Piece n i → ReadAt s k (block.Piece n i)
-  piece_at n i e = read_at (block.Piece n i) (λ f h. clash cc) e
+  piece_at : (n i : ℕ) → class_at s k ≡ Ok (block.Piece n i) → ReadAt s k (Ok (block.Piece n i))
+  piece_at n i e = read_at (Ok (block.Piece n i)) (λ f h. clash cc) e
 
 -- the converse of `stands_piece`: blocks that are a record's pieces make up its image
 pub pieces_join : (s d : List ℕ) (p m : ℕ) → ((j : ℕ) → j < m → block_at s (p + j) ≡ piece_of d j) → take (block_bytes * m) (drop (block_bytes * p) s) ≡ pieces_to d m

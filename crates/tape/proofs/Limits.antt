@@ -26,6 +26,9 @@ use Rattle.tape.proofs.Images.{blocks_append}
 use Rattle.tape.proofs.Outcomes.{Outcome, at_end, at_fault, outcome, over_gap, over_mark, over_record}
 use Rattle.tape.proofs.Passes.{allowed_at, class_gap, class_mark, class_stands, first_alone, met_record, passed_by}
 use Rattle.tape.proofs.Standing.{stands_in}
+use Rattle.std.specs.Prelude.{Result, Ok, Err}
+use Rattle.tape.specs.declared.Damage.{Damage}
+use Rattle.tape.specs.declared.BlockFault.{BlockFault}
 
 -- a record no longer than the one limit is none longer than a higher one: the same objects, and so a reel well formed under the one is under the other
 pub allowed_raised : {limit limit' : ℕ} (o : Object) → limit ≤ limit' → AllowedUnder limit o → AllowedUnder limit' o
@@ -42,57 +45,57 @@ holds_raised l h = record { allowed = all_raised l h.allowed; ends = h.ends; ima
 
 module _ (limit : ℕ) where
   -- what any unit reads as a piece is the same piece, if its record is no longer than the limit; else its length is what is wrong with it
-  piece_under : (other : ℕ) (b : List ℕ) (n i : ℕ) → class_of_under other b ≡ block.Piece n i → n ≤ limit → class_of_under limit b ≡ block.Piece n i
+  piece_under : (other : ℕ) (b : List ℕ) (n i : ℕ) → class_of_under other b ≡ Ok (block.Piece n i) → n ≤ limit → class_of_under limit b ≡ Ok (block.Piece n i)
   unfolding class_of_under class_by_under
   piece_under other b n i e l =
       let a = accepted_piece other b n i e in
       rw (a.kind, a.size, a.index, ((and-eq-true_iff (leb 1 n) _).0 a.sized).0, le-leb n limit l, a.indexed, a.padding, a.check)
 
-  piece_over : (other : ℕ) (b : List ℕ) (n i : ℕ) → class_of_under other b ≡ block.Piece n i → limit < n → class_of_under limit b ≡ block.Damaged fault.Length
+  piece_over : (other : ℕ) (b : List ℕ) (n i : ℕ) → class_of_under other b ≡ Ok (block.Piece n i) → limit < n → class_of_under limit b ≡ Err fault.Length
   unfolding class_of_under class_by_under
   piece_over other b n i e l =
       let a = accepted_piece other b n i e in
       rw (a.kind, a.size, ((and-eq-true_iff (leb 1 n) _).0 a.sized).0, lt-leb n limit l)
 
   -- a mark or gap is the same to all
-  mark_under : (b : List ℕ) → class_of b ≡ block.Mark → class_of_under limit b ≡ block.Mark
+  mark_under : (b : List ℕ) → class_of b ≡ Ok block.Mark → class_of_under limit b ≡ Ok block.Mark
   unfolding class_of_under class_by_under
   mark_under b e =
       let a = accepted_mark record_limit b e in
       rw (a.kind, a.size, a.index, a.padding, a.check)
 
-  gap_under : (b : List ℕ) → class_of b ≡ block.Gap → class_of_under limit b ≡ block.Gap
+  gap_under : (b : List ℕ) → class_of b ≡ Ok block.Gap → class_of_under limit b ≡ Ok block.Gap
   unfolding class_of_under class_by_under
   gap_under b e =
       let a = accepted_gap record_limit b e in
       rw (a.kind, a.size, a.index, a.padding, a.check)
 
   -- the same of a block on a reel: what holds of the blocks that the slice holds
-  class_within : (other : ℕ) (s : List ℕ) (k : ℕ) {b c : Block} → class_at_under other s k ≡ b → (block.Damaged fault.Index ≡ b → ⊥) → (class_of_under other (block_at s k) ≡ b → class_of_under limit (block_at s k) ≡ c) → class_at_under limit s k ≡ c
+  class_within : (other : ℕ) (s : List ℕ) (k : ℕ) {b c : Result Block BlockFault} → class_at_under other s k ≡ b → (Err fault.Index ≡ b → ⊥) → (class_of_under other (block_at s k) ≡ b → class_of_under limit (block_at s k) ≡ c) → class_at_under limit s k ≡ c
   unfolding class_at_under
   class_within other s k {b} {c} e f on =
-      let p = pick_first (ltb k (length s / block_bytes)) (class_of_under other (block_at s k)) (block.Damaged fault.Index) b e f in
+      let p = pick_first (ltb k (length s / block_bytes)) (class_of_under other (block_at s k)) (Err fault.Index) b e f in
       rw p.0 (on p.1)
 
-  pub piece_at : (s : List ℕ) (k : ℕ) {n i : ℕ} → class_at s k ≡ block.Piece n i → n ≤ limit → class_at_under limit s k ≡ block.Piece n i
+  pub piece_at : (s : List ℕ) (k : ℕ) {n i : ℕ} → class_at s k ≡ Ok (block.Piece n i) → n ≤ limit → class_at_under limit s k ≡ Ok (block.Piece n i)
   piece_at s k {n} {i} e l = class_within record_limit s k e (λ h. clash cc) (λ c. piece_under record_limit (block_at s k) n i c l)
 
-  pub long_at_lem : (other : ℕ) (s : List ℕ) (k : ℕ) {n i : ℕ} → class_at_under other s k ≡ block.Piece n i → limit < n → class_at_under limit s k ≡ block.Damaged fault.Length
+  pub long_at_lem : (other : ℕ) (s : List ℕ) (k : ℕ) {n i : ℕ} → class_at_under other s k ≡ Ok (block.Piece n i) → limit < n → class_at_under limit s k ≡ Err fault.Length
   long_at_lem other s k {n} {i} e l = class_within other s k e (λ h. clash cc) (λ c. piece_over other (block_at s k) n i c l)
 
-  pub mark_at : (s : List ℕ) (k : ℕ) → class_at s k ≡ block.Mark → class_at_under limit s k ≡ block.Mark
+  pub mark_at : (s : List ℕ) (k : ℕ) → class_at s k ≡ Ok block.Mark → class_at_under limit s k ≡ Ok block.Mark
   mark_at s k e = class_within record_limit s k e (λ h. clash cc) (λ c. mark_under (block_at s k) c)
 
-  pub gap_at : (s : List ℕ) (k : ℕ) → class_at s k ≡ block.Gap → class_at_under limit s k ≡ block.Gap
+  pub gap_at : (s : List ℕ) (k : ℕ) → class_at s k ≡ Ok block.Gap → class_at_under limit s k ≡ Ok block.Gap
   gap_at s k e = class_within record_limit s k e (λ h. clash cc) (λ c. gap_under (block_at s k) c)
 
   -- what a pass of this unit met, another takes too: no fault, and no record longer than its limit
-  abbrev pub Fits : Met → Type 0
-  Fits (met.Record n q) = n ≤ limit
-  Fits (met.Mark q) = Always
-  Fits (met.Gap q) = Always
-  Fits met.Nothing = Always
-  Fits (met.Bad why k) = ⊥
+  abbrev pub Fits : Result Met Damage → Type 0
+  Fits (Ok (met.Record n q)) = n ≤ limit
+  Fits (Ok (met.Mark q)) = Always
+  Fits (Ok (met.Gap q)) = Always
+  Fits (Ok met.Nothing) = Always
+  Fits (Err d) = ⊥
 
   -- an object that is allowed fits
   pub allowed_fits : (o : Object) (q : ℕ) → AllowedUnder limit o → Fits (met_as o q)
@@ -102,14 +105,14 @@ module _ (limit : ℕ) where
   allowed_fits gap q a = tt
 
   module _ (s : List ℕ) (reverse : Bool) (q e : ℕ) where
-    by_outcome : (m : Met) → Outcome s reverse q e m → Fits m → passed_under limit s reverse q e ≡ m
+    by_outcome : (m : Result Met Damage) → Outcome s reverse q e m → Fits m → passed_under limit s reverse q e ≡ m
     unfolding passed_under met_by_under
     by_outcome m (at_end z y) f = rw (eq-eqb (ahead reverse q e) 0 z, y)
     by_outcome m (over_record n one most fits all y) f =
         let l : n ≤ limit = rw y at f in
         met_record limit s reverse q e n one fits (λ j k. piece_at s (lowest reverse q (pieces_of n) + j) (all j k) l) ∙ sym y
-    by_outcome m (over_mark h c y) f = passed_by limit s reverse q e block.Mark h (rw first_alone (mark_at s (lowest reverse q 1) c)) ∙ sym y
-    by_outcome m (over_gap h c y) f = passed_by limit s reverse q e block.Gap h (rw first_alone (gap_at s (lowest reverse q 1) c)) ∙ sym y
+    by_outcome m (over_mark h c y) f = passed_by limit s reverse q e (Ok block.Mark) h (rw first_alone (mark_at s (lowest reverse q 1) c)) ∙ sym y
+    by_outcome m (over_gap h c y) f = passed_by limit s reverse q e (Ok block.Gap) h (rw first_alone (gap_at s (lowest reverse q 1) c)) ∙ sym y
     by_outcome m (at_fault k y) f = absurd (rw y at f)
 
     pub passed_under_lem : Fits (passed s reverse q e) → passed_under limit s reverse q e ≡ passed s reverse q e

@@ -20,6 +20,8 @@ use Rattle.tape.proofs.Images.{allowed_rest, blocks_append, length_image, one_or
 use Rattle.tape.proofs.ReadBlocks.{read_gap, read_mark, read_piece}
 use Rattle.tape.proofs.Standing.{stands_below, stands_in, stands_piece}
 use Rattle.tape.proofs.Written.{laid_stands}
+use Rattle.std.specs.Prelude.{Result, Ok}
+use Rattle.tape.specs.declared.BlockFault.{BlockFault}
 
 -- a block within the slice is read as its bytes say
 pub class_at_lem : (s b : List ℕ) (k : ℕ) → block_bytes * (k + 1) ≤ length s → block_at s k ≡ b → class_at s k ≡ class_of b
@@ -28,7 +30,7 @@ class_at_lem s b k h e = simp (lt-ltb k (length s / block_bytes) (omega arith)) 
 
 -- the blocks from p on are the pieces of a record of n bytes, to a unit of any record limit and to this one
 abbrev pub PiecesAtUnder : ℕ → List ℕ → ℕ → ℕ → Type 0
-PiecesAtUnder limit s p n = (j : ℕ) → j < pieces_of n → class_at_under limit s (p + j) ≡ block.Piece n j
+PiecesAtUnder limit s p n = (j : ℕ) → j < pieces_of n → class_at_under limit s (p + j) ≡ Ok (block.Piece n j)
 
 abbrev pub PiecesAt : List ℕ → ℕ → ℕ → Type 0
 PiecesAt = PiecesAtUnder record_limit
@@ -44,11 +46,11 @@ module _ (s : List ℕ) (p : ℕ) where
       class_at_lem s (piece_of d j) (p + j) (omega (arith, stands_room (record_of d) h a)) (stands_piece s p d j h l)
       ∙ read_piece (length d) j (take data_bytes (drop (data_bytes * j) d)) a.0 a.1 l (simp (length-take, length-drop))
 
-  pub class_mark : StandsAt s p mark → class_at s p ≡ block.Mark
+  pub class_mark : StandsAt s p mark → class_at s p ≡ Ok block.Mark
   unfolding blocks_in
   class_mark h = class_at_lem s (image_of mark) p (omega (arith, stands_room mark h tt)) h ∙ read_mark
 
-  pub class_gap : StandsAt s p gap → class_at s p ≡ block.Gap
+  pub class_gap : StandsAt s p gap → class_at s p ≡ Ok block.Gap
   unfolding blocks_in
   class_gap h = class_at_lem s (image_of gap) p (omega (arith, stands_room gap h tt)) h ∙ read_gap
 
@@ -69,7 +71,7 @@ first_alone false q = refl
 -- under any record limit
 module _ (limit : ℕ) (s : List ℕ) (reverse : Bool) where
   -- no fault where every piece is the one due
-  pieces_whole : (n p j c : ℕ) (whole : Met) → PiecesAtUnder limit s p n → j + c ≤ pieces_of n → pieces_met_under limit s reverse n p (pieces_of n) j c whole ≡ whole
+  pieces_whole : (n p j c : ℕ) (whole : Met) → PiecesAtUnder limit s p n → j + c ≤ pieces_of n → pieces_met_under limit s reverse n p (pieces_of n) j c whole ≡ Ok whole
   unfolding pieces_met_under is_piece
   pieces_whole n p j zero whole all h = refl
   pieces_whole n p j (suc c) whole all h =
@@ -77,18 +79,18 @@ module _ (limit : ℕ) (s : List ℕ) (reverse : Bool) where
       simp (all i (order_below reverse (pieces_of n) j (omega arith)), eq-eqb n n refl, eq-eqb i i refl) (pieces_whole n p (suc j) c whole all (omega arith))
 
   -- the first block met decides what is met
-  pub passed_by : (q e : ℕ) (b : Block) → 1 ≤ ahead reverse q e → class_at_under limit s (first_met reverse q) ≡ b → passed_under limit s reverse q e ≡ met_by_under limit s reverse q e b
+  pub passed_by : (q e : ℕ) (b : Result Block BlockFault) → 1 ≤ ahead reverse q e → class_at_under limit s (first_met reverse q) ≡ b → passed_under limit s reverse q e ≡ met_by_under limit s reverse q e b
   unfolding passed_under
   passed_by q e b h c = simp (ne_eqb (ahead reverse q e) 0 (λ z. omega arith), c)
 
   -- a record of n bytes, all of whose pieces stand ahead, is met whole
-  pub met_record : (q e n : ℕ) → 1 ≤ n → pieces_of n ≤ ahead reverse q e → PiecesAtUnder limit s (lowest reverse q (pieces_of n)) n → passed_under limit s reverse q e ≡ met.Record n (beyond reverse q (pieces_of n))
+  pub met_record : (q e n : ℕ) → 1 ≤ n → pieces_of n ≤ ahead reverse q e → PiecesAtUnder limit s (lowest reverse q (pieces_of n)) n → passed_under limit s reverse q e ≡ Ok (met.Record n (beyond reverse q (pieces_of n)))
   unfolding met_by_under record_met_under
   met_record q e n h k all =
       let m : ℕ = pieces_of n in
       let i : ℕ = order_met reverse m 0 in
-      let c : class_at_under limit s (first_met reverse q) ≡ block.Piece n i = rw (first_order reverse q e m (omega arith) k) (all i (order_below reverse m 0 (omega arith))) in
-      passed_by q e (block.Piece n i) (omega arith) c
+      let c : class_at_under limit s (first_met reverse q) ≡ Ok (block.Piece n i) = rw (first_order reverse q e m (omega arith) k) (all i (order_below reverse m 0 (omega arith))) in
+      passed_by q e (Ok (block.Piece n i)) (omega arith) c
       ∙ simp (eq-eqb i i refl, le-leb m (ahead reverse q e) k) (pieces_whole n (lowest reverse q m) 1 (m - 1) (met.Record n (beyond reverse q m)) all (omega arith))
 
 module _ (s : List ℕ) (reverse : Bool) (q e : ℕ) where
@@ -96,8 +98,8 @@ module _ (s : List ℕ) (reverse : Bool) (q e : ℕ) where
   pub pass_whole : (o : Object) → Allowed o → StandsAt s (lowest reverse q (blocks_in o)) o → blocks_in o ≤ ahead reverse q e → passed s reverse q e ≡ met_as o (beyond reverse q (blocks_in o))
   unfolding met_as blocks_in met_by_under
   pass_whole (record_of d) a h k = met_record record_limit s reverse q e (length d) a.0 k (class_stands s (lowest reverse q (pieces_of (length d))) d h a)
-  pass_whole mark a h k = passed_by record_limit s reverse q e block.Mark k (rw first_alone (class_mark s (lowest reverse q 1) h))
-  pass_whole gap a h k = passed_by record_limit s reverse q e block.Gap k (rw first_alone (class_gap s (lowest reverse q 1) h))
+  pass_whole mark a h k = passed_by record_limit s reverse q e (Ok block.Mark) k (rw first_alone (class_mark s (lowest reverse q 1) h))
+  pass_whole gap a h k = passed_by record_limit s reverse q e (Ok block.Gap) k (rw first_alone (class_gap s (lowest reverse q 1) h))
 
 module _ (s : List ℕ) (p e : ℕ) (o : Object) (a : Allowed o) (h : StandsAt s p o) where
   pub pass_forward : p + blocks_in o ≤ e → passed s false p e ≡ met_as o (p + blocks_in o)
@@ -109,11 +111,11 @@ module _ (s : List ℕ) (p e : ℕ) (o : Object) (a : Allowed o) (h : StandsAt s
       pass_whole s true (p + blocks_in o) e o a (rw back h) (omega arith) ∙ ap (met_as o) back
 
 -- at the recorded end and at block 0 nothing is ahead
-pub forward_ends : (s : List ℕ) (e : ℕ) → passed s false e e ≡ met.Nothing
+pub forward_ends : (s : List ℕ) (e : ℕ) → passed s false e e ≡ Ok met.Nothing
 unfolding passed_under
 forward_ends s e = simp (eq-eqb (e - e) 0 (omega arith))
 
-pub reverse_ends : (s : List ℕ) (e : ℕ) → passed s true 0 e ≡ met.Nothing
+pub reverse_ends : (s : List ℕ) (e : ℕ) → passed s true 0 e ≡ Ok met.Nothing
 unfolding passed_under
 reverse_ends s e = refl
 

@@ -14,18 +14,20 @@ use Rattle.tape.specs.declared.Met.{Met}
 use Rattle.tape.specs.declared.Met.TheVariants as met
 use Rattle.tape.proofs.Gathering.{gap_stands, mark_stands, pieces_allowed, pieces_length, pieces_stand}
 use Rattle.tape.proofs.Outcomes.{Outcome, at_end, at_fault, outcome, over_gap, over_mark, over_record}
+use Rattle.std.specs.Prelude.{Result, Ok}
+use Rattle.tape.specs.declared.Damage.{Damage}
 
-pub data Seen (s : List ℕ) (reverse : Bool) (q e : ℕ) (m : Met) : Type 0 where
-  ended : ahead reverse q e ≡ 0 → m ≡ met.Nothing → Seen s reverse q e m
+pub data Seen (s : List ℕ) (reverse : Bool) (q e : ℕ) (m : Result Met Damage) : Type 0 where
+  ended : ahead reverse q e ≡ 0 → m ≡ Ok met.Nothing → Seen s reverse q e m
   found : (o : Object) → Allowed o → StandsAt s (lowest reverse q (blocks_in o)) o → blocks_in o ≤ ahead reverse q e → m ≡ met_as o (beyond reverse q (blocks_in o)) → Seen s reverse q e m
   faulty : (k : ℕ) → m ≡ bad_at s k → Seen s reverse q e m
 
 module _ (s : List ℕ) (reverse : Bool) (q e : ℕ) where
-  record_found : (n : ℕ) (x : Met) (d : List ℕ) → length d ≡ n → pieces_of n ≤ ahead reverse q e → Allowed (record_of d) → StandsAt s (lowest reverse q (pieces_of n)) (record_of d) → x ≡ met.Record n (beyond reverse q (pieces_of n)) → Seen s reverse q e x
+  record_found : (n : ℕ) (x : Result Met Damage) (d : List ℕ) → length d ≡ n → pieces_of n ≤ ahead reverse q e → Allowed (record_of d) → StandsAt s (lowest reverse q (pieces_of n)) (record_of d) → x ≡ Ok (met.Record n (beyond reverse q (pieces_of n))) → Seen s reverse q e x
   unfolding blocks_in met_as
   record_found n x d z fits a h y = found (record_of d) a (rw z (rw z at h)) (rw z fits) (rw z y)
 
-  by_outcome : (m : Met) → Bytes s → Outcome s reverse q e m → Seen s reverse q e m
+  by_outcome : (m : Result Met Damage) → Bytes s → Outcome s reverse q e m → Seen s reverse q e m
   unfolding met_as blocks_in
   by_outcome m bytes (at_end z y) = ended z y
   by_outcome m bytes (over_record n one most fits all y) =

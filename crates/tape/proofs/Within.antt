@@ -10,6 +10,8 @@ use Rattle.tape.specs.Pass.{ahead, beyond, passed}
 use Rattle.tape.specs.declared.Met.{Met}
 use Rattle.tape.specs.declared.Met.TheVariants as met
 use Rattle.tape.proofs.Outcomes.{Outcome, at_end, at_fault, outcome, over_gap, over_mark, over_record}
+use Rattle.std.specs.Prelude.{Result, Ok, Err}
+use Rattle.tape.specs.declared.Damage.{Damage}
 
 -- a record of n bytes that was passed up to q: its blocks lie just before q, in reverse from q on
 pub record RecordIn (reverse : Bool) (e n q : ℕ) : Type 0 where
@@ -44,14 +46,14 @@ fewer_ahead true p e q h o = omega (arith, o.down refl)
 fewer_ahead false p e q h o = omega (arith, o.up refl, o.below)
 
 -- what is known of each answer
-abbrev pub PassIn : Bool → ℕ → ℕ → Met → Type 0
-PassIn reverse p e (met.Record n q) = RecordIn reverse e n q × Onward reverse p e q
-PassIn reverse p e (met.Mark q) = Onward reverse p e q
-PassIn reverse p e (met.Gap q) = Onward reverse p e q
-PassIn reverse p e met.Nothing = ahead reverse p e ≡ 0
-PassIn reverse p e (met.Bad why k) = Always
+abbrev pub PassIn : Bool → ℕ → ℕ → Result Met Damage → Type 0
+PassIn reverse p e (Ok (met.Record n q)) = RecordIn reverse e n q × Onward reverse p e q
+PassIn reverse p e (Ok (met.Mark q)) = Onward reverse p e q
+PassIn reverse p e (Ok (met.Gap q)) = Onward reverse p e q
+PassIn reverse p e (Ok met.Nothing) = ahead reverse p e ≡ 0
+PassIn reverse p e (Err d) = Always
 
-by_outcome : (s : List ℕ) (reverse : Bool) (p e : ℕ) (m : Met) → p ≤ e → Outcome s reverse p e m → PassIn reverse p e m
+by_outcome : (s : List ℕ) (reverse : Bool) (p e : ℕ) (m : Result Met Damage) → p ≤ e → Outcome s reverse p e m → PassIn reverse p e m
 by_outcome s reverse p e m h (at_end z y) = rw y z
 by_outcome s reverse p e m h (over_record n a b f all y) = rw y (record_in e reverse p n h a b f, onward_by e reverse p (pieces_of n) h (omega arith) f)
 by_outcome s reverse p e m h (over_mark f c y) = rw y (onward_by e reverse p 1 h (omega arith) f)
@@ -62,14 +64,14 @@ module _ (s : List ℕ) (reverse : Bool) (p e : ℕ) (h : p ≤ e) where
   pub pass_in : PassIn reverse p e (passed s reverse p e)
   pass_in = by_outcome s reverse p e (passed s reverse p e) h (outcome s reverse p e)
 
-  pub pass_within : {n q : ℕ} → passed s reverse p e ≡ met.Record n q → RecordIn reverse e n q
+  pub pass_within : {n q : ℕ} → passed s reverse p e ≡ Ok (met.Record n q) → RecordIn reverse e n q
   pass_within y = (rw y at pass_in).0
 
-  pub pass_onward : {n q : ℕ} → passed s reverse p e ≡ met.Record n q → Onward reverse p e q
+  pub pass_onward : {n q : ℕ} → passed s reverse p e ≡ Ok (met.Record n q) → Onward reverse p e q
   pass_onward y = (rw y at pass_in).1
 
-  pub mark_within : {q : ℕ} → passed s reverse p e ≡ met.Mark q → Onward reverse p e q
+  pub mark_within : {q : ℕ} → passed s reverse p e ≡ Ok (met.Mark q) → Onward reverse p e q
   mark_within y = rw y at pass_in
 
-  pub gap_within : {q : ℕ} → passed s reverse p e ≡ met.Gap q → Onward reverse p e q
+  pub gap_within : {q : ℕ} → passed s reverse p e ≡ Ok (met.Gap q) → Onward reverse p e q
   gap_within y = rw y at pass_in

@@ -1,19 +1,20 @@
 -- The objects of a reel, worked out afresh: those that passing forward from block 0 meets, below the recorded end. On a well formed reel they are
 -- the objects that it holds, and there is no other such list (laws `objects_are`, `one_list`).
-use Rattle.std.specs.Prelude.{false, List, [], ◌∷◌, ℕ, suc}
+use Rattle.std.specs.Prelude.{false, List, [], ◌∷◌, ℕ, suc, Result, Ok, Err}
 use Rattle.tape.specs.Bytes.{record_bytes}
 use Rattle.tape.specs.Objects.{Object, gap, mark, record_of}
 use Rattle.tape.specs.Pass.{passed}
 use Rattle.tape.specs.declared.Met.{Met}
 use Rattle.tape.specs.declared.Met.TheVariants as met
+use Rattle.tape.specs.declared.Damage.{Damage}
 
 -- what was met at block p of s, and then the objects that `onward` finds from the position beyond it
-unfoldable pub met_then : List ℕ → ℕ → Met → (ℕ → List Object) → List Object
-met_then s p (met.Record n q) onward = record_of (record_bytes s p n) ∷ onward q
-met_then s p (met.Mark q) onward = mark ∷ onward q
-met_then s p (met.Gap q) onward = gap ∷ onward q
-met_then s p met.Nothing onward = []
-met_then s p (met.Bad why k) onward = []
+unfoldable pub met_then : List ℕ → ℕ → Result Met Damage → (ℕ → List Object) → List Object
+met_then s p (Ok (met.Record n q)) onward = record_of (record_bytes s p n) ∷ onward q
+met_then s p (Ok (met.Mark q)) onward = mark ∷ onward q
+met_then s p (Ok (met.Gap q)) onward = gap ∷ onward q
+met_then s p (Ok met.Nothing) onward = []
+met_then s p (Err d) onward = []
 
 -- at most `turns` objects from block p on
 unfoldable pub objects_from : ℕ → List ℕ → ℕ → ℕ → List Object

@@ -5,6 +5,7 @@ pub mod Objects
 pub mod Reading
 pub mod Wrong
 pub mod Letters
+pub mod Damage
 pub mod Pass
 pub mod Sweep
 pub mod Bytes

@@ -1,6 +1,6 @@
 -- What one block is read as. Damaged is every block that is none of the three forms (DECISIONS, damage), and it is told what is wrong with it:
 -- "The block reader shall tell kind, length, index, padding and check apart, first in that order" (02, [4]).
-use Rattle.std.specs.Prelude.{Bool, true, ◌&&◌, List, [], ◌∷◌, ℕ, ◌+◌, ◌-◌, ◌*◌, ◌/◌, min, eqb, leb, ltb, length, take, drop}
+use Rattle.std.specs.Prelude.{Bool, true, ◌&&◌, List, [], ◌∷◌, ℕ, ◌+◌, ◌-◌, ◌*◌, ◌/◌, min, eqb, leb, ltb, length, take, drop, Result, Ok, Err}
 use Rattle.lists.specs.Pick.{pick}
 use Rattle.lists.specs.Words.{word_at}
 use Rattle.tape.specs.Numbers.{block_bytes, data_bytes, head_bytes, pieces_of, record_limit, summed_bytes}
@@ -39,8 +39,8 @@ abbrev pub kind_of : ℕ → ℕ → ℕ → Block
 kind_of k n i = pick (eqb k piece_kind) (block.Piece n i) (pick (eqb k mark_kind) block.Mark block.Gap)
 
 -- one of the five: where it is wrong the block is damaged for that, else the next is looked at
-abbrev pub or_damaged : BlockFault → Bool → Block → Block
-or_damaged f right next = pick right next (block.Damaged f)
+abbrev pub or_damaged : BlockFault → Bool → Result Block BlockFault → Result Block BlockFault
+or_damaged f right next = pick right next (Err f)
 
 -- block k of the reel s
 abbrev pub block_at : List ℕ → ℕ → List ℕ
@@ -52,30 +52,30 @@ module _ (limit : ℕ) where
   abbrev pub length_right_under : ℕ → ℕ → Bool
   length_right_under k n = pick (eqb k piece_kind) (leb 1 n && leb n limit) (eqb n 0)
 
-  unfoldable pub class_by_under : List ℕ → ℕ → ℕ → ℕ → Block
+  unfoldable pub class_by_under : List ℕ → ℕ → ℕ → ℕ → Result Block BlockFault
   class_by_under b k n i =
       or_damaged fault.Kind (kind_right k)
       (or_damaged fault.Length (length_right_under k n)
       (or_damaged fault.Index (index_right k n i)
       (or_damaged fault.Padding (padding_right b (used_of k n i))
-      (or_damaged fault.Check (check_right b) (kind_of k n i)))))
+      (or_damaged fault.Check (check_right b) (Ok (kind_of k n i))))))
 
-  unfoldable pub class_of_under : List ℕ → Block
+  unfoldable pub class_of_under : List ℕ → Result Block BlockFault
   class_of_under b = class_by_under b (word_at b 0) (word_at b 2) (word_at b 4)
 
   -- a block that the slice does not hold whole has no place there: every number is some answer
-  unfoldable pub class_at_under : List ℕ → ℕ → Block
-  class_at_under s k = pick (ltb k (length s / block_bytes)) (class_of_under (block_at s k)) (block.Damaged fault.Index)
+  unfoldable pub class_at_under : List ℕ → ℕ → Result Block BlockFault
+  class_at_under s k = pick (ltb k (length s / block_bytes)) (class_of_under (block_at s k)) (Err fault.Index)
 
 -- and under this unit's own
 abbrev pub length_right : ℕ → ℕ → Bool
 length_right = length_right_under record_limit
 
-abbrev pub class_by : List ℕ → ℕ → ℕ → ℕ → Block
+abbrev pub class_by : List ℕ → ℕ → ℕ → ℕ → Result Block BlockFault
 class_by = class_by_under record_limit
 
-abbrev pub class_of : List ℕ → Block
+abbrev pub class_of : List ℕ → Result Block BlockFault
 class_of = class_of_under record_limit
 
-abbrev pub class_at : List ℕ → ℕ → Block
+abbrev pub class_at : List ℕ → ℕ → Result Block BlockFault
 class_at = class_at_under record_limit

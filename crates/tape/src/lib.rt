@@ -68,7 +68,7 @@ pub fn pieces(n: usize) -> usize
 }
 
 // What is wrong with a block, in the order that the reader looks; also index, where a sound block is out of place.
-#[derive(Clone, Copy)]
+#[derive(Clone, Copy, PartialEq, Eq)]
 pub enum BlockFault {
     Kind,
     Length,
@@ -78,6 +78,7 @@ pub enum BlockFault {
 }
 
 // The letter that stands for a fault, as a number of ASCII.
+// Kept: no `From`, since a fault is not its letter, and `u8::from(f)` would say less.
 pub fn letter(f: BlockFault) -> u8
     ensures { result ≡ letter_of f }
 {
@@ -91,14 +92,12 @@ pub fn letter(f: BlockFault) -> u8
 }
 
 // What a single block is read as.
-#[derive(Clone, Copy)]
+#[derive(Clone, Copy, PartialEq, Eq)]
 pub enum Block {
     // Piece i of a record of n bytes.
     Piece(usize, usize),
     Mark,
     Gap,
-    // None of these, for the first thing that is wrong with it.
-    Damaged(BlockFault),
 }
 
 // What a pass over one object meets, and the position just beyond it.
@@ -109,22 +108,20 @@ pub enum Met {
     Gap(usize),
     // The recorded end, or block 0 in reverse.
     Nothing,
-    // The first block at fault: what is wrong with it, and its number. The fault stands first so that it takes no room of its own.
-    Bad(BlockFault, usize),
 }
 
-// What the mount's reading of every block below the end finds.
+// The first block at fault: its number, and what is wrong with it. A byte in front would lie over the first word of an end in a Result of
+// both, which is then copied by its bytes.
 #[derive(Clone, Copy)]
-pub enum Swept {
-    Whole,
-    Bad(BlockFault, usize),
+pub struct Damage {
+    pub block: usize,
+    pub fault: BlockFault,
 }
 
-// What the listing says of an image before any line: the paper's L, S and X, or the recorded end.
+// Why an image has no lines: the paper's L, S and X.
 #[derive(Clone, Copy)]
-pub enum Image {
+pub enum ImageFault {
     TooLong,
     NotWhole,
-    Bad(BlockFault, usize),
-    Whole(usize),
+    Bad(Damage),
 }

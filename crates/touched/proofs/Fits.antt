@@ -1,22 +1,15 @@
 -- Places that were tested lie inside memory and reel.
-use mathlib.Core.Path.{◌≡◌, sym, ◌∙◌}
-use mathlib.Core.Bool.{Bool, true, false, ◌&&◌, ◌||◌, and-eq-true_iff, true≢false}
-use Prim.Native.Nat.{ℕ, ◌+◌, ◌-◌, ◌*◌, ◌/◌, ◌≤◌}
+use mathlib.Core.Path.{◌≡◌}
+use mathlib.Core.Bool.{Bool, true, ◌&&◌, and-eq-true_iff}
+use Prim.Native.Nat.{ℕ, ◌+◌, ◌*◌, ◌/◌, ◌≤◌}
 use native.Mathlib.Omega.{arith}
-use borrow.Author.Tests.{le-leb, leb-false, leb-true, lt-leb, ltb-false, ltb-true}
-use lib.Dec.{eqb, leb, ltb}
+use borrow.Author.Tests.{le-leb, leb-true}
+use lib.Dec.{eqb, leb}
 use Rattle.lists.proofs.Cases.{by_test}
 use Rattle.tape.specs.Numbers.{block_bytes}
 use Rattle.index.specs.Table.{place_length}
 use Rattle.touched.specs.declared.Touched.{Touched}
 use Rattle.touched.specs.Touches.{PlacesIn, Sizes, TouchedIn, place_below, touched_fits}
-
--- a run below a limit, by a difference and by a sum
-pub run_difference : (a n limit : ℕ) → n ≤ limit → leb a (limit - n) ≡ leb (a + n) limit
-run_difference a n limit h =
-    by_test (leb a (limit - n))
-    (λ t. t ∙ sym (le-leb (a + n) limit (omega (arith, leb-true a (limit - n) t))))
-    (λ t. t ∙ sym (lt-leb (a + n) limit (omega (arith, leb-false a (limit - n) t))))
 
 -- places that end below the place `top` lie below it, and so inside a table that has so many
 pub places_below : (top f : ℕ) → f ≤ top → place_below top f + f ≤ top
@@ -24,19 +17,6 @@ places_below top f h =
     by_test (eqb f 0)
     (λ t. rw t (omega arith))
     (λ t. rw t (omega arith))
-
--- a test that also asks whether there are so many places: either part of it means place 0
-pub below_none : (top f : ℕ) → (eqb f 0 || ltb top f) ≡ true → 0 ≡ place_below top f
-below_none top f h =
-    by_test (eqb f 0)
-    (λ t. rw t)
-    (λ t. rw t (omega (arith, ltb-true top f (rw t at h))))
-
-pub below_some : (top f : ℕ) → (eqb f 0 || ltb top f) ≡ false → (f ≤ top) × (top - f ≡ place_below top f)
-below_some top f h =
-    by_test (eqb f 0)
-    (λ t. absurd (true≢false (rw t at h)))
-    (λ t. (ltb-false top f (rw t at h), rw t))
 
 pub places_inside : (t : Touched) (top table : ℕ) → t.place_at ≡ place_below top t.places → t.places ≤ top → place_length * top ≤ table → PlacesIn t table
 places_inside t top table e h k = rw e (omega (arith, places_below top t.places h))

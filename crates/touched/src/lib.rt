@@ -7,7 +7,7 @@ mod saving;
 pub use saving::{bring_back, nothing, save, saved_length, touched_fits};
 
 // The data's bytes at their places (SWB), the message's bytes, the reel's blocks, and the table's places that are filled.
-#[derive(Clone, Copy)]
+#[derive(Clone, Copy, Default)]
 pub struct Touched {
     pub data_at: usize,
     pub data_length: usize,

@@ -12,17 +12,7 @@ use tape::Geometry;
 pub fn nothing() -> Touched
     ensures { result ≡ none }
 {
-    Touched {
-        data_at: 0,
-        data_length: 0,
-        swb: false,
-        message_at: 0,
-        message_length: 0,
-        reel_at: 0,
-        reel_blocks: 0,
-        place_at: 0,
-        places: 0,
-    }
+    Touched::default()
 }
 
 // How many bytes are saved, "data and message counted separately even if they overlap".
@@ -33,14 +23,11 @@ pub fn saved_length(t: Touched, memory: usize, reel: usize) -> usize
     t.data_length + t.message_length + Geometry::BLOCK * t.reel_blocks + PLACE * t.places as usize
 }
 
-// Does a run of n from a lie below a limit? A difference and no sum: the numbers may be made up.
+// Does a run of n from a lie below a limit? The numbers may be made up, and their sum too large.
 fn run_fits(a: usize, n: usize, limit: usize) -> bool
     ensures { result ≡ leb (a + n) limit }
 {
-    if limit < n {
-        return false;
-    }
-    a <= limit - n
+    a.checked_add(n).is_some_and(|end| end <= limit)
 }
 
 // Do these places lie inside memory and reel, whose lengths in bytes these are?
@@ -53,15 +40,14 @@ pub fn touched_fits(t: Touched, memory: usize, reel: usize) -> bool
     data & (message & blocks)
 }
 
-// The data's bytes from address a on fill b. Most steps move none, and are spared the call.
+// The data's bytes from address a on fill b. Most steps move none, and are spared the call: without the test a step back of 512 bytes takes 617 instructions, not 588.
 fn save_data(b: &mut [u8], mem: &[u8], a: usize, swb: bool)
     requires { (a + length b.old ≤ length mem.now) × (length mem.now % 2 ≡ 0) }
     ensures { b.new ≡ gathered swb mem.now a (length b.old) }
 {
-    if b.len() == 0 {
-        return;
+    if !b.is_empty() {
+        gather(b, mem, a, swb);
     }
-    gather(b, mem, a, swb);
 }
 
 // And back.
@@ -69,10 +55,9 @@ fn bring_data(d: &[u8], mem: &mut [u8], a: usize, swb: bool)
     requires { (a + length d.now ≤ length mem.old) × (length mem.old % 2 ≡ 0) }
     ensures { mem.new ≡ placed swb mem.old a d.now }
 {
-    if d.len() == 0 {
-        return;
+    if !d.is_empty() {
+        scatter(d, mem, a, swb);
     }
-    scatter(d, mem, a, swb);
 }
 
 // The bytes at these places fill b: the data's, the message's, the reel's, the table's.

@@ -15,8 +15,9 @@ use Rattle.state.specs.declared.act.Act.{Act}
 use Rattle.state.specs.declared.act.Act.TheVariants as act
 use Rattle.state.proofs.Legal.{legal_initialized, legal_operated, legal_tsdb}
 use Rattle.state.proofs.Tests.{either, neither}
+use Rattle.std.specs.Prelude.{Ok}
 use Rattle.commands.specs.Ends.{still}
-use Rattle.commands.specs.declared.plans.Answer.TheVariants as answer
+use Rattle.commands.specs.declared.plans.Done.TheVariants as answer
 use Rattle.commands.specs.declared.plans.Plan.{Plan}
 use Rattle.storing.specs.Stored.{Storable}
 use Rattle.advance.specs.Steps.{advanced}
@@ -79,7 +80,7 @@ module _ (c : Core) (a : Admitted c) where
 
   change_sound : (u : Unit) → Legal u → u.lengths ≡ c.unit.lengths → Sound c (carried c (changed u))
   change_sound u l e =
-      plan_sound (changed u) (still_storable u (answer.Done false) (length c.memory) (length c.reel) (core_sizes c a).even) (still_seven u) (rw (still_unit u) l) (rw (still_unit u) e)
+      plan_sound (changed u) (still_storable u (Ok (answer.Step false)) (length c.memory) (length c.reel) (core_sizes c a).even) (still_seven u) (rw (still_unit u) l) (rw (still_unit u) e)
 
   none_in : TouchedIn none (length c.memory) (length c.reel)
   none_in = record { in_memory = omega arith; message_in_memory = omega arith; in_reel = omega arith; sizes = core_sizes c a }

@@ -21,8 +21,9 @@ use Rattle.signals.proofs.Messages.{length_words}
 use Rattle.state.specs.Changes.{initialized, operated, tsdb_written}
 use Rattle.state.specs.declared.Unit.{Unit}
 use Rattle.motions.specs.declared.parts.Laid.{Laid}
+use Rattle.std.specs.Prelude.{Ok}
 use Rattle.commands.specs.Ends.{still}
-use Rattle.commands.specs.declared.plans.Answer.TheVariants as answer
+use Rattle.commands.specs.declared.plans.Done.TheVariants as answer
 use Rattle.commands.specs.declared.plans.Plan.{Plan}
 use Rattle.storing.specs.Outside.{message_to}
 use Rattle.storing.specs.Stored.{MovedFits, Storable, laid_object, laid_objects, laid_on, memory_after, message_on, reel_after}
@@ -88,13 +89,13 @@ module _ (c : Core) (p : Plan) (fits : Storable p (length c.memory) (length c.re
 change_stores : (c : Core) → Admitted c → (u : Unit) → Stores c (carried c (changed u)) no_bytes
 unfolding plan_bytes still moved_bytes record_bytes laid_objects laid_object images_of table_from
 change_stores c a u =
-    plan_stores c (changed u) (still_storable u (answer.Done false) (length c.memory) (length c.reel) (core_sizes c a).even) (still_seven c a u)
+    plan_stores c (changed u) (still_storable u (Ok (answer.Step false)) (length c.memory) (length c.reel) (core_sizes c a).even) (still_seven c a u)
 
 -- a host store that is answered "done" stores its bytes
-store_stores : (c : Core) (place : ℕ) (bytes : List ℕ) (i : Bool) → (stored c place bytes).answer ≡ answer.Done i → Stores c (stored c place bytes) (record { data_stored = bytes; message_stored = []; reel_stored = []; table_stored = []; objects = [] })
+store_stores : (c : Core) (place : ℕ) (bytes : List ℕ) (i : Bool) → (stored c place bytes).answer ≡ Ok (answer.Step i) → Stores c (stored c place bytes) (record { data_stored = bytes; message_stored = []; reel_stored = []; table_stored = []; objects = [] })
 unfolding stored host_touched placed
 store_stores c place bytes i =
-    pick_told (λ (x : Step). x.answer ≡ answer.Done i → Stores c x (record { data_stored = bytes; message_stored = []; reel_stored = []; table_stored = []; objects = [] })) (store_wrong (length c.memory) place (length bytes)) _ _
+    pick_told (λ (x : Step). x.answer ≡ Ok (answer.Step i) → Stores c x (record { data_stored = bytes; message_stored = []; reel_stored = []; table_stored = []; objects = [] })) (store_wrong (length c.memory) place (length bytes)) _ _
     (λ t e. absurd (clash cc))
     (λ t e. record {
       memory = sym (placed_plain c.memory place bytes);
@@ -108,7 +109,7 @@ store_stores c place bytes i =
     })
 
 -- each step that is answered "done"
-pub stores : (a : Ask) (c : Core) (i : Bool) → Admitted c → (step_of a c).answer ≡ answer.Done i → Stores c (step_of a c) (bytes_of a c)
+pub stores : (a : Ask) (c : Core) (i : Bool) → Admitted c → (step_of a c).answer ≡ Ok (answer.Step i) → Stores c (step_of a c) (bytes_of a c)
 unfolding step_of bytes_of
 stores (write_tsdb word) c i a e = change_stores c a (tsdb_written c.unit word)
 stores write_tssr c i a e = change_stores c a (initialized c.unit)

@@ -21,7 +21,7 @@ use Rattle.signals.specs.Message.{message_bytes}
 use Rattle.state.specs.declared.Unit.{Unit}
 use Rattle.motions.specs.Parts.{laid_blocks, object_blocks}
 use Rattle.commands.specs.Ends.{still}
-use Rattle.commands.specs.declared.plans.Answer.{Answer}
+use Rattle.commands.specs.Answers.{Answer}
 use Rattle.commands.specs.declared.plans.Plan.{Plan}
 use Rattle.storing.specs.Stored.{Storable, laid_objects, memory_after, reel_after}
 use Rattle.storing.proofs.DataPlaces.{data_inside}

@@ -1,42 +1,37 @@
 -- Mounting a reel: refusals 2, 3 and 7. (01, "Calls" and the table)
-use Rattle.std.specs.Prelude.{Bool, false, ◌||◌, not, List, ℕ, ◌/◌, ◌%◌, eqb, ltb, length}
+use Rattle.std.specs.Prelude.{Bool, Result, Ok, Err, ⊤, ◌||◌, not, List, ℕ, ◌/◌, ◌%◌, eqb, ltb, length}
 use Rattle.lists.specs.Pick.{pick}
 use Rattle.tape.specs.Numbers.{block_bytes, record_limit}
 use Rattle.tape.specs.Sweep.{swept_below_under}
-use Rattle.tape.specs.declared.Swept.{Swept}
-use Rattle.tape.specs.declared.Swept.TheVariants as swept
+use Rattle.tape.specs.Sweep.{Swept}
 use Rattle.state.specs.Changes.{mounted_as}
 use Rattle.state.specs.Checks.{blocks_right, memory_right}
+use Rattle.state.specs.Refusals.{behind}
 use Rattle.state.specs.declared.Unit.{Unit}
-use Rattle.commands.specs.declared.plans.Answer.{Answer}
-use Rattle.commands.specs.declared.plans.Answer.TheVariants as answer
-use Rattle.unit.specs.declared.mounting.Mounted.{Mounted}
-
-abbrev pub mounted_with : Answer → Unit → Mounted
-mounted_with a u = record { answer = a; unit = u }
+use Rattle.state.specs.declared.refusal.Refusal.{Refusal}
+use Rattle.state.specs.declared.refusal.Refusal.TheVariants as refusal
 
 -- "2 memory length not allowed"; "3 reel length not allowed ..; recorded end above capacity"
-unfoldable pub mount_refusal : ℕ → ℕ → ℕ → ℕ
+unfoldable pub mount_refusal : ℕ → ℕ → ℕ → Result ⊤ Refusal
 mount_refusal memory reel e =
     pick (memory_right memory)
-    (pick ((not (eqb (reel % block_bytes) 0) || not (blocks_right (reel / block_bytes))) || ltb (reel / block_bytes) e) 3 0)
-    2
+    (pick ((not (eqb (reel % block_bytes) 0) || not (blocks_right (reel / block_bytes))) || ltb (reel / block_bytes) e) (Err refusal.Reel) (Ok tt))
+    (Err refusal.Memory)
 
-unfoldable pub mount_swept : Unit → Unit → Swept → Mounted
-mount_swept old new swept.Whole = mounted_with (answer.Done false) new
-mount_swept old new (swept.Bad why k) = mounted_with (answer.BadBlock why k) old
+unfoldable pub mount_swept : Unit → Swept → Result Unit Refusal
+mount_swept new (Ok u) = Ok new
+mount_swept new (Err d) = Err (refusal.BadBlock d)
 
 -- under any record limit
 module _ (limit : ℕ) where
-  -- "Mount reads every block below the end it is given .. a refused mount hands [the old state] back."
-  unfoldable pub mount_call_under : Unit → ℕ → List ℕ → ℕ → Bool → Bool → Mounted
-  mount_call_under old memory s e online locked =
-      pick (eqb (mount_refusal memory (length s) e) 0)
-      (mount_swept old
+  -- "Mount reads every block below the end it is given": the state after it, or its refusal
+  unfoldable pub mount_call_under : ℕ → List ℕ → ℕ → Bool → Bool → Result Unit Refusal
+  mount_call_under memory s e online locked =
+      behind (mount_refusal memory (length s) e) (λ r. Err r)
+      (mount_swept
       (mounted_as e online locked (record { memory = memory; blocks = length s / block_bytes }))
       (swept_below_under limit s e))
-      (mounted_with (answer.Refused (mount_refusal memory (length s) e)) old)
 
 -- and under this unit's own
-abbrev pub mount_call : Unit → ℕ → List ℕ → ℕ → Bool → Bool → Mounted
+abbrev pub mount_call : ℕ → List ℕ → ℕ → Bool → Bool → Result Unit Refusal
 mount_call = mount_call_under record_limit

@@ -9,9 +9,11 @@ use Rattle.index.specs.declared.Cut.{Cut}
 use Rattle.state.specs.Changes.{initialized, operated, tsdb_written}
 use Rattle.state.specs.Legal.{Legal}
 use Rattle.state.specs.declared.Unit.{Unit}
+use Rattle.std.specs.Prelude.{Ok, Err}
+use Rattle.state.specs.declared.refusal.Refusal.TheVariants as refusal
 use Rattle.commands.specs.Ends.{still}
-use Rattle.commands.specs.declared.plans.Answer.{Answer}
-use Rattle.commands.specs.declared.plans.Answer.TheVariants as answer
+use Rattle.commands.specs.Answers.{Answer}
+use Rattle.commands.specs.declared.plans.Done.TheVariants as answer
 use Rattle.commands.specs.declared.plans.Plan.{Plan}
 use Rattle.motions.specs.declared.parts.Laid.{Laid}
 use Rattle.storing.specs.Stored.{laid_objects, memory_after, reel_after}
@@ -75,13 +77,13 @@ carried c p =
 
 -- a change of the state alone
 abbrev pub changed : Unit → Plan
-changed u = still u (answer.Done false)
+changed u = still u (Ok (answer.Step false))
 
 unfoldable pub stored : Core → ℕ → List ℕ → Step
 stored c place bytes =
-    pick (store_wrong (length c.memory) place (length bytes)) (record { answer = answer.Refused 5; touched = none; after = c })
+    pick (store_wrong (length c.memory) place (length bytes)) (record { answer = Err refusal.Store; touched = none; after = c })
     (record {
-      answer = answer.Done false;
+      answer = Ok (answer.Step false);
       touched = host_touched place (length bytes);
       after = record { unit = c.unit; objects = c.objects; memory = sets c.memory place bytes; reel = c.reel; table = c.table };
     })

@@ -15,51 +15,52 @@ use touched::Touched;
 pub const HOST_LIMIT: usize = 65535;
 
 // Where a Read's bytes go, of its buffer.
+#[tactic(auto, unfolding(crate::specs::Touching::moved_place, tape::specs::Bytes::moved_to))]
 fn moved_place(m: Moved) -> usize
     requires { m.pointer < 18446744073709486080 }
     ensures { result ≡ moved_place m }
 {
-    let count = m.count as usize;
-    if m.reverse & (m.length < count) {
-        return m.pointer + (count - m.length);
+    if m.reverse {
+        m.pointer + usize::from(m.count).saturating_sub(m.length)
+    } else {
+        m.pointer
     }
-    m.pointer
 }
 
+#[tactic(auto, unfolding(crate::specs::Touching::object_places))]
 fn object_places(o: ObjectKind) -> u32
     ensures is { result ≡ object_places o }
     ensures low { result ≤ 1 }
 {
     match o {
         ObjectKind::Nothing => 0,
-        ObjectKind::Mark => 1,
-        ObjectKind::Gap => 1,
-        ObjectKind::Record => 1,
+        ObjectKind::Mark | ObjectKind::Gap | ObjectKind::Record => 1,
     }
 }
 
 // How many places of the table are filled: one for each object that is laid.
+#[tactic(auto, unfolding(crate::specs::Touching::laid_places))]
 pub fn laid_places(l: Laid) -> u32
     ensures is { result ≡ laid_places l }
     ensures low { result ≤ 2 }
 {
-    let o = l.object;
-    let n = object_places(o);
-    if l.gap_first { n + 1 } else { n }
+    object_places(l.object) + u32::from(l.gap_first)
 }
 
 // Where what is laid cuts a table of n places; what lays nothing cuts nothing, and is spared the search.
+#[tactic(auto, unfolding(crate::specs::Steps::cut_for))]
 pub fn cut_for(l: Laid, table: &[u8], n: usize, reel: &[u8]) -> Cut
     requires { place_length * n ≤ length table.now }
     ensures { result ≡ cut_for l table.now n reel.now }
 {
     if laid_places(l) == 0 {
-        return Cut { place: 0, marks: 0 };
+        return Cut::default();
     }
     cut_at(table, n, reel, l.at)
 }
 
 // How many places are used after it.
+#[tactic(auto, unfolding(crate::specs::Steps::objects_after))]
 pub fn objects_after(l: Laid, c: Cut, n: usize) -> usize
     requires { c.place ≤ 4294967295 }
     ensures { result ≡ objects_after l c n }
@@ -72,6 +73,7 @@ pub fn objects_after(l: Laid, c: Cut, n: usize) -> usize
 }
 
 // Refusal 11: has a table of so many bytes fewer places than n, or than n2?
+#[tactic(auto, unfolding(crate::specs::Steps::too_small))]
 pub fn too_small(table: usize, n: usize, n2: usize) -> bool
     ensures { result ≡ too_small table n n2 }
 {
@@ -84,49 +86,37 @@ pub fn fill_places(table: &mut [u8], l: Laid, c: Cut)
     requires { (place_length * (c.place + laid_places l) ≤ length table.old) × (l.at + 2 ≤ 4294967295) }
     ensures { table.new ≡ sets table.old (place_length * c.place) (places_row l.at c.marks (laid_places l)) }
 {
-    let n = laid_places(l);
-    put_places(table, c, l.at, n as usize);
+    put_places(table, c, l.at, laid_places(l) as usize);
 }
 
 // What carrying out a plan will change, where it fills the table's places from place m on.
+#[tactic(auto, unfolding(crate::specs::Touching::touched_by))]
 pub fn touched_by(p: Plan, m: usize) -> Touched
     requires { p.moved.pointer < 18446744073709486080 }
     ensures { result ≡ touched_by p m }
 {
     let d = p.moved;
     let l = p.laid;
-    let data_at = moved_place(d);
-    let data_length = moved_bytes(d);
-    let reel_blocks = laid_blocks(l);
-    let places = laid_places(l);
-    if p.sends {
-        let message_at = p.unit.characteristics.address as usize;
-        return Touched {
-            data_at,
-            data_length,
-            swb: d.swb,
-            message_at,
-            message_length: signals::MESSAGE,
-            reel_at: l.at,
-            reel_blocks,
-            place_at: m,
-            places,
-        };
-    }
+    let (message_at, message_length) = if p.sends {
+        (p.unit.characteristics.address as usize, signals::MESSAGE)
+    } else {
+        (0, 0)
+    };
     Touched {
-        data_at,
-        data_length,
+        data_at: moved_place(d),
+        data_length: moved_bytes(d),
         swb: d.swb,
-        message_at: 0,
-        message_length: 0,
+        message_at,
+        message_length,
         reel_at: l.at,
-        reel_blocks,
+        reel_blocks: laid_blocks(l),
         place_at: m,
-        places,
+        places: laid_places(l),
     }
 }
 
 // Refusal 5: too long, or past the end of memory. A difference and no sum: the place may be made up.
+#[tactic(auto, unfolding(crate::specs::Steps::store_wrong))]
 pub fn store_wrong(memory: usize, place: usize, n: usize) -> bool
     ensures { result ≡ store_wrong memory place n }
 {
@@ -137,19 +127,14 @@ pub fn store_wrong(memory: usize, place: usize, n: usize) -> bool
 }
 
 // What a host store of n bytes at a place will change.
+#[tactic(auto, unfolding(crate::specs::Touching::host_touched))]
 pub fn host_touched(place: usize, n: usize) -> Touched
     ensures { result ≡ host_touched place n }
 {
     Touched {
         data_at: place,
         data_length: n,
-        swb: false,
-        message_at: 0,
-        message_length: 0,
-        reel_at: 0,
-        reel_blocks: 0,
-        place_at: 0,
-        places: 0,
+        ..Touched::default()
     }
 }
 

@@ -10,6 +10,6 @@ pub use asking::{
     HOST_LIMIT, cut_for, fill_places, host_touched, objects_after, put_host, store_wrong,
     too_small, touched_by,
 };
-pub use mounting::{Mounted, mount, mount_refusal};
+pub use mounting::{mount, mount_refusal};
 pub use registers::{Register, register_word};
 pub use storing::store;

@@ -10,6 +10,7 @@ pub enum Register {
     Tssr,
 }
 
+#[tactic(auto, unfolding(crate::specs::Registers::register_word))]
 pub fn register_word(u: Unit, register: Register) -> u16
     ensures { result ≡ register_word u register }
 {

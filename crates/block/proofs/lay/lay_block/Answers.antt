@@ -10,4 +10,4 @@ returns c =
     let lengths = length_gathered c.args.swb c.args.mem.now c.args.a in
     let long = c.requires.0 in
     let low = c.requires.4 in
-    block_laid c.args.b.now _ _ (bytes c.args.used) _ _ _ _ long (rw lengths low) (body_laid _ _ _ _ _ _ _ _ _ _ bytes lengths long low c.put_word.ensures c.put_word-2.ensures c.put_word-3.ensures c.gather.ensures c.zero_fill.ensures) c.check_sum-check.ensures.same c.put_word-4.ensures
+    block_laid c.args.b.now _ _ (bytes c.args.used) _ _ _ _ long (rw lengths low) (body_laid _ _ _ _ _ _ _ _ _ _ bytes lengths long low c.put_word.ensures c.put_word-2.ensures c.put_word-3.ensures c.gather.ensures (c.fill.ensures.after (λ y h. h))) c.check_word-check.ensures c.put_word-4.ensures

@@ -1,28 +1,18 @@
--- `padding_right` meets its contract: what is left to look at decides as the whole padding does.
+-- `padding_right` meets its contract: each byte is tested as the definition tests it.
 use borrow.Author.Rules.{rules}
-use native.Mathlib.Omega.{arith}
-use mathlib.Core.Path.{◌≡◌, sym, ◌∙◌}
-use Rattle.tape.specs.Numbers.{summed_bytes}
-use Rattle.tape.specs.Reading.{padding_right}
-use Rattle.block.proofs.Padding.{zeros_end, zeros_next, zeros_stop}
+use borrow.Author.Tests.{tests}
+use mathlib.Core.Path.{◌∙◌}
+use Prim.Native.Nat.{◌+◌, ◌-◌}
+use lib.Dec.{eqb}
+use lib.ListN.{take, drop}
+use Rattle.std.proofs.lemmas.Iterator.Search.{all_from_yields_List}
+use Rattle.std.proofs.lemmas.Iterator.{YieldsList-from_slice}
+use Rattle.tape.specs.Numbers.{head_bytes, summed_bytes}
+use Rattle.block.proofs.Padding.{padding_bytes}
 use Rattle.block.proofs.read.padding_right.Goals as goal
-
-pub loop-i-init : goal.loop-i-init
-unfolding padding_right
-loop-i-init c = search rules
-
-pub returns-then-b-i-ne0 : goal.returns-then-b-i-ne0
-returns-then-b-i-ne0 c =
-    let l = c.loop-i in
-    zeros_stop c.args.b.now l.i (search rules) (search rules) c.if-b-i-ne0.true ∙ l.invariant.1
-
-pub loop-i-preserved : goal.loop-i-preserved
-loop-i-preserved c =
-    let l = c.loop-i in
-    (search rules, zeros_next c.args.b.now l.i (search rules) (search rules) c.if-b-i-ne0.false ∙ l.invariant.1)
 
 pub returns : goal.returns
 returns c =
-    let l = c.loop-i in
-    let e : l.i ≡ summed_bytes = omega arith in
-    sym (zeros_end c.args.b.now l.i (search rules) e) ∙ l.invariant.1
+    let i = head_bytes + c.args.used in
+    let part = take (summed_bytes - i) (drop i c.args.b.now) in
+    all_from_yields_List (λ x. eqb x 0) _ _ c.all.result c.all.ensures.ran (YieldsList-from_slice part cc) (λ x b q k. search (rules, tests)) ∙ padding_bytes c.args.b.now c.args.used c.requires

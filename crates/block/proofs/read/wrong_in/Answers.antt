@@ -5,19 +5,19 @@ use Rattle.block.proofs.Heads.{head_whole}
 use Rattle.block.proofs.read.wrong_in.Goals as goal
 
 pub returns-then-not-kind_right : goal.returns-then-not-kind_right
-returns-then-not-kind_right c = fault_kind _ _ _ _ c.word-k.ensures.is c.word-n.ensures.is c.word-i.ensures.is (sym c.kind_right.ensures ∙ c.if-not-kind_right.true)
+returns-then-not-kind_right c = fault_kind _ _ _ _ c.of-head.ensures.kind c.of-head.ensures.length c.of-head.ensures.index (sym c.kind_right.ensures ∙ c.if-not-kind_right.true)
 
 pub returns-then-not-length_right : goal.returns-then-not-length_right
-returns-then-not-length_right c = fault_length _ _ _ _ c.word-k.ensures.is c.word-n.ensures.is c.word-i.ensures.is (sym c.kind_right.ensures ∙ c.if-not-kind_right.false) (sym c.length_right.ensures ∙ c.if-not-length_right.true)
+returns-then-not-length_right c = fault_length _ _ _ _ c.of-head.ensures.kind c.of-head.ensures.length c.of-head.ensures.index (sym c.kind_right.ensures ∙ c.if-not-kind_right.false) (sym c.length_right.ensures ∙ c.if-not-length_right.true)
 
 pub returns-then-not-index_right : goal.returns-then-not-index_right
-returns-then-not-index_right c = fault_index _ _ _ _ c.word-k.ensures.is c.word-n.ensures.is c.word-i.ensures.is (sym c.kind_right.ensures ∙ c.if-not-kind_right.false) (sym c.length_right.ensures ∙ c.if-not-length_right.false) (sym c.index_right.ensures ∙ c.if-not-index_right.true)
+returns-then-not-index_right c = fault_index _ _ _ _ c.of-head.ensures.kind c.of-head.ensures.length c.of-head.ensures.index (sym c.kind_right.ensures ∙ c.if-not-kind_right.false) (sym c.length_right.ensures ∙ c.if-not-length_right.false) (sym c.index_right.ensures ∙ c.if-not-index_right.true)
 
-pub used_of-requires : goal.used_of-requires
-used_of-requires c = head_whole _ _ _ (sym c.kind_right.ensures ∙ c.if-not-kind_right.false) (sym c.length_right.ensures ∙ c.if-not-length_right.false) (sym c.index_right.ensures ∙ c.if-not-index_right.false)
+pub used-requires : goal.used-requires
+used-requires c = head_whole _ _ _ (sym c.kind_right.ensures ∙ c.if-not-kind_right.false) (sym c.length_right.ensures ∙ c.if-not-length_right.false) (sym c.index_right.ensures ∙ c.if-not-index_right.false)
 
 pub returns-then-not-padding_right : goal.returns-then-not-padding_right
-returns-then-not-padding_right c = fault_padding _ _ _ _ c.word-k.ensures.is c.word-n.ensures.is c.word-i.ensures.is (sym c.kind_right.ensures ∙ c.if-not-kind_right.false) (sym c.length_right.ensures ∙ c.if-not-length_right.false) (sym c.index_right.ensures ∙ c.if-not-index_right.false) c.used_of.ensures.is (sym c.padding_right.ensures ∙ c.if-not-padding_right.true)
+returns-then-not-padding_right c = fault_padding _ _ _ _ c.of-head.ensures.kind c.of-head.ensures.length c.of-head.ensures.index (sym c.kind_right.ensures ∙ c.if-not-kind_right.false) (sym c.length_right.ensures ∙ c.if-not-length_right.false) (sym c.index_right.ensures ∙ c.if-not-index_right.false) c.used.ensures.is (sym c.padding_right.ensures ∙ c.if-not-padding_right.true)
 
 pub returns : goal.returns
-returns c = fault_check _ _ _ _ c.word-k.ensures.is c.word-n.ensures.is c.word-i.ensures.is (sym c.kind_right.ensures ∙ c.if-not-kind_right.false) (sym c.length_right.ensures ∙ c.if-not-length_right.false) (sym c.index_right.ensures ∙ c.if-not-index_right.false) c.used_of.ensures.is (sym c.padding_right.ensures ∙ c.if-not-padding_right.false)
+returns c = fault_check _ _ _ _ c.of-head.ensures.kind c.of-head.ensures.length c.of-head.ensures.index (sym c.kind_right.ensures ∙ c.if-not-kind_right.false) (sym c.length_right.ensures ∙ c.if-not-length_right.false) (sym c.index_right.ensures ∙ c.if-not-index_right.false) c.used.ensures.is (sym c.padding_right.ensures ∙ c.if-not-padding_right.false)

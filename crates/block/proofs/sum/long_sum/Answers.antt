@@ -1,7 +1,6 @@
 -- `long_sum` meets its contract. So far the sum is that of the first j runs, and low enough not to wrap.
 use borrow.Author.Rules.{rules}
 use native.Mathlib.Omega.{arith}
-use mathlib.Core.Path.{◌≡◌}
 use Rattle.block.specs.Sums.{long_sum}
 use Rattle.block.proofs.Longs.{two_more}
 use Rattle.block.proofs.sum.long_sum.Goals as goal
@@ -14,9 +13,4 @@ pub loop-j-preserved : goal.loop-j-preserved
 loop-j-preserved c =
     let b = c.args.b.now in
     let j = c.loop-j.j in
-    (search rules, omega (arith, two_more j b (omega arith)), omega arith)
-
-pub returns : goal.returns
-returns c =
-    let e : c.loop-j.j ≡ c.args.n = omega arith in
-    record { is = cc; low = omega arith }
+    (omega (arith, two_more j b (omega arith)), omega arith)

@@ -1,13 +1,14 @@
 -- `carry_out` meets its contract: three commands apart, and all else by its motion.
 use borrow.Enum.Refused.{opened}
 use mathlib.Core.Path.{ap, ◌∙◌}
+use Rattle.std.specs.Prelude.{Some}
 use Rattle.commands.specs.Ends.{motion_plan}
 use Rattle.commands.specs.Commands.{carried_out_under}
 use Rattle.commands.proofs.Moving.{ends_as_moved}
 use Rattle.commands.proofs.carried.carry_out.Goals as goal
 
 pub characterize-requires : goal.characterize-requires
-characterize-requires c = c.requires.1 c.in-WriteCharacteristics.is
+characterize-requires c = c.requires.1 (ap Some c.in-WriteCharacteristics.is)
 
 pub returns-in-WriteCharacteristics : goal.returns-in-WriteCharacteristics
 unfolding carried_out_under

@@ -93,7 +93,3 @@ returns-in-Initialize c = rw (c.in-Initialize.is, c.rest-here.ensures, c.plain_e
 pub returns-in-GetStatus : goal.returns-in-GetStatus
 unfolding motion_of_under
 returns-in-GetStatus c = rw (c.in-GetStatus.is, c.rest-here.ensures, c.plain_end.ensures)
-
-pub returns-in-Illegal : goal.returns-in-Illegal
-unfolding motion_of_under
-returns-in-Illegal c = rw (c.in-Illegal.is, c.rest-here.ensures, c.plain_end.ensures)

@@ -2,10 +2,10 @@
 use Rattle.commands.specs.Ends.{motion_plan_under}
 use Rattle.commands.proofs.ends.plan_motion.Goals as goal
 
-pub returns-in-Ended : goal.returns-in-Ended
+pub returns-in-Ok : goal.returns-in-Ok
 unfolding motion_plan_under
-returns-in-Ended c = rw c.in-Ended.is c.tell.ensures
+returns-in-Ok c = rw c.in-Ok.is c.tell.ensures
 
-pub returns-in-Fault : goal.returns-in-Fault
+pub returns-in-Err : goal.returns-in-Err
 unfolding motion_plan_under
-returns-in-Fault c = rw c.in-Fault.is c.still_plan.ensures
+returns-in-Err c = rw c.in-Err.is c.still_plan.ensures

@@ -10,6 +10,3 @@ abbrev pub invariant-loop-i : goal.invariant-loop-i
 invariant-loop-i l = (l.i ≤ l.n)
     × (sets l.table (place_length * (l.c.place + l.i)) (places_row (l.b + l.i) l.c.marks (l.n - l.i)) ≡ sets l.initial.table (place_length * l.c.place) (places_row l.b l.c.marks l.n))
     × (length l.table ≡ length l.initial.table)
-
-abbrev pub decreases-loop-i : goal.decreases-loop-i
-decreases-loop-i l = l.n - l.i

@@ -6,9 +6,6 @@ use Rattle.lists.proofs.Copied.{part_whole}
 use Rattle.lists.proofs.Placed.{gathered_plain}
 use Rattle.lists.proofs.places.gather.Goals as goal
 
-pub returns-then-swb : goal.returns-then-swb
-returns-then-swb c = rw c.if-swb.true c.gather_swapped.ensures
-
 pub returns-else-swb : goal.returns-else-swb
 returns-else-swb c =
     let n = length c.args.b.now in

@@ -1,20 +1,13 @@
 -- `gather_swapped` meets its contract. In both loops what is still to fetch, from byte i on, gives the whole.
 use mathlib.Core.Bool.{true}
 use mathlib.Core.Path.{◌≡◌}
-use Prim.Native.Nat.{◌≤◌, ◌-◌, ◌+◌}
-use lib.ListN.{length}
+use Prim.Native.Nat.{◌-◌, ◌+◌, ◌*◌}
 use lib.Seq.{sets}
 use Rattle.lists.specs.Places.{gathered}
 use Rattle.lists.proofs.places.gather_swapped.Given as goal
 
+abbrev pub invariant-loop-k : goal.invariant-loop-k
+invariant-loop-k l = sets l.b (l.lead + 64 * l.k) (gathered true l.mem (l.a + (l.lead + 64 * l.k)) (l.n - (l.lead + 64 * l.k))) ≡ gathered true l.mem l.a l.n
+
 abbrev pub invariant-loop-i : goal.invariant-loop-i
-invariant-loop-i l = (l.i ≤ l.n) × (length l.b ≡ l.n) × (sets l.b l.i (gathered true l.mem (l.a + l.i) (l.n - l.i)) ≡ sets l.initial.b l.initial.i (gathered true l.mem (l.a + l.initial.i) (l.n - l.initial.i)))
-
-abbrev pub decreases-loop-i : goal.decreases-loop-i
-decreases-loop-i l = l.n - l.i
-
-abbrev pub invariant-loop-i-2 : goal.invariant-loop-i-2
-invariant-loop-i-2 l = (l.i ≤ l.n) × (length l.b ≡ l.n) × (sets l.b l.i (gathered true l.mem (l.a + l.i) (l.n - l.i)) ≡ sets l.initial.b l.initial.i (gathered true l.mem (l.a + l.initial.i) (l.n - l.initial.i)))
-
-abbrev pub decreases-loop-i-2 : goal.decreases-loop-i-2
-decreases-loop-i-2 l = l.n - l.i
+invariant-loop-i l = sets l.b l.i (gathered true l.mem (l.a + l.i) (l.n - l.i)) ≡ gathered true l.mem l.a l.n

@@ -3,8 +3,5 @@ use lib.Seq.{take-length}
 use Rattle.lists.proofs.Placed.{placed_plain}
 use Rattle.lists.proofs.places.scatter.Goals as goal
 
-pub returns-then-swb : goal.returns-then-swb
-returns-then-swb c = rw c.if-swb.true c.scatter_swapped.ensures
-
 pub returns-else-swb : goal.returns-else-swb
 returns-else-swb c = rw (c.if-swb.false, placed_plain c.args.mem.now c.args.a c.args.d.now) (rw (take-length c.args.d.now) at c.copy.ensures)

@@ -1,19 +1,13 @@
 -- `scatter_swapped` meets its contract. In both loops what is still to store, from byte i on, gives the whole.
 use mathlib.Core.Bool.{true}
 use mathlib.Core.Path.{◌≡◌}
-use Prim.Native.Nat.{◌≤◌, ◌-◌, ◌+◌, ◌%◌}
-use lib.ListN.{length, drop}
+use Prim.Native.Nat.{◌+◌, ◌*◌}
+use lib.ListN.{drop}
 use Rattle.lists.specs.Places.{placed}
 use Rattle.lists.proofs.places.scatter_swapped.Given as goal
 
+abbrev pub invariant-loop-k : goal.invariant-loop-k
+invariant-loop-k l = placed true l.mem (l.a + (l.lead + 64 * l.k)) (drop (l.lead + 64 * l.k) l.d) ≡ placed true l.fn.mem l.a l.d
+
 abbrev pub invariant-loop-i : goal.invariant-loop-i
-invariant-loop-i l = (l.i ≤ length l.d) × (l.a + length l.d ≤ length l.mem) × (length l.mem % 2 ≡ 0) × (length l.mem ≡ length l.initial.mem) × (placed true l.mem (l.a + l.i) (drop l.i l.d) ≡ placed true l.initial.mem (l.a + l.initial.i) (drop l.initial.i l.d))
-
-abbrev pub decreases-loop-i : goal.decreases-loop-i
-decreases-loop-i l = length l.d - l.i
-
-abbrev pub invariant-loop-i-2 : goal.invariant-loop-i-2
-invariant-loop-i-2 l = (l.i ≤ length l.d) × (l.a + length l.d ≤ length l.mem) × (length l.mem % 2 ≡ 0) × (length l.mem ≡ length l.initial.mem) × (placed true l.mem (l.a + l.i) (drop l.i l.d) ≡ placed true l.initial.mem (l.a + l.initial.i) (drop l.initial.i l.d))
-
-abbrev pub decreases-loop-i-2 : goal.decreases-loop-i-2
-decreases-loop-i-2 l = length l.d - l.i
+invariant-loop-i l = placed true l.mem (l.a + l.i) (drop l.i l.d) ≡ placed true l.fn.mem l.a l.d

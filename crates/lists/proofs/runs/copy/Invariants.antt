@@ -1,12 +1,8 @@
 -- `copy` meets its contract. Of a few bytes the first i are there so far.
 use mathlib.Core.Path.{◌≡◌}
-use Prim.Native.Nat.{◌≤◌, ◌-◌}
-use lib.ListN.{length, take, drop}
+use lib.ListN.{take, drop}
 use lib.Seq.{sets}
 use Rattle.lists.proofs.runs.copy.Given as goal
 
 abbrev pub invariant-loop-i : goal.invariant-loop-i
-invariant-loop-i l = (l.i ≤ l.n) × (l.b ≡ sets l.initial.b l.at (take l.i (drop l.from l.d))) × (length l.b ≡ length l.initial.b)
-
-abbrev pub decreases-loop-i : goal.decreases-loop-i
-decreases-loop-i l = l.n - l.i
+invariant-loop-i l = (l.b ≡ sets l.initial.b l.at (take l.i (drop l.from l.d)))

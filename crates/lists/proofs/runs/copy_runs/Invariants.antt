@@ -1,12 +1,9 @@
--- `copy_runs` meets its contract. So far the first i bytes are there.
+-- `copy_runs` meets its contract. So far the first k runs are there.
 use mathlib.Core.Path.{◌≡◌}
-use Prim.Native.Nat.{◌≤◌, ◌-◌}
-use lib.ListN.{length, take, drop}
+use Prim.Native.Nat.{◌*◌}
+use lib.ListN.{take, drop}
 use lib.Seq.{sets}
 use Rattle.lists.proofs.runs.copy_runs.Given as goal
 
-abbrev pub invariant-loop-i : goal.invariant-loop-i
-invariant-loop-i l = (l.i ≤ l.n) × (l.b ≡ sets l.initial.b l.at (take l.i (drop l.from l.d))) × (length l.b ≡ length l.initial.b)
-
-abbrev pub decreases-loop-i : goal.decreases-loop-i
-decreases-loop-i l = l.n - l.i
+abbrev pub invariant-loop-k : goal.invariant-loop-k
+invariant-loop-k g l = l.b ≡ sets l.initial.b l.at (take (g.row.N * l.k) (drop l.from l.d))

@@ -1,17 +1,15 @@
--- `put_run` meets its contract. So far the first i bytes of r are stored.
-use borrow.Author.Rules.{rules}
+-- `put_run` meets its contract: a part that was lent comes back as a run of stores.
 use native.Mathlib.Omega.{arith}
-use mathlib.Core.Path.{◌≡◌}
-use Prim.Native.Nat.{◌+◌}
+use mathlib.Core.Path.{◌≡◌, ◌∙◌}
+use Prim.Native.Nat.{◌+◌, ◌-◌}
 use lib.ListN.{length}
-use lib.Seq.{take-length}
-use Rattle.lists.proofs.Copied.{copy_byte}
+use Rattle.lists.proofs.Stores.{length_part, put_sets}
 use Rattle.lists.proofs.runs.put_run.Goals as goal
 
-pub loop-i-preserved : goal.loop-i-preserved
-loop-i-preserved c = (search rules, cc (copy_byte c.args.b.now c.args.r 0 c.args.at c.loop-i.i (c.args.at + c.loop-i.i) c.loop-i.i (omega arith) (omega arith) (omega arith)), search rules)
-
 pub returns : goal.returns
-returns c =
-    let e : c.loop-i.i ≡ length c.args.r = omega arith in
-    cc (take-length c.args.r)
+returns g c =
+    let at = c.args.at in
+    let n = at + g.row.N - at in
+    let r = c.copy_from_slice.ensures.after in
+    let long : length c.copy_from_slice.new.self ≡ n = c.copy_from_slice.ensures.len ∙ length_part c.args.b.now at n (omega arith) in
+    put_sets at n c.args.b.now c.copy_from_slice.new.self long (omega arith) ∙ rw r

@@ -1,7 +1,6 @@
 -- `word_sum` meets its contract. So far the sum is that of the first j words, and low enough not to wrap.
 use borrow.Author.Rules.{rules}
 use native.Mathlib.Omega.{arith}
-use mathlib.Core.Path.{◌≡◌}
 use Rattle.lists.specs.Words.{word_sum}
 use Rattle.lists.proofs.Sums.{sum_more}
 use Rattle.lists.proofs.words.word_sum.Goals as goal
@@ -14,9 +13,4 @@ pub loop-j-preserved : goal.loop-j-preserved
 loop-j-preserved c =
     let b = c.args.b.now in
     let j = c.loop-j.j in
-    (search rules, omega (arith, sum_more j b (omega arith)), omega arith)
-
-pub returns : goal.returns
-returns c =
-    let e : c.loop-j.j ≡ c.args.n = omega arith in
-    record { is = cc; low = omega arith }
+    (omega (arith, sum_more j b (omega arith)), omega arith)

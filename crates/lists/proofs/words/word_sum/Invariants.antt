@@ -6,7 +6,4 @@ use Rattle.lists.specs.Words.{word_limit, word_sum}
 use Rattle.lists.proofs.words.word_sum.Given as goal
 
 abbrev pub invariant-loop-j : goal.invariant-loop-j
-invariant-loop-j l = (l.j ≤ l.n) × (l.sum ≡ word_sum (take (2 * l.j) l.b)) × (l.sum ≤ (word_limit - 1) * l.j)
-
-abbrev pub decreases-loop-j : goal.decreases-loop-j
-decreases-loop-j l = l.n - l.j
+invariant-loop-j l = (l.sum ≡ word_sum (take (2 * l.j) l.b)) × (l.sum ≤ (word_limit - 1) * l.j)

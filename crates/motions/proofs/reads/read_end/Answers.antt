@@ -12,4 +12,4 @@ unfolding read_end
 returns c =
     let i = c.if-n-c in
     let k : i.class ≡ pick (eqb c.args.n c.args.count.0) 0 2 = elim i.branch [ then-n-c w ↦ w.class-is ∙ rw (eq-eqb c.args.n c.args.count.0 w.if-n-c.true) | else-n-c w ↦ w.class-is ∙ rw (ne_eqb c.args.n c.args.count.0 w.if-n-c.false) ] in
-    rw (k, c.flag.ensures.is, c.flag-2.ensures.is, c.flag-xst3.ensures.is, c.least.ensures)
+    rw (k, c.flag.ensures.is, c.flag-2.ensures.is, c.flag-xst3.ensures.is, c.min.ensures)

@@ -21,7 +21,3 @@ returns-then-r c = rw (c.in-Nothing.is, c.if-r.true, c.flag-left.ensures.is, c.n
 pub returns-else-r : goal.returns-else-r
 unfolding space_end
 returns-else-r c = rw (c.in-Nothing.is, c.if-r.false, c.flag-tmk.ensures.is, c.residual_of-residual.ensures)
-
-pub returns-in-Bad : goal.returns-in-Bad
-unfolding space_end
-returns-in-Bad c = rw (c.in-Bad.is, c.residual_of-residual.ensures)

@@ -4,4 +4,4 @@ use Rattle.motions.proofs.writes.no_room.Goals as goal
 
 pub returns : goal.returns
 unfolding no_room
-returns c = rw (c.no_lay-laid.ensures, c.no_move-moved.ensures)
+returns c = rw c.rest.ensures

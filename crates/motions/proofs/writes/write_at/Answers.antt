@@ -14,9 +14,6 @@ pub returns-then-blocks-l-2 : goal.returns-then-blocks-l-2
 unfolding written_at_under
 returns-then-blocks-l-2 c = rw (lt-ltb c.args.blocks (c.args.l.at + laid_blocks c.args.l) (omega arith)) c.no_room-then-blocks-l-2.ensures
 
-pub written_motion-requires : goal.written_motion-requires
-written_motion-requires c = omega arith
-
 pub returns : goal.returns
 unfolding written_at_under
 returns c = rw (le-ltb c.args.blocks (c.args.l.at + laid_blocks c.args.l) (omega arith)) c.written_motion.ensures

@@ -16,4 +16,4 @@ unfolding written_motion_under
 returns c =
     let i = c.if-marker-after in
     let k : i.class ≡ pick (leb (eot_marker c.args.blocks) (c.args.l.at + laid_blocks c.args.l)) 2 0 = elim i.branch [ then-marker-after w ↦ w.class-is ∙ rw (le-leb (eot_marker c.args.blocks) (c.args.l.at + laid_blocks c.args.l) (omega arith)) | else-marker-after w ↦ w.class-is ∙ rw (lt-leb (eot_marker c.args.blocks) (c.args.l.at + laid_blocks c.args.l) (omega arith)) ] in
-    rw (k, c.flag-found.ensures.is, c.laid_blocks.ensures.is, c.no_move-moved.ensures)
+    rw (c.rest.ensures, k, c.flag-found.ensures.is, c.laid_blocks.ensures.is)

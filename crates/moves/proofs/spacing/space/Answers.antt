@@ -1,26 +1,31 @@
 -- `space` meets its contract. The turns that are left say of the span now what all of them say of the first one.
 use mathlib.Core.Path.{refl, ◌∙◌}
-use Rattle.moves.proofs.Spaces.{some_left, space_counted, space_done, space_turn}
+use native.Mathlib.Nat.{sub-zero}
+use Rattle.std.proofs.lemmas.Result.{err_from_is_err_and}
+use Rattle.moves.proofs.Spaces.{space_counted, space_done, space_turn, turn_fault, turn_found}
 use Rattle.moves.specs.Spacing.{spaced_under, spaced_on}
 use Rattle.moves.proofs.spacing.space.Goals as goal
 
-pub loop-turns-init : goal.loop-turns-init
+pub loop-init : goal.loop-init
 unfolding spaced_under
-loop-turns-init c = refl
+loop-init c = rw sub-zero refl
 
 pub returns-then-none_left : goal.returns-then-none_left
-returns-then-none_left c = space_counted _ _ _ _ _ c.none_left.ensures c.if-none_left.true ∙ c.loop-turns.invariant
+returns-then-none_left c = space_counted _ _ _ _ _ c.none_left.ensures c.if-none_left.true ∙ c.loop.invariant
 
-pub turn_over-requires : goal.turn_over-requires
-turn_over-requires c = some_left c.loop-turns.s.left c.none_left.ensures c.if-none_left.false
-
-pub loop-turns-preserved : goal.loop-turns-preserved
+pub loop-preserved : goal.loop-preserved
 unfolding spaced_on
-loop-turns-preserved c = space_turn _ _ _ _ _ c.loop-turns-test.true c.none_left.ensures c.if-none_left.false c.seek.ensures c.turn_over.ensures (rw c.in-On.is) ∙ c.loop-turns.invariant
+loop-preserved c = space_turn _ _ _ _ _ c.loop-test.true c.none_left.ensures c.if-none_left.false c.seek.ensures (turn_found _ _ c.in_ok-seek.was c.turn_over.ensures) (rw c.in-On.is) ∙ c.loop.invariant
 
 pub returns-in-Over : goal.returns-in-Over
 unfolding spaced_on
-returns-in-Over c = space_turn _ _ _ _ _ c.loop-turns-test.true c.none_left.ensures c.if-none_left.false c.seek.ensures c.turn_over.ensures (rw c.in-Over.is) ∙ c.loop-turns.invariant
+returns-in-Over c = space_turn _ _ _ _ _ c.loop-test.true c.none_left.ensures c.if-none_left.false c.seek.ensures (turn_found _ _ c.in_ok-seek.was c.turn_over.ensures) (rw c.in-Over.is) ∙ c.loop.invariant
+
+pub returns-in_err-seek : goal.returns-in_err-seek
+unfolding spaced_on
+returns-in_err-seek c =
+    let p = err_from_is_err_and c.from_residual.result c.from_residual.ensures.1 in
+    space_turn _ _ _ _ _ c.loop-test.true c.none_left.ensures c.if-none_left.false c.seek.ensures (turn_fault _ _ c.in_err-seek.was) (rw (p.1, p.2)) ∙ c.loop.invariant
 
 pub returns : goal.returns
-returns c = space_done _ _ _ _ _ c.loop-turns-test.false ∙ c.loop-turns.invariant
+returns c = space_done _ _ _ _ _ c.loop-test.false ∙ c.loop.invariant

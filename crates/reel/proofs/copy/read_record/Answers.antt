@@ -5,13 +5,13 @@ use Rattle.reel.proofs.copy.read_record.Goals as goal
 pub returns-then-reverse : goal.returns-then-reverse
 returns-then-reverse c =
     let room = c.requires.0 in
-    let few = c.least-moved.ensures in
+    let few = c.min-moved.ensures in
     let way = c.if-reverse.true in
     read_reverse _ _ _ _ _ _ _ _ _ _ room few way c.copy_out.ensures
 
 pub returns-else-reverse : goal.returns-else-reverse
 returns-else-reverse c =
     let room = c.requires.0 in
-    let few = c.least-moved.ensures in
+    let few = c.min-moved.ensures in
     let way = c.if-reverse.false in
     read_forward _ _ _ _ _ _ _ _ _ _ room few way c.copy_out-else-reverse.ensures

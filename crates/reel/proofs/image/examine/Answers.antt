@@ -9,10 +9,10 @@ returns-then-image-gt-IMAGE_LIMIT c = image_long _ c.if-image-gt-IMAGE_LIMIT.tru
 pub returns-then-image-ne0 : goal.returns-then-image-ne0
 returns-then-image-ne0 c = image_ragged _ c.if-image-gt-IMAGE_LIMIT.false c.if-image-ne0.true
 
-pub returns-in-Whole : goal.returns-in-Whole
+pub returns-in-Ok : goal.returns-in-Ok
 unfolding image_swept
-returns-in-Whole c = image_swept_lem _ c.if-image-gt-IMAGE_LIMIT.false c.if-image-ne0.false c.sweep.ensures (rw c.in-Whole.is)
+returns-in-Ok c = image_swept_lem _ c.if-image-gt-IMAGE_LIMIT.false c.if-image-ne0.false c.sweep.ensures (rw c.in-Ok.is)
 
-pub returns-in-Bad : goal.returns-in-Bad
+pub returns-in-Err : goal.returns-in-Err
 unfolding image_swept
-returns-in-Bad c = image_swept_lem _ c.if-image-gt-IMAGE_LIMIT.false c.if-image-ne0.false c.sweep.ensures (rw c.in-Bad.is)
+returns-in-Err c = image_swept_lem _ c.if-image-gt-IMAGE_LIMIT.false c.if-image-ne0.false c.sweep.ensures (rw c.in-Err.is)

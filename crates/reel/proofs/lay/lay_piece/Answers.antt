@@ -6,5 +6,5 @@ use Rattle.reel.proofs.lay.lay_piece.Goals as goal
 
 pub returns : goal.returns
 returns c =
-    let used = c.least-used.ensures in
+    let used = c.min-used.ensures in
     part_laid _ _ _ _ (length_piece _ _) (omega arith) (piece_laid _ _ _ _ _ _ _ (omega arith) used c.lay_block.ensures)

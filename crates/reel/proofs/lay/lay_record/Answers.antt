@@ -12,9 +12,7 @@ unfolding pieces_to
 loop-i-init c = search rules
 
 pub loop-i-preserved : goal.loop-i-preserved
-loop-i-preserved c =
-    let i = c.loop-i.i in
-    (search rules, cc (pieces_more c.args.reel.now (gathered c.args.swb c.args.mem.now c.args.a c.args.n) c.args.p i), search rules)
+loop-i-preserved c = cc (pieces_more c.args.reel.now (gathered c.args.swb c.args.mem.now c.args.a c.args.n) c.args.p c.loop-i.i)
 
 pub returns : goal.returns
 returns c =

@@ -2,18 +2,10 @@
 use Rattle.tape.specs.Pass.{fault_of}
 use Rattle.reel.proofs.passing.fault_of.Goals as goal
 
-pub returns-in-Damaged : goal.returns-in-Damaged
+pub returns-in-Err : goal.returns-in-Err
 unfolding fault_of
-returns-in-Damaged c = rw c.in-Damaged.is
+returns-in-Err c = rw c.in-Err.is
 
-pub returns-in-Piece : goal.returns-in-Piece
+pub returns-in-Ok : goal.returns-in-Ok
 unfolding fault_of
-returns-in-Piece c = rw c.in-Piece.is
-
-pub returns-in-Mark : goal.returns-in-Mark
-unfolding fault_of
-returns-in-Mark c = rw c.in-Mark.is
-
-pub returns-in-Gap : goal.returns-in-Gap
-unfolding fault_of
-returns-in-Gap c = rw c.in-Gap.is
+returns-in-Ok c = rw c.in-Ok.is

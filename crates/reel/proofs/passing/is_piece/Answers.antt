@@ -1,19 +1,7 @@
--- `is_piece` meets its contract, by what the block is.
-use Rattle.tape.specs.Pass.{is_piece}
+-- `is_piece` meets its contract: to be that piece is to be the same block.
+use mathlib.Core.Path.{refl, ◌∙◌}
+use Rattle.reel.proofs.Pieces.{same_piece}
 use Rattle.reel.proofs.passing.is_piece.Goals as goal
 
-pub returns-in-Piece : goal.returns-in-Piece
-unfolding is_piece
-returns-in-Piece c = rw c.in-Piece.is
-
-pub returns-in-Mark : goal.returns-in-Mark
-unfolding is_piece
-returns-in-Mark c = rw c.in-Mark.is
-
-pub returns-in-Gap : goal.returns-in-Gap
-unfolding is_piece
-returns-in-Gap c = rw c.in-Gap.is
-
-pub returns-in-Damaged : goal.returns-in-Damaged
-unfolding is_piece
-returns-in-Damaged c = rw c.in-Damaged.is
+pub returns : goal.returns
+returns c = c.eq.ensures ∙ same_piece _ _ c.args.b c.args.n c.args.i (λ n' i'. refl) refl refl

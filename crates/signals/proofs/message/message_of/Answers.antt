@@ -4,4 +4,4 @@ use Rattle.signals.proofs.message.message_of.Goals as goal
 
 pub returns : goal.returns
 unfolding message_of
-returns c = rw (c.wrapping_add_u16.ensures.value, c.status_byte.ensures, c.residual_word.ensures, c.header_word.ensures)
+returns c = rw (c.status_byte.ensures, c.from.ensures, c.header_word.ensures)

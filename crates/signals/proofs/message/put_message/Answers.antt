@@ -1,5 +1,5 @@
 -- `put_message` meets its contract. So far the first i words are in memory.
-use Rattle.std.proofs.Common.{◌≡◌, length, get_or, arith, w16, Fits, rules}
+use Rattle.std.proofs.Common.{◌≡◌, length, arith, rules}
 use lib.Seq.{take-length}
 use Rattle.signals.specs.Message.{messaged, words_bytes}
 use Rattle.signals.proofs.Messages.{word_more}
@@ -9,14 +9,8 @@ pub loop-i-init : goal.loop-i-init
 unfolding words_bytes
 loop-i-init c = search rules
 
-pub put_word-requires : goal.put_word-requires
-put_word-requires c =
-    let f : Fits w16 (get_or c.args.m c.loop-i.i 0) = search rules in
-    (omega arith, f.fits)
-
 pub loop-i-preserved : goal.loop-i-preserved
 loop-i-preserved c = (
-  omega arith,
   cc (word_more c.args.mem.now c.args.m c.args.a c.loop-i.i (omega arith)),
   search rules,
 )

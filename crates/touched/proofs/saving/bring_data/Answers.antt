@@ -2,5 +2,5 @@
 use Rattle.touched.proofs.Empty.{none_placed}
 use Rattle.touched.proofs.saving.bring_data.Goals as goal
 
-pub returns-then-d-eq0 : goal.returns-then-d-eq0
-returns-then-d-eq0 c = none_placed _ _ _ _ c.if-d-eq0.true
+pub returns-else-not-is_empty : goal.returns-else-not-is_empty
+returns-else-not-is_empty c = none_placed _ _ _ _ c.if-not-is_empty.ensures

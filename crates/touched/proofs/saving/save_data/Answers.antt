@@ -2,5 +2,5 @@
 use Rattle.touched.proofs.Empty.{none_gathered}
 use Rattle.touched.proofs.saving.save_data.Goals as goal
 
-pub returns-then-b-eq0 : goal.returns-then-b-eq0
-returns-then-b-eq0 c = none_gathered _ _ _ _ c.if-b-eq0.true
+pub returns-else-not-is_empty : goal.returns-else-not-is_empty
+returns-else-not-is_empty c = none_gathered _ _ _ _ c.if-not-is_empty.ensures

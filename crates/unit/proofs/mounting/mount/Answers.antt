@@ -1,16 +1,16 @@
--- `mount` meets its contract: a refusal or a bad block leaves the old state, a whole reel gives the new one.
-use borrow.Author.Tests.{eq-eqb, ne_eqb}
+-- `mount` meets its contract: a refusal or a bad block, or a whole reel, which gives the new state.
+use Rattle.std.proofs.lemmas.Result.{err_from_is_err_and}
 use Rattle.unit.specs.Mounts.{mount_call_under, mount_swept}
 use Rattle.unit.proofs.mounting.mount.Goals as goal
 
-pub returns-then-n-ne0 : goal.returns-then-n-ne0
+pub returns-in_err-mount_refusal : goal.returns-in_err-mount_refusal
 unfolding mount_call_under
-returns-then-n-ne0 c = rw (← c.mount_refusal-n.ensures, ne_eqb _ _ c.if-n-ne0.true)
+returns-in_err-mount_refusal c = let p = err_from_is_err_and c.from_residual.result c.from_residual.ensures.1 in rw (p.1, p.2, ← c.in_err-mount_refusal.ensures)
 
-pub returns-in-Bad : goal.returns-in-Bad
+pub returns-in-Err : goal.returns-in-Err
 unfolding mount_call_under mount_swept
-returns-in-Bad c = rw (← c.mount_refusal-n.ensures, eq-eqb _ _ c.if-n-ne0.false, ← c.sweep.ensures, c.in-Bad.is)
+returns-in-Err c = rw (← c.in_ok-mount_refusal.ensures, ← c.sweep.ensures, c.in-Err.is)
 
-pub returns-in-Whole : goal.returns-in-Whole
+pub returns-in-Ok : goal.returns-in-Ok
 unfolding mount_call_under mount_swept
-returns-in-Whole c = rw (← c.mount_refusal-n.ensures, eq-eqb _ _ c.if-n-ne0.false, ← c.sweep.ensures, c.in-Whole.is, ← c.mounted-unit.ensures)
+returns-in-Ok c = rw (← c.in_ok-mount_refusal.ensures, ← c.sweep.ensures, c.in-Ok.is, ← c.mounted.ensures)

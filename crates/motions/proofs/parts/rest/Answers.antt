@@ -1,5 +1,0 @@
--- `rest` meets its contract: nothing is moved and nothing laid.
-use Rattle.motions.proofs.parts.rest.Goals as goal
-
-pub returns : goal.returns
-returns c = rw (c.no_lay-laid.ensures, c.no_move-moved.ensures)

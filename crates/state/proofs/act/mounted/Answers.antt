@@ -1,7 +1,0 @@
--- `mounted` meets its contract: each part is what its function ensures.
-use Rattle.state.specs.Changes.{mounted_as}
-use Rattle.state.proofs.act.mounted.Goals as goal
-
-pub returns : goal.returns
-unfolding mounted_as
-returns c = rw (c.no_characteristics-characteristics.ensures, c.no_attention-attention.ensures, c.initial_registers-registers.ensures)

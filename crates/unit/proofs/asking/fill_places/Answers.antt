@@ -1,6 +1,0 @@
--- `fill_places` puts the row of as many places as there are objects.
-use mathlib.Core.Path.{◌∙◌}
-use Rattle.unit.proofs.asking.fill_places.Goals as goal
-
-pub returns : goal.returns
-returns c = c.put_places.ensures ∙ rw c.laid_places-n.ensures.is
