@@ -3,12 +3,14 @@
 ghost use Rattle.std.specs.Prelude.{◌≡◌, ◌≤◌, length};
 ghost use Rattle.entries.specs.Entries.{entry_bare, used_in};
 ghost use Rattle.worlds.specs.Coupled.{named_in};
-ghost use Rattle.worlds.specs.Rows.{back_refusal, row_of};
+ghost use Rattle.worlds.specs.Rows.{back_refusal};
 
 use entries::{BARE, TRANSPORTS, newest_entry};
+use state::Refusal;
 use worlds::{Coupler, Seat, row_check, standing};
 
 // The number that the newest entry has: a transport's, or the one that names none.
+// Kept: a number, as it stands in the entry (`named_in`).
 pub fn named(c: Coupler, jrnl: &[u8]) -> usize
     requires { (entry_bare ≤ c.used) × (c.used ≤ length jrnl.now) }
     ensures { result ≡ named_in (used_in c.used jrnl.now) }
@@ -17,32 +19,20 @@ pub fn named(c: Coupler, jrnl: &[u8]) -> usize
     e.transport
 }
 
-// Refusals 1 to 4, 6 and 8 of a step back over the first n of these four, or 0: then the newest entry's transport is mounted, or it names none.
-pub fn back_refusal(
-    c: Coupler,
-    n: usize,
-    s0: Seat,
-    s1: Seat,
-    s2: Seat,
-    s3: Seat,
-    memory: usize,
-    jrnl: &[u8],
-) -> usize
-    ensures { result ≡ back_refusal c (row_of n s0 s1 s2 s3) memory (length jrnl.now) (named_in (used_in c.used jrnl.now)) }
+// Refusals 1 to 4, 6 and 8 of a step back over a row; where none is made the newest entry's transport is mounted, or it names none.
+pub fn back_refusal(c: Coupler, seats: &[Seat], memory: usize, jrnl: &[u8]) -> Result<(), Refusal>
+    ensures { result ≡ back_refusal c seats.now memory (length jrnl.now) (named_in (used_in c.used jrnl.now)) }
 {
-    let r = row_check(c, n, s0, s1, s2, s3, memory, jrnl.len());
-    if r != 0 {
-        return r;
-    }
+    row_check(c, seats, memory, jrnl.len())?;
     if c.used == 0 {
-        return 6;
+        return Err(Refusal::Empty);
     }
     if c.used < BARE {
-        return 8;
+        return Err(Refusal::Entry);
     }
     let k = named(c, jrnl);
-    if (k == TRANSPORTS) | standing(n, k, s0, s1, s2, s3) {
-        return 0;
+    if (k == TRANSPORTS) | standing(seats, k) {
+        return Ok(());
     }
-    8
+    Err(Refusal::Entry)
 }

@@ -8,6 +8,7 @@ use native.Mathlib.Omega.{arith}
 use borrow.Author.Tests.{eqb-true, lt-ltb, ltb-false, ltb-true}
 use lib.Dec.{eqb, leb, ltb}
 use lib.ListN.{length, get_or, length-drop, length-take}
+use Rattle.std.specs.Prelude.{Option}
 use Rattle.lists.specs.Pick.{Always, pick}
 use Rattle.lists.specs.Places.{placed}
 use Rattle.lists.specs.Words.{word_at}
@@ -44,14 +45,14 @@ use Rattle.state.specs.declared.Unit.{Unit}
 use Rattle.state.proofs.Tests.{either, neither}
 use Rattle.moves.specs.Counting.{count_of, how_many, of_marks}
 use Rattle.moves.specs.Seeking.{sought}
-use Rattle.moves.specs.Spacing.{record_turn, spaced, turn_of}
+use Rattle.moves.specs.Spacing.{record_turn, spaced, turn_after, turn_of}
 use Rattle.moves.specs.declared.seeking.Sought.{Sought}
 use Rattle.moves.specs.declared.seeking.Sought.TheVariants as sought-as
 use Rattle.moves.specs.declared.spacing.Count.{Count}
 use Rattle.moves.specs.declared.spacing.Rule.{Rule}
 use Rattle.moves.specs.declared.spacing.Span.{Span}
 use Rattle.moves.specs.declared.spacing.Stop.{Stop}
-use Rattle.moves.specs.declared.spacing.Stop.TheVariants as stop-as
+use Rattle.moves.specs.declared.spacing.Spaced.{Spaced}
 use Rattle.moves.proofs.Counting.{kind_asked, mark_number, mark_stops_number, number_asked, record_number}
 use Rattle.moves.proofs.Rounds.{spaced_keeps}
 use Rattle.moves.proofs.Turns.{Counts, SpanHas, mark_turns}
@@ -60,8 +61,6 @@ use Rattle.motions.specs.Reads.{first_block, mark_end, nothing_end, on_record, r
 use Rattle.motions.specs.Spaces.{positioned, positioned_under, space_motion, space_motion_by, start_span}
 use Rattle.motions.specs.declared.parts.Ending.{Ending}
 use Rattle.motions.specs.declared.parts.Laid.{Laid}
-use Rattle.motions.specs.declared.parts.Motion.{Motion}
-use Rattle.motions.specs.declared.parts.Motion.TheVariants as motion
 use Rattle.motions.specs.declared.reads.Buffer.{Buffer}
 use Rattle.motions.specs.declared.reads.Stage.{Stage}
 use Rattle.motions.proofs.Ends.{flag_most}
@@ -84,6 +83,9 @@ use Rattle.demands.proofs.Meets.{Answers, Comes, Meets, meets, motion_answers}
 use Rattle.demands.proofs.ReadBack.{read_found}
 use Rattle.demands.proofs.Residuals.{left_told, residual_word_lem}
 use Rattle.demands.proofs.Ways.{advanced_way}
+use Rattle.std.specs.Prelude.{Result, Ok, Err, IfOk}
+use Rattle.tape.specs.declared.Damage.{Damage}
+use Rattle.tape.specs.Damage.{damage}
 
 -- word k stands in the bytes of words, whatever the words are: a word's high byte is all of it above its low byte
 word_in : (ws : List ℕ) (k : ℕ) → k < length ws → word_at (words_bytes ws) (2 * k) ≡ get_or ws k 0
@@ -153,10 +155,10 @@ module _ (v : Unit) (ie : Bool) (x : Ending) (m s : List ℕ) (sends : (told v i
   told_xst3 = sent_word (told v ie x) m s sends refl room 6 (omega arith)
 
 -- a block that is read as a piece lies on the reel
-piece_held : (s : List ℕ) (k n i : ℕ) → class_at s k ≡ block.Piece n i → block_bytes * (k + 1) ≤ length s
+piece_held : (s : List ℕ) (k n i : ℕ) → class_at s k ≡ Ok (block.Piece n i) → block_bytes * (k + 1) ≤ length s
 unfolding class_at_under
 piece_held s k n i y =
-    let held = (pick_first (ltb k (length s / block_bytes)) (class_of (block_at s k)) _ (block.Piece n i) y (λ h. clash cc)).0 in
+    let held = (pick_first (ltb k (length s / block_bytes)) (class_of (block_at s k)) _ (Ok (block.Piece n i)) y (λ h. clash cc)).0 in
     omega (arith, ltb-true k (length s / block_bytes) held)
 
 -- the first block of a record that was passed, and of one that was passed back
@@ -182,14 +184,14 @@ module _ (s : List ℕ) where
       record_length s p n (omega (arith, piece_held s (p + last) n last (all last (omega arith))))
 
   -- a record that was met from q on stands, and the position beyond it tells its first block
-  abbrev Stood : Bool → ℕ → Met → Type 0
-  Stood reverse q (met.Record n t) = Standing n (lowest reverse q (pieces_of n)) × (first_block reverse n t ≡ lowest reverse q (pieces_of n))
-  Stood reverse q (met.Mark t) = Always
-  Stood reverse q (met.Gap t) = Always
-  Stood reverse q met.Nothing = Always
-  Stood reverse q (met.Bad why k) = Always
+  abbrev Stood : Bool → ℕ → Result Met Damage → Type 0
+  Stood reverse q (Ok (met.Record n t)) = Standing n (lowest reverse q (pieces_of n)) × (first_block reverse n t ≡ lowest reverse q (pieces_of n))
+  Stood reverse q (Ok (met.Mark t)) = Always
+  Stood reverse q (Ok (met.Gap t)) = Always
+  Stood reverse q (Ok met.Nothing) = Always
+  Stood reverse q (Err d) = Always
 
-  stood_by_lem : (reverse : Bool) (q e : ℕ) (x : Met) → Outcome s reverse q e x → Stood reverse q x
+  stood_by_lem : (reverse : Bool) (q e : ℕ) (x : Result Met Damage) → Outcome s reverse q e x → Stood reverse q x
   stood_by_lem reverse q e x (outcomes.at_end z y) = rw y tt
   stood_by_lem reverse q e x (over_record n some most fits all y) = rw y ((some, all), first_of reverse q n)
   stood_by_lem reverse q e x (over_mark f c y) = rw y tt
@@ -197,7 +199,7 @@ module _ (s : List ℕ) where
   stood_by_lem reverse q e x (at_fault k y) = rw y tt
 
   -- the pass over it said so
-  passed_stands : (reverse : Bool) (q e : ℕ) {n t : ℕ} → passed s reverse q e ≡ met.Record n t → Stood reverse q (met.Record n t)
+  passed_stands : (reverse : Bool) (q e : ℕ) {n t : ℕ} → passed s reverse q e ≡ Ok (met.Record n t) → Stood reverse q (Ok (met.Record n t))
   passed_stands reverse q e y = rw y at (stood_by_lem reverse q e (passed s reverse q e) (outcome s reverse q e))
 
 -- how many bytes of a record are moved, either way
@@ -255,17 +257,17 @@ module _ (u : Unit) (m s : List ℕ) where
     ran : RunsOn u m s
     gapped : Gapped u m s from
     below : from ≤ u.tape.end
-    met_as_lem : passed s (way u m s) from u.tape.end ≡ met.Record n t
+    met_as_lem : passed s (way u m s) from u.tape.end ≡ Ok (met.Record n t)
 
   -- a position behind nothing but gaps, inside the recorded part
   abbrev Here : ℕ → Type 0
   Here q = Gapped u m s q × (q ≤ u.tape.end)
 
-  here_behind : (q t : ℕ) → Here q → passed s (way u m s) q u.tape.end ≡ met.Gap t → Here t
+  here_behind : (q t : ℕ) → Here q → passed s (way u m s) q u.tape.end ≡ Ok (met.Gap t) → Here t
   here_behind q t (g, h) y = (after_gap g y, (gap_within s (way u m s) q u.tape.end h y).below)
 
   -- what the search of a first stage met
-  abbrev First : Sought → Type 0
+  abbrev First : Result Sought Damage → Type 0
   First = Meets s u.tape.end (way u m s) Here here_behind u.tape.position
 
   first_met_lem : u.tape.position ≤ u.tape.end → First (sought s (way u m s) u.tape.position u.tape.end)
@@ -273,14 +275,14 @@ module _ (u : Unit) (m s : List ℕ) where
 
   -- block k is met in the first object ahead that is no gap
   abbrev pub FirstBad : BlockFault → ℕ → Type 0
-  FirstBad why k = (q : ℕ) × Gapped u m s q × (passed s (way u m s) q u.tape.end ≡ met.Bad why k)
+  FirstBad why k = (q : ℕ) × Gapped u m s q × (passed s (way u m s) q u.tape.end ≡ Err (damage why k))
 
   -- how the motion of a Read comes out
-  abbrev ReadComes : Motion → Type 0
+  abbrev ReadComes : Result Ending Damage → Type 0
   ReadComes = Comes ReadAs FirstBad
 
   -- the first stage ends so where it is over, and goes on from a record that it passed
-  abbrev StageAs : Stage → Type 0
+  abbrev StageAs : Result Stage Damage → Type 0
   StageAs = StageHas ReadComes Passed
 
   nothing_as : (reverse : Bool) (q : ℕ) → ReadStops u m s [] (pick reverse 2 6) 0 (pick reverse (REV + RIB) OPI) q → ReadComes (stop_motion (nothing_end asks.count reverse) q u.tape.end)
@@ -288,12 +290,12 @@ module _ (u : Unit) (m s : List ℕ) where
   nothing_as true q y = rests_as _ _ y (refl, omega arith) refl
   nothing_as false q y = rests_as _ _ y (refl, omega arith) refl
 
-  stage_by_lem : (f : Sought) → u.tape.position ≤ u.tape.end → RunsOn u m s → First f → StageAs (stage_by u.tape asks.count (way u m s) f)
+  stage_by_lem : (f : Result Sought Damage) → u.tape.position ≤ u.tape.end → RunsOn u m s → First f → StageAs (stage_by u.tape asks.count (way u m s) f)
   unfolding stage_by stop_motion mark_end
-  stage_by_lem (sought-as.Record n t) l c (q, (g, h), y) = record { from = q; ran = c; gapped = g; below = h; met_as_lem = y }
-  stage_by_lem (sought-as.Mark t) l c (q, (g, h), y) = rests_as _ _ (at_mark c g y) (refl, omega arith) refl
-  stage_by_lem (sought-as.Nothing q) l c ((g, h), z) = nothing_as (way u m s) q (at_end c g (z l))
-  stage_by_lem (sought-as.Bad why k) l c (q, (g, h), y) = (q, g, y)
+  stage_by_lem (Ok (sought-as.Record n t)) l c (q, (g, h), y) = record { from = q; ran = c; gapped = g; below = h; met_as_lem = y }
+  stage_by_lem (Ok (sought-as.Mark t)) l c (q, (g, h), y) = rests_as _ _ (at_mark c g y) (refl, omega arith) refl
+  stage_by_lem (Ok (sought-as.Nothing q)) l c ((g, h), z) = nothing_as (way u m s) q (at_end c g (z l))
+  stage_by_lem (Err d) l c (q, (g, h), y) = (q, g, y)
 
   -- a record that is moved: read either way, from its first block p on
   moves_as : (reverse : Bool) (n b p : ℕ) (t : Tape) (rev : Bool) → asks.pointer + asks.count.0 ≤ length m → reads u m s ≡ reverse → first_block reverse n b ≡ p → Standing s n p
@@ -322,7 +324,7 @@ module _ (u : Unit) (m s : List ℕ) where
   -- from inside the recorded part, with the data in memory (step 10 let it pass)
   module _ (inside : u.tape.position ≤ u.tape.end) (ran : RunsOn u m s) (fits : asks.pointer + asks.count.0 ≤ length m) where
     -- what goes on from the first stage
-    goes_on : (f : ℕ → ℕ → Motion) → ((n t : ℕ) → Passed n t → ReadComes (f n t)) → ReadComes (on_record (stage_of s u.tape asks.count (way u m s)) f)
+    goes_on : (f : ℕ → ℕ → Result Ending Damage) → ((n t : ℕ) → Passed n t → ReadComes (f n t)) → ReadComes (on_record (stage_of s u.tape asks.count (way u m s)) f)
     unfolding stage_of_under
     goes_on f on =
         on_record_lem ReadComes Passed _ f
@@ -339,7 +341,7 @@ module _ (u : Unit) (m s : List ℕ) where
 
     -- a reread's second stage meets the same record, and leads back to where the first met it
     module _ (twice : again u m s ≡ true) {n t : ℕ} (x : Passed n t) where
-      second : sought s (not (way u m s)) t u.tape.end ≡ sought-as.Record n x.from
+      second : sought s (not (way u m s)) t u.tape.end ≡ Ok (sought-as.Record n x.from)
       second = sought_back s u.tape.end (way u m s) x.from x.below x.met_as_lem
 
       then_read : (header u m s).opp ≡ false → ReadComes (read_one s (standing t u.tape.end) asks (not (way u m s)))
@@ -387,10 +389,10 @@ module _ (u : Unit) (m s : List ℕ) where
   fetched_ran f (carried r a) = run (r, a)
 
   -- a motion that sends ended: a fault sends nothing
-  pub motion_sends : (P : Plan → Type 0) (Q : Ending → Type 0) (F : BlockFault → ℕ → Type 0) (v : Unit) (ie : Bool) → ((x : Ending) → Q x → Sends (told v ie x) → P (told v ie x)) → (y : Motion) → Comes Q F y → Sends (motion_plan v ie y) → P (motion_plan v ie y)
+  pub motion_sends : (P : Plan → Type 0) (Q : Ending → Type 0) (F : BlockFault → ℕ → Type 0) (v : Unit) (ie : Bool) → ((x : Ending) → Q x → Sends (told v ie x) → P (told v ie x)) → (y : Result Ending Damage) → Comes Q F y → Sends (motion_plan v ie y) → P (motion_plan v ie y)
   unfolding motion_plan_under still
-  motion_sends P Q F v ie tells (motion.Ended x) k t = tells x k t
-  motion_sends P Q F v ie tells (motion.Fault why b) k t = absurd (clash (cc t.0))
+  motion_sends P Q F v ie tells (Ok x) k t = tells x k t
+  motion_sends P Q F v ie tells (Err d) k t = absurd (clash (cc t.0))
 
   -- of a plan, what `ReadDone` says of the advance
   record ReadTold (x : Plan) : Type 0 where
@@ -443,8 +445,8 @@ read_way h mode y z = simp (y, z, or-false)
 
 module _ (u : Unit) (m s : List ℕ) (inside : u.tape.position ≤ u.tape.end) (code : (header u m s).code ≡ 1) where
   -- a command whose plan is a motion's that comes out as a Read's does
-  abbrev Reads : Command → Type 0
-  Reads c = (y : Motion) × (carried_out (started u m s) m s (header u m s) (packet u m s) c ≡ motion_plan (started u m s) (header u m s).ie y) × ReadComes u m s y
+  abbrev Reads : Option Command → Type 0
+  Reads c = (y : Result Ending Damage) × (carried_out (started u m s) m s (header u m s) (packet u m s) c ≡ motion_plan (started u m s) (header u m s).ie y) × ReadComes u m s y
 
   -- a Read by its mode: every mode that is known reads
   mode_comes : RunsOn u m s → is_illegal (read_mode (header u m s).mode) ≡ false → Reads (read_mode (header u m s).mode)
@@ -452,7 +454,7 @@ module _ (u : Unit) (m s : List ℕ) (inside : u.tape.position ≤ u.tape.end) (
   mode_comes ran known =
       let h : Header = header u m s in
       let mode : ℕ = h.mode in
-      let P : Command → Type 0 = λ c. is_illegal c ≡ false → Reads c in
+      let P : Option Command → Type 0 = λ c. is_illegal c ≡ false → Reads c in
       let fits : (asks u m s).pointer + (asks u m s).count.0 ≤ length m = read_extent h (length m) _ code ran.1 in
       let is : (k : ℕ) → eqb mode k ≡ true → (reverse_first h ≡ (eqb k 1 || eqb k 2)) × (leb 2 mode ≡ leb 2 k) = λ k t. (read_way h k code (eqb-true mode k t), ap (leb 2) (eqb-true mode k t)) in
       let one : (b : Bool) → reverse_first h ≡ b → leb 2 mode ≡ false → ReadComes u m s (read_one s u.tape (asks u m s) b) =
@@ -522,17 +524,17 @@ module _ (s : List ℕ) (e : ℕ) (reverse : Bool) (p count : ℕ) (marks : Bool
   past_none left y = (nothing_yet, omega arith)
 
   -- a gap does not count
-  past_gap : (left q t : ℕ) → Past q left → passed s reverse q e ≡ met.Gap t → Past t left
+  past_gap : (left q t : ℕ) → Past q left → passed s reverse q e ≡ Ok (met.Gap t) → Past t left
   unfolding passed_in
   past_gap left q t (o, c) g = (then_gap o g, c)
 
   -- a record counts, unless marks do
-  past_record : (left less q t n : ℕ) → Past q left → passed s reverse q e ≡ met.Record n t → pick marks 0 1 + less ≡ left → Past t less
+  past_record : (left less q t n : ℕ) → Past q left → passed s reverse q e ≡ Ok (met.Record n t) → pick marks 0 1 + less ≡ left → Past t less
   unfolding passed_in
   past_record left less q t n (o, c) g d = (then_record o g, omega arith)
 
   -- a mark counts where marks do
-  past_mark : (left less q t : ℕ) → Past q left → passed s reverse q e ≡ met.Mark t → pick marks 1 0 + less ≡ left → Past t less
+  past_mark : (left less q t : ℕ) → Past q left → passed s reverse q e ≡ Ok (met.Mark t) → pick marks 1 0 + less ≡ left → Past t less
   unfolding passed_in
   past_mark left less q t (o, c) g d = (then_mark o g, omega arith)
 
@@ -544,22 +546,22 @@ module _ (s : List ℕ) (e : ℕ) (r : Rule) (p : ℕ) (count : Count) where
   abbrev RulePast : Span → Type 0
   RulePast = SpanPast s e r.reverse p (how_many count) (of_marks count)
 
-  abbrev MeetsPast : Span → Sought → Type 0
+  abbrev MeetsPast : Span → Result Sought Damage → Type 0
   MeetsPast y = Meets s e r.reverse (λ q. CountPast q (how_many y.left)) (past_gap s e r.reverse p (how_many count) (of_marks count) (how_many y.left)) y.position
 
   -- each turn, by what its search found
-  turn_past : (y : Span) (f : Sought) → Counts (of_marks count) y → RulePast y → (how_many y.left ≡ 0 → ⊥) → MeetsPast y f → SpanHas RulePast (turn_of r y f)
-  unfolding turn_of record_turn
-  turn_past y (sought-as.Record n t) k before some (q, a, g) =
+  turn_past : (y : Span) (f : Result Sought Damage) → Counts (of_marks count) y → RulePast y → (how_many y.left ≡ 0 → ⊥) → MeetsPast y f → SpanHas RulePast (turn_after r y f)
+  unfolding turn_after turn_of record_turn
+  turn_past y (Ok (sought-as.Record n t)) k before some (q, a, g) =
       past_record s e r.reverse p (how_many count) (of_marks count) _ _ q t n a g (rw k at (record_number y.left some))
-  turn_past y (sought-as.Mark t) k before some (q, a, g) =
+  turn_past y (Ok (sought-as.Mark t)) k before some (q, a, g) =
       let past : (less : ℕ) → pick (of_marks y.left) 1 0 + less ≡ how_many y.left → CountPast t less = λ less d. past_mark s e r.reverse p (how_many count) (of_marks count) _ less q t a g (rw k at d) in
-      mark_turns (SpanHas RulePast) r y t (λ n w. past _ (mark_stops_number n w)) (λ n w b. past _ (mark_number n w some)) (λ n w b. past _ (mark_number n w some))
-  turn_past y (sought-as.Nothing t) k before some (a, z) = a
-  turn_past y (sought-as.Bad why n) k before some a = before
+      mark_turns (λ x. SpanHas RulePast (Ok x)) r y t (λ n w. past _ (mark_stops_number n w)) (λ n w b. past _ (mark_number n w some)) (λ n w b. past _ (mark_number n w some))
+  turn_past y (Ok (sought-as.Nothing t)) k before some (a, z) = a
+  turn_past y (Err d) k before some a = tt
 
   -- so where a space ends
-  spaced_past : (x : Span) → Counts (of_marks count) x → RulePast x → RulePast (spaced s r e x).span
+  spaced_past : (x : Span) → Counts (of_marks count) x → RulePast x → IfOk (spaced s r e x) (λ z. RulePast z.span)
   spaced_past x same =
       spaced_keeps s r e RulePast x
       (λ y k a some.
@@ -570,25 +572,26 @@ module _ (s : List ℕ) (e : ℕ) (r : Rule) (p : ℕ) (count : Count) where
   abbrev EndPast : Ending → Type 0
   EndPast x = CountPast x.tape.position (residual_word x.end.residual)
 
-  abbrev MotionPast : Motion → Type 0
+  abbrev MotionPast : Result Ending Damage → Type 0
   MotionPast = Comes EndPast (λ why k. Always)
 
   space_past : (x : Span) (stop : Stop) → RulePast x → MotionPast (space_motion_by r x e stop)
   unfolding space_motion_by
-  space_past x stop-as.Count (o, c) = (o, rw (left_told r x stop-as.Count) c)
-  space_past x stop-as.Mark (o, c) = (o, rw (left_told r x stop-as.Mark) c)
-  space_past x stop-as.LogicalEnd (o, c) = (o, rw (left_told r x stop-as.LogicalEnd) c)
-  space_past x stop-as.Nothing (o, c) = (o, rw (left_told r x stop-as.Nothing) c)
-  space_past x (stop-as.Bad why k) a = tt
+  space_past x stop (o, c) = (o, rw (left_told r x stop) c)
+
+  space_ended : (f : Result Spaced Damage) → IfOk f (λ z. RulePast z.span) → MotionPast (space_motion r f e)
+  unfolding space_motion
+  space_ended (Ok z) a = space_past z.span z.stop a
+  space_ended (Err d) a = tt
 
 -- "A Position count of 0 moves nothing"; any other reads over objects from where the tape stands
 position_past : (s : List ℕ) (t : Tape) (r : Rule) (count : Count) (enb : Bool) → MotionPast s t.end r t.position count (positioned s t r count enb)
-unfolding positioned_under space_motion
+unfolding positioned_under
 position_past s t r count enb =
     let none : (left : ℕ) → left ≡ how_many count → CountPast s t.end r t.position count t.position left = past_none s t.end r.reverse t.position (how_many count) (of_marks count) in
     pick_told (MotionPast s t.end r t.position count) (eqb (how_many count) 0) _ _
     (λ z. none _ (residual_word_lem count))
-    (λ z. space_past s t.end r t.position count _ _ (spaced_past s t.end r t.position count (start_span t count enb) refl (none (how_many count) refl)))
+    (λ z. space_ended s t.end r t.position count _ (spaced_past s t.end r t.position count (start_span t count enb) refl (none (how_many count) refl)))
 
 -- code 8 is a Position: modes 0 to 3 go one way or the other, over records or marks, and an end of steps 8 to 10 gives their whole count
 pub position_command : (code mode : ℕ) → code ≡ 8 → command_of code mode ≡ position_mode mode

@@ -18,8 +18,7 @@ use Rattle.tape.specs.declared.Block.{Block}
 use Rattle.tape.specs.declared.Block.TheVariants as block
 use Rattle.tape.specs.declared.Met.{Met}
 use Rattle.tape.specs.declared.Met.TheVariants as met
-use Rattle.tape.specs.declared.Swept.{Swept}
-use Rattle.tape.specs.declared.Swept.TheVariants as swept
+use Rattle.tape.specs.Sweep.{Swept}
 use Rattle.tape.proofs.Accepted.{clash}
 use Rattle.tape.proofs.Blame.{bad_wrong}
 use Rattle.tape.proofs.Faulted.{wrong_told}
@@ -32,25 +31,28 @@ use Rattle.moves.specs.Seeking.{sought}
 use Rattle.moves.specs.declared.seeking.Sought.TheVariants as sought-as
 use Rattle.demands.specs.Faults.{FaultAt, FirstFault, ReadOver, damaged, met_at, not_due, nothing_yet, out_of_place, then_gap, then_mark, then_record}
 use Rattle.demands.proofs.ReadBack.{found_at_once}
+use Rattle.std.specs.Prelude.{Result, Ok, Err}
+use Rattle.tape.specs.declared.Damage.{Damage}
+use Rattle.tape.specs.Damage.{damage}
 
 -- a block is piece i of a record of n bytes exactly where the test says so
-piece_true : (b : Block) (n i : ℕ) → is_piece b n i ≡ true → b ≡ block.Piece n i
+piece_true : (b : Result Block BlockFault) (n i : ℕ) → is_piece b n i ≡ true → b ≡ Ok (block.Piece n i)
 unfolding is_piece
-piece_true (block.Piece n' i') n i h =
+piece_true (Ok (block.Piece n' i')) n i h =
     let t = (and-eq-true_iff (eqb n' n) (eqb i' i)).0 h in
     cc (eqb-true n' n t.0, eqb-true i' i t.1)
-piece_true block.Mark n i h = cc
-piece_true block.Gap n i h = cc
-piece_true (block.Damaged f) n i h = cc
+piece_true (Ok block.Mark) n i h = cc
+piece_true (Ok block.Gap) n i h = cc
+piece_true (Err f) n i h = cc
 
-piece_is : (b : Block) (n i : ℕ) → b ≡ block.Piece n i → is_piece b n i ≡ true
+piece_is : (b : Result Block BlockFault) (n i : ℕ) → b ≡ Ok (block.Piece n i) → is_piece b n i ≡ true
 unfolding is_piece
 piece_is b n i h = rw (h, eq-eqb n n refl, eq-eqb i i refl)
 
-piece_false : (b : Block) (n i : ℕ) → is_piece b n i ≡ false → b ≡ block.Piece n i → ⊥
+piece_false : (b : Result Block BlockFault) (n i : ℕ) → is_piece b n i ≡ false → b ≡ Ok (block.Piece n i) → ⊥
 piece_false b n i h y = clash (cc (piece_is b n i y))
 
-piece_not : (b : Block) (n i : ℕ) → (b ≡ block.Piece n i → ⊥) → is_piece b n i ≡ false
+piece_not : (b : Result Block BlockFault) (n i : ℕ) → (b ≡ Ok (block.Piece n i) → ⊥) → is_piece b n i ≡ false
 piece_not b n i f = by_test (is_piece b n i) (λ t. absurd (f (piece_true b n i t))) (λ t. t)
 
 -- at most, and not the same
@@ -64,15 +66,15 @@ and_next P j f h i l = by_test (eqb i j) (λ t. subst P (sym (eqb-true i j t)) h
 module _ (s : List ℕ) (e : ℕ) (reverse : Bool) (q : ℕ) where
   -- the block met as number j is the piece due there, of a record of n bytes
   abbrev Due : ℕ → ℕ → Type 0
-  Due n j = class_at s (met_at s e reverse q (pieces_of n) j) ≡ block.Piece n (order_met reverse (pieces_of n) j)
+  Due n j = class_at s (met_at s e reverse q (pieces_of n) j) ≡ Ok (block.Piece n (order_met reverse (pieces_of n) j))
 
   -- a pass that names a block names the first at fault
-  abbrev Faulty : Met → Type 0
-  Faulty (met.Bad why k) = FaultAt s e reverse q k
-  Faulty (met.Record n q') = Always
-  Faulty (met.Mark q') = Always
-  Faulty (met.Gap q') = Always
-  Faulty met.Nothing = Always
+  abbrev Faulty : Result Met Damage → Type 0
+  Faulty (Err d) = FaultAt s e reverse q d.block
+  Faulty (Ok (met.Record n q')) = Always
+  Faulty (Ok (met.Mark q')) = Always
+  Faulty (Ok (met.Gap q')) = Always
+  Faulty (Ok met.Nothing) = Always
 
   -- the pieces before number j were the ones due: the next that is not is the first at fault
   pieces_faulty : (n j c : ℕ) → pieces_of n ≤ ahead reverse q e → 1 ≤ j → c ≤ pieces_of n - j → ((i : ℕ) → i < j → Due n i)
@@ -82,13 +84,13 @@ module _ (s : List ℕ) (e : ℕ) (reverse : Bool) (q : ℕ) where
   pieces_faulty n j (suc c) fits one all f =
       let m : ℕ = pieces_of n in
       let i : ℕ = order_met reverse m j in
-      let b : Block = class_at s (met_at s e reverse q m j) in
+      let b : Result Block BlockFault = class_at s (met_at s e reverse q m j) in
       pick_told Faulty (is_piece b n i) _ _
       (λ t. pieces_faulty n (suc j) c fits (omega arith) (omega arith) (and_next (Due n) j f (piece_true b n i t)))
       (λ t. not_due fits one (omega arith) f (piece_false b n i t))
 
   -- a record met at its piece i
-  record_faulty : (n i : ℕ) → 1 ≤ ahead reverse q e → class_at s (first_met reverse q) ≡ block.Piece n i → Faulty (record_met s reverse q e n i)
+  record_faulty : (n i : ℕ) → 1 ≤ ahead reverse q e → class_at s (first_met reverse q) ≡ Ok (block.Piece n i) → Faulty (record_met s reverse q e n i)
   unfolding record_met_under
   record_faulty n i h c =
       let m : ℕ = pieces_of n in
@@ -104,12 +106,12 @@ module _ (s : List ℕ) (e : ℕ) (reverse : Bool) (q : ℕ) where
       (λ t. out_of_place h c (λ a b. clash (cc (t, (and-eq-true_iff first whole).1 (eq-eqb i (order_met reverse m 0) a, le-leb m (ahead reverse q e) b)))))
 
   -- whatever the first block met is
-  block_faulty : (b : Block) → 1 ≤ ahead reverse q e → class_at s (first_met reverse q) ≡ b → Faulty (met_by s reverse q e b)
+  block_faulty : (b : Result Block BlockFault) → 1 ≤ ahead reverse q e → class_at s (first_met reverse q) ≡ b → Faulty (met_by s reverse q e b)
   unfolding met_by_under
-  block_faulty (block.Piece n i) h c = record_faulty n i h c
-  block_faulty block.Mark h c = tt
-  block_faulty block.Gap h c = tt
-  block_faulty (block.Damaged f) h c = damaged h c
+  block_faulty (Ok (block.Piece n i)) h c = record_faulty n i h c
+  block_faulty (Ok block.Mark) h c = tt
+  block_faulty (Ok block.Gap) h c = tt
+  block_faulty (Err f) h c = damaged h c
 
   -- and so the pass over it
   pass_faulty : Faulty (passed s reverse q e)
@@ -119,7 +121,7 @@ module _ (s : List ℕ) (e : ℕ) (reverse : Bool) (q : ℕ) where
       pick_told Faulty (eqb n 0) _ _ (λ t. tt) (λ t. block_faulty (class_at s (first_met reverse q)) (one_at_least n (eqb-false n 0 t)) refl)
 
 -- "the first at fault is named"
-pub bad_first : (s : List ℕ) (e : ℕ) (reverse : Bool) (q : ℕ) (why : BlockFault) (k : ℕ) → passed s reverse q e ≡ met.Bad why k → FaultAt s e reverse q k
+pub bad_first : (s : List ℕ) (e : ℕ) (reverse : Bool) (q : ℕ) (why : BlockFault) (k : ℕ) → passed s reverse q e ≡ Err (damage why k) → FaultAt s e reverse q k
 bad_first s e reverse q why k y = rw y at (pass_faulty s e reverse q)
 
 -- the blocks ahead lie below the end
@@ -156,19 +158,19 @@ back_beyond false q e m k = omega arith
 
 module _ (s : List ℕ) (e : ℕ) (reverse : Bool) (q : ℕ) (h : q ≤ e) where
   -- a record that was met is met the other way too, from beyond it
-  abbrev Back : Met → Type 0
-  Back (met.Record n t) = passed s (not reverse) t e ≡ met.Record n q
-  Back (met.Mark t) = Always
-  Back (met.Gap t) = Always
-  Back met.Nothing = Always
-  Back (met.Bad why k) = Always
+  abbrev Back : Result Met Damage → Type 0
+  Back (Ok (met.Record n t)) = passed s (not reverse) t e ≡ Ok (met.Record n q)
+  Back (Ok (met.Mark t)) = Always
+  Back (Ok (met.Gap t)) = Always
+  Back (Ok met.Nothing) = Always
+  Back (Err d) = Always
 
-  back_by : (x : Met) → Outcome s reverse q e x → Back x
+  back_by : (x : Result Met Damage) → Outcome s reverse q e x → Back x
   back_by x (at_end z y) = rw y tt
   back_by x (over_record n some most fits all y) =
       let m : ℕ = pieces_of n in
       let t : ℕ = beyond reverse q m in
-      let w : passed s (not reverse) t e ≡ met.Record n (beyond (not reverse) t m) =
+      let w : passed s (not reverse) t e ≡ Ok (met.Record n (beyond (not reverse) t m)) =
       met_record record_limit s (not reverse) t e n some (back_ahead reverse q e m h fits) (rw (back_lowest reverse q m) all) in
       rw y (rw (back_beyond reverse q e m fits) at w)
   back_by x (over_mark f c y) = rw y tt
@@ -176,24 +178,24 @@ module _ (s : List ℕ) (e : ℕ) (reverse : Bool) (q : ℕ) (h : q ≤ e) where
   back_by x (at_fault k y) = rw y tt
 
   -- the pass back over a record meets it again, and leads to where the pass over it began
-  pub pass_back : {n t : ℕ} → passed s reverse q e ≡ met.Record n t → passed s (not reverse) t e ≡ met.Record n q
+  pub pass_back : {n t : ℕ} → passed s reverse q e ≡ Ok (met.Record n t) → passed s (not reverse) t e ≡ Ok (met.Record n q)
   pass_back y = rw y at (back_by (passed s reverse q e) (outcome s reverse q e))
 
   -- so a search back finds it at once
-  pub sought_back : {n t : ℕ} → passed s reverse q e ≡ met.Record n t → sought s (not reverse) t e ≡ sought-as.Record n q
+  pub sought_back : {n t : ℕ} → passed s reverse q e ≡ Ok (met.Record n t) → sought s (not reverse) t e ≡ Ok (sought-as.Record n q)
   sought_back {n = n} {t = t} y =
       let i : RecordIn reverse e n t = pass_within s reverse q e h y in
       found_at_once s (not reverse) t e n q (omega (arith, i.inside, i.some)) (pass_back y)
 
 module _ (s : List ℕ) (e : ℕ) (reverse : Bool) (q : ℕ) where
   -- a piece that is not met first, or of a record that is cut off
-  record_cut : (n i : ℕ) → (i ≡ order_met reverse (pieces_of n) 0 → pieces_of n ≤ ahead reverse q e → ⊥) → record_met s reverse q e n i ≡ met.Bad fault.Index (first_met reverse q)
+  record_cut : (n i : ℕ) → (i ≡ order_met reverse (pieces_of n) 0 → pieces_of n ≤ ahead reverse q e → ⊥) → record_met s reverse q e n i ≡ Err (damage fault.Index (first_met reverse q))
   unfolding record_met_under
   record_cut n i f =
       let m : ℕ = pieces_of n in
       let first : Bool = eqb i (order_met reverse m 0) in
       let whole : Bool = leb m (ahead reverse q e) in
-      pick_told (λ x. x ≡ met.Bad fault.Index (first_met reverse q)) (first && whole) _ _
+      pick_told (λ x. x ≡ Err (damage fault.Index (first_met reverse q))) (first && whole) _ _
       (λ t.
       let both = (and-eq-true_iff first whole).0 t in
       absurd (f (eqb-true i (order_met reverse m 0) both.0) (leb-true m (ahead reverse q e) both.1)))
@@ -215,41 +217,41 @@ module _ (s : List ℕ) (e : ℕ) (reverse : Bool) (q : ℕ) where
 -- and the other way: a block at fault in one of the three ways is the one that the pass names
 pub first_bad : (s : List ℕ) (e : ℕ) (reverse : Bool) (q k : ℕ) → FaultAt s e reverse q k → passed s reverse q e ≡ bad_at s k
 unfolding met_by_under record_met_under fault_of
-first_bad s e reverse q k (damaged {f = f} h c) = passed_by record_limit s reverse q e (block.Damaged f) h c ∙ rw c
-first_bad s e reverse q k (out_of_place {n = n} {i = i} h c f) = passed_by record_limit s reverse q e (block.Piece n i) h c ∙ record_cut s e reverse q n i f ∙ rw c
+first_bad s e reverse q k (damaged {f = f} h c) = passed_by record_limit s reverse q e (Err f) h c ∙ rw c
+first_bad s e reverse q k (out_of_place {n = n} {i = i} h c f) = passed_by record_limit s reverse q e (Ok (block.Piece n i)) h c ∙ record_cut s e reverse q n i f ∙ rw c
 first_bad s e reverse q k (not_due {n = n} {j = j} fits one l f g) =
     let m : ℕ = pieces_of n in
     let i : ℕ = order_met reverse m 0 in
-    let c : class_at s (first_met reverse q) ≡ block.Piece n i = rw (first_order reverse q e m (omega arith) fits) (f 0 one) in
-    passed_by record_limit s reverse q e (block.Piece n i) (omega arith) c
+    let c : class_at s (first_met reverse q) ≡ Ok (block.Piece n i) = rw (first_order reverse q e m (omega arith) fits) (f 0 one) in
+    passed_by record_limit s reverse q e (Ok (block.Piece n i)) (omega arith) c
     ∙ rw (eq-eqb i i refl, le-leb m (ahead reverse q e) fits) (pieces_bad s e reverse q n j 1 (m - 1) _ one (omega arith) f g)
 
 -- read this way on the reel s, recorded up to e
 module _ (s : List ℕ) (e : ℕ) (reverse : Bool) where
   -- a pass that names a block, behind what was read over
-  pub first_here : {p q : ℕ} {why : BlockFault} {k : ℕ} → p ≤ e → ReadOver s e reverse p q → passed s reverse q e ≡ met.Bad why k → FirstFault s e reverse p why k
+  pub first_here : {p q : ℕ} {why : BlockFault} {k : ℕ} → p ≤ e → ReadOver s e reverse p q → passed s reverse q e ≡ Err (damage why k) → FirstFault s e reverse p why k
   first_here {q = q} {why = why} {k = k} h o y =
       let f : FaultAt s e reverse q k = bad_first s e reverse q why k y in
       record { from = q; before = o; fault = f; below = bad_below s e reverse q k (over_below s e reverse h o) f; wrong = bad_wrong s reverse q e y }
 
   -- where a pass over a whole object led
-  abbrev Leads : Met → ℕ → Type 0
-  Leads (met.Record n q) t = q ≡ t
-  Leads (met.Mark q) t = q ≡ t
-  Leads (met.Gap q) t = q ≡ t
-  Leads met.Nothing t = ⊥
-  Leads (met.Bad why k) t = ⊥
+  abbrev Leads : Result Met Damage → ℕ → Type 0
+  Leads (Ok (met.Record n q)) t = q ≡ t
+  Leads (Ok (met.Mark q)) t = q ≡ t
+  Leads (Ok (met.Gap q)) t = q ≡ t
+  Leads (Ok met.Nothing) t = ⊥
+  Leads (Err d) t = ⊥
 
-  one_way : (x : Met) {t t₂ : ℕ} → Leads x t → Leads x t₂ → t ≡ t₂
-  one_way (met.Record n q) a b = sym a ∙ b
-  one_way (met.Mark q) a b = sym a ∙ b
-  one_way (met.Gap q) a b = sym a ∙ b
-  one_way met.Nothing a b = absurd a
-  one_way (met.Bad why k) a b = absurd a
+  one_way : (x : Result Met Damage) {t t₂ : ℕ} → Leads x t → Leads x t₂ → t ≡ t₂
+  one_way (Ok (met.Record n q)) a b = sym a ∙ b
+  one_way (Ok (met.Mark q)) a b = sym a ∙ b
+  one_way (Ok (met.Gap q)) a b = sym a ∙ b
+  one_way (Ok met.Nothing) a b = absurd a
+  one_way (Err d) a b = absurd a
 
   -- block k is the one named ahead of a position: by the pass from there, or further on, from where that pass leads
   data NamedAhead (why : BlockFault) (k : ℕ) : ℕ → Type 0 where
-    at_once : {q : ℕ} → passed s reverse q e ≡ met.Bad why k → NamedAhead why k q
+    at_once : {q : ℕ} → passed s reverse q e ≡ Err (damage why k) → NamedAhead why k q
     further : {q t : ℕ} → Leads (passed s reverse q e) t → NamedAhead why k t → NamedAhead why k q
 
   -- behind what was read over too, an object at a time
@@ -261,11 +263,13 @@ module _ (s : List ℕ) (e : ℕ) (reverse : Bool) where
 
   first_named : {p : ℕ} {why : BlockFault} {k : ℕ} → FirstFault s e reverse p why k → NamedAhead why k p
   first_named {why = why} {k = k} f =
-      named_behind f.before (at_once (first_bad s e reverse f.from k f.fault ∙ ap (λ (g : BlockFault). met.Bad g k) (wrong_told s k why f.wrong)))
+      named_behind f.before (at_once (first_bad s e reverse f.from k f.fault ∙ ap (λ (g : BlockFault). Err (damage g k)) (wrong_told s k why f.wrong)))
 
   -- a pass from one position has one outcome
   one_named : {why why₂ : BlockFault} {k k₂ q : ℕ} → NamedAhead why k q → NamedAhead why₂ k₂ q → (why ≡ why₂) × (k ≡ k₂)
-  one_named (at_once y) (at_once z) = (cc (y, z), cc (y, z))
+  one_named {why} {why₂} {k} {k₂} (at_once y) (at_once z) =
+      let e : damage why k ≡ damage why₂ k₂ = cc (y, z) in
+      (ap (λ (d : Damage). d.fault) e, ap (λ (d : Damage). d.block) e)
   one_named (at_once y) (further l b) = absurd (rw y at l)
   one_named (further l a) (at_once z) = absurd (rw z at l)
   one_named {why₂ = why₂} {k₂ = k₂} {q = q} (further l a) (further l₂ b) = one_named a (subst (NamedAhead why₂ k₂) (one_way (passed s reverse q e) l₂ l) b)
@@ -277,17 +281,17 @@ module _ (s : List ℕ) (e : ℕ) (reverse : Bool) where
 module _ (s : List ℕ) (e : ℕ) where
   -- the first fault from block 0 where a sweep names a block
   abbrev SweptOver : Swept → Type 0
-  SweptOver swept.Whole = Always
-  SweptOver (swept.Bad why k) = FirstFault s e false 0 why k
+  SweptOver (Ok u) = Always
+  SweptOver (Err d) = FirstFault s e false 0 d.fault d.block
 
   -- one turn of the sweep: every object sends it on
-  swept_on_lem : (q : ℕ) (x : Met) (onward : ℕ → Swept) → ReadOver s e false 0 q → passed s false q e ≡ x → ((t : ℕ) → ReadOver s e false 0 t → SweptOver (onward t)) → SweptOver (swept_on x onward)
+  swept_on_lem : (q : ℕ) (x : Result Met Damage) (onward : ℕ → Swept) → ReadOver s e false 0 q → passed s false q e ≡ x → ((t : ℕ) → ReadOver s e false 0 t → SweptOver (onward t)) → SweptOver (swept_on x onward)
   unfolding swept_on
-  swept_on_lem q (met.Record n t) onward o y on = on t (then_record o y)
-  swept_on_lem q (met.Mark t) onward o y on = on t (then_mark o y)
-  swept_on_lem q (met.Gap t) onward o y on = on t (then_gap o y)
-  swept_on_lem q met.Nothing onward o y on = tt
-  swept_on_lem q (met.Bad why k) onward o y on = first_here s e false (omega arith) o y
+  swept_on_lem q (Ok (met.Record n t)) onward o y on = on t (then_record o y)
+  swept_on_lem q (Ok (met.Mark t)) onward o y on = on t (then_mark o y)
+  swept_on_lem q (Ok (met.Gap t)) onward o y on = on t (then_gap o y)
+  swept_on_lem q (Ok met.Nothing) onward o y on = tt
+  swept_on_lem q (Err d) onward o y on = first_here s e false (omega arith) o y
 
   -- every turn, from a position that was read over to
   swept_from_lem : (turns q : ℕ) → ReadOver s e false 0 q → SweptOver (swept_from turns s q e)
@@ -296,6 +300,6 @@ module _ (s : List ℕ) (e : ℕ) where
   swept_from_lem (suc turns) q o = swept_on_lem q (passed s false q e) (λ t. swept_from turns s t e) o refl (λ t a. swept_from_lem turns t a)
 
   -- "Mount reads every block below the end it is given": the sweep names the first block at fault
-  pub swept_first : (why : BlockFault) (k : ℕ) → swept_below s e ≡ swept.Bad why k → FirstFault s e false 0 why k
+  pub swept_first : (why : BlockFault) (k : ℕ) → swept_below s e ≡ Err (damage why k) → FirstFault s e false 0 why k
   unfolding swept_below_under
   swept_first why k y = rw y at (swept_from_lem e 0 nothing_yet)

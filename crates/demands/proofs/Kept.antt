@@ -21,7 +21,6 @@ use Rattle.motions.specs.Reads.{read_one, reread}
 use Rattle.motions.specs.Spaces.{positioned}
 use Rattle.motions.specs.Writes.{behind_gap, no_room, retried, retried_under, retried_by, retried_by_under, written_at, written_at_under, written_motion_under}
 use Rattle.motions.specs.declared.parts.Laid.{Laid}
-use Rattle.motions.specs.declared.parts.Motion.TheVariants as motion
 use Rattle.motions.specs.declared.parts.Ending.{Ending}
 use Rattle.motions.specs.declared.reads.Buffer.{Buffer}
 use Rattle.motions.proofs.Ends.{Has}
@@ -32,6 +31,8 @@ use Rattle.storing.proofs.Staying.{memory_kept, reel_kept_above, reel_kept_below
 use Rattle.advance.specs.Steps.{advanced}
 use Rattle.advance.proofs.Planned.{advanced_seven}
 use Rattle.demands.specs.Stays.{KeptBelow, StopsAt}
+use Rattle.std.specs.Prelude.{Result, Ok, Err}
+use Rattle.tape.specs.declared.Damage.{Damage}
 
 module _ (u : Unit) (m s : List ℕ) where
   -- "Data byte i lies at address pointer + i; with SWB at that address with its lowest bit flipped." No other byte changes but the message's.
@@ -51,10 +52,10 @@ module _ (s m : List ℕ) where
 
   -- a Read or a space lays nothing
   module _ (t : Tape) (h : t.position ≤ t.end) {x : Ending} where
-    pub read_keeps_reel : (r : Buffer) (reverse opp : Bool) → (read_one s t r reverse ≡ motion.Ended x) ⊎ (reread s t r reverse opp ≡ motion.Ended x) → laid_on s m x.laid ≡ s
+    pub read_keeps_reel : (r : Buffer) (reverse opp : Bool) → (read_one s t r reverse ≡ Ok x) ⊎ (reread s t r reverse opp ≡ Ok x) → laid_on s m x.laid ≡ s
     read_keeps_reel r reverse opp y = rw (read_fits s t h r reverse opp y).unlaid none_laid
 
-    pub space_keeps_reel : (r : Rule) (count : Count) (enb : Bool) → positioned s t r count enb ≡ motion.Ended x → laid_on s m x.laid ≡ s
+    pub space_keeps_reel : (r : Rule) (count : Count) (enb : Bool) → positioned s t r count enb ≡ Ok x → laid_on s m x.laid ≡ s
     space_keeps_reel r count enb y = rw (space_fits s t h r count enb y).unlaid none_laid
 
   module _ (t : Tape) (blocks : ℕ) where
@@ -66,17 +67,17 @@ module _ (s m : List ℕ) where
         (λ j h. reel_kept_below m s l j h)
 
     -- "Writing stores only the new object's blocks": a Write or a Format lays from the position on, and the reel below it stays
-    pub write_keeps_below : (l : Laid) (mark : Bool) {x : Ending} → l.at ≡ t.position → written_at t blocks l mark ≡ motion.Ended x → KeptBelow s m t.position x
+    pub write_keeps_below : (l : Laid) (mark : Bool) {x : Ending} → l.at ≡ t.position → written_at t blocks l mark ≡ Ok x → KeptBelow s m t.position x
     write_keeps_below l mark e y = rw (← e) (rw y at (write_has l mark))
 
-    retry_by : (l : Laid) (mark : Bool) (q : ℕ) (f : Sought) → StopsAt q f → Has (KeptBelow s m q) (retried_by t blocks l mark f)
+    retry_by : (l : Laid) (mark : Bool) (q : ℕ) (f : Result Sought Damage) → StopsAt q f → Has (KeptBelow s m q) (retried_by t blocks l mark f)
     unfolding retried_by_under behind_gap
-    retry_by l mark q (sought-as.Record n q') e = rw e (write_has (behind_gap l q') mark)
-    retry_by l mark q (sought-as.Mark q') e = rw e (write_has (behind_gap l q') mark)
-    retry_by l mark q (sought-as.Nothing q') e = λ j h. ap (λ (r : List ℕ). get_or r j 0) none_laid
-    retry_by l mark q (sought-as.Bad why k) e = tt
+    retry_by l mark q (Ok (sought-as.Record n q')) e = rw e (write_has (behind_gap l q') mark)
+    retry_by l mark q (Ok (sought-as.Mark q')) e = rw e (write_has (behind_gap l q') mark)
+    retry_by l mark q (Ok (sought-as.Nothing q')) e = λ j h. ap (λ (r : List ℕ). get_or r j 0) none_laid
+    retry_by l mark q (Err d) e = tt
 
     -- "Retry: space reverse over gaps and one record or mark, then a one-block gap, then the new object. None found: .. nothing written."
-    pub retry_keeps_below : (l : Laid) (mark : Bool) (q : ℕ) {x : Ending} → StopsAt q (sought s true t.position t.end) → retried s t blocks l mark ≡ motion.Ended x → KeptBelow s m q x
+    pub retry_keeps_below : (l : Laid) (mark : Bool) (q : ℕ) {x : Ending} → StopsAt q (sought s true t.position t.end) → retried s t blocks l mark ≡ Ok x → KeptBelow s m q x
     unfolding retried_under
     retry_keeps_below l mark q e y = rw y at (retry_by l mark q (sought s true t.position t.end) e)

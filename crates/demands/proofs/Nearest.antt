@@ -13,6 +13,8 @@ use Rattle.moves.specs.declared.seeking.Sought.{Sought}
 use Rattle.moves.specs.declared.seeking.Sought.TheVariants as sought-as
 use Rattle.moves.proofs.Bounds.{back_again, backward, bound_to, one_cut}
 use Rattle.moves.proofs.Finds.{finds}
+use Rattle.std.specs.Prelude.{Result, Ok}
+use Rattle.tape.specs.declared.Damage.{Damage}
 
 -- an object that is no gap is not among gaps
 not_among : {gs : List Object} → Gaps gs → (xs : List Object) (o : Object) (ys : List Object) → (o ≡ gap → ⊥) → gs ≡ xs ++ (o ∷ ys) → ⊥
@@ -58,7 +60,7 @@ module _ {os : List Object} (h : AllAllowed os) (d : List ℕ) {gaps : List Obje
     one_reverse : {q' : ℕ} (o : Object) {gaps' : List Object} → Gaps gaps' → (o ≡ gap → ⊥) → (w' : Between os true p q' (o ∷ gaps')) → (w.before ≡ w'.before) × (record_of d ≡ o)
     one_reverse o {gaps'} g' n w' = same_back w.before w'.before (record_of d) o g g' (record_no_gap d) n (cut_reverse (o ∷ gaps') w')
 
-    nearest_reverse : {f : Sought} → Finds os true p f → f ≡ sought-as.Record (length d) q
+    nearest_reverse : {f : Result Sought Damage} → Finds os true p f → f ≡ Ok (sought-as.Record (length d) q)
     unfolding blocks_of
     nearest_reverse (finds_record d' g' w') =
         let same = one_reverse (record_of d') g' (record_no_gap d') w' in
@@ -80,7 +82,7 @@ module _ {os : List Object} (h : AllAllowed os) (d : List ℕ) {gaps : List Obje
         let rest : gaps ++ (record_of d ∷ w.after) ≡ gaps' ++ (o ∷ w'.after) = (cut_forward (gaps' ++ (o ∷ [])) w').1 ∙ append_assoc gaps' (o ∷ []) w'.after in
         same_front g g' (record_of d) o w.after w'.after (record_no_gap d) n rest
 
-    nearest_forward : {f : Sought} → Finds os false p f → f ≡ sought-as.Record (length d) q
+    nearest_forward : {f : Result Sought Damage} → Finds os false p f → f ≡ Ok (sought-as.Record (length d) q)
     nearest_forward (finds_record d' {gaps = gaps'} g' w') =
         let same = one_forward (record_of d') g' (record_no_gap d') w' in
         let bytes : d ≡ d' = cc same.1 in
@@ -96,6 +98,6 @@ pub bound_from : {os : List Object} (reverse : Bool) {p q : ℕ} {mid : List Obj
 bound_from true w = bound_to false (back_again w)
 bound_from false w = bound_to true (backward w)
 
-pub nearest : {s : List ℕ} {e : ℕ} {os : List Object} → Holds s e os → (reverse : Bool) (d : List ℕ) (gaps : List Object) {p q : ℕ} → Gaps gaps → Between os reverse p q (with_gaps reverse gaps (record_of d)) → sought s reverse p e ≡ sought-as.Record (length d) q
+pub nearest : {s : List ℕ} {e : ℕ} {os : List Object} → Holds s e os → (reverse : Bool) (d : List ℕ) (gaps : List Object) {p q : ℕ} → Gaps gaps → Between os reverse p q (with_gaps reverse gaps (record_of d)) → sought s reverse p e ≡ Ok (sought-as.Record (length d) q)
 nearest h true d gaps g w = nearest_reverse h.allowed d g w (finds h true (bound_from true w))
 nearest h false d gaps g w = nearest_forward h.allowed d g w (finds h false (bound_from false w))

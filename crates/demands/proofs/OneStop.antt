@@ -21,6 +21,8 @@ use Rattle.moves.specs.declared.spacing.Count.{Count}
 use Rattle.moves.specs.declared.spacing.Rule.{Rule}
 use Rattle.demands.specs.Done.{passed_in}
 use Rattle.demands.specs.Stops.{Goes, Over, SpaceEnded, SpaceRefused, Stopped, at_bot, at_logical_end, at_recorded_end, by_mark, from_start, mark_passed, past_gap, past_mark, past_record, satisfied, since_mark}
+use Rattle.std.specs.Prelude.{Result, Ok, Err}
+use Rattle.tape.specs.declared.Damage.{Damage}
 
 -- what an end tells
 record Told : Type 0 where
@@ -66,21 +68,21 @@ module _ (s : List ℕ) (t : Tape) (rule : Rule) (count : Count) where
   left_at x = how_many count - x.done
 
   -- by what is met
-  abbrev on_met : Place → Met → Next
-  on_met x (met.Record n b) = goes_on (place b (x.done + pick (of_marks count) 0 1) x.tmk false)
-  on_met x (met.Gap b) = goes_on (place b x.done x.tmk x.after)
-  on_met x (met.Mark b) =
+  abbrev on_met : Place → Result Met Damage → Next
+  on_met x (Ok (met.Record n b)) = goes_on (place b (x.done + pick (of_marks count) 0 1) x.tmk false)
+  on_met x (Ok (met.Gap b)) = goes_on (place b x.done x.tmk x.after)
+  on_met x (Ok (met.Mark b)) =
       let l : ℕ = left_at x - 1 in
       pick (of_marks count)
       (pick (rule.ess && x.after) (halts (tells b l 2 (TMK + LET + flag_of (not (eqb l 0)) RLS) (flag_of rule.reverse REV))) (goes_on (place b (x.done + pick (of_marks count) 1 0) true true)))
       (halts (tells b (left_at x) 2 (TMK + RLS) (flag_of rule.reverse REV)))
-  on_met x met.Nothing =
+  on_met x (Ok met.Nothing) =
       pick rule.reverse
       (halts (tells x.at (left_at x) 2 (flag_of x.tmk TMK + flag_of (not (eqb (left_at x) 0)) RLS) (REV + RIB)))
       (halts (tells x.at (left_at x) 6 (flag_of x.tmk TMK) OPI))
-  on_met x (met.Bad why k) = faults
+  on_met x (Err d) = faults
 
-  abbrev met_ahead : Place → Met
+  abbrev met_ahead : Place → Result Met Damage
   met_ahead x = passed s rule.reverse x.at t.end
 
   -- one object further, while some of the count is left
@@ -110,15 +112,15 @@ module _ (s : List ℕ) (t : Tape) (rule : Rule) (count : Count) where
   one_last {z₂ = z₂} (later {y = y} a l) (later b k) = one_last l (subst (Leads z₂) (ap (λ n. place_of n y) (sym b ∙ a)) k)
 
   -- the next object decides, while some of the count is left
-  next_met : (x : Place) (m : Met) → x.done < how_many count → met_ahead x ≡ m → next x ≡ on_met x m
+  next_met : (x : Place) (m : Result Met Damage) → x.done < how_many count → met_ahead x ≡ m → next x ≡ on_met x m
   next_met x m h y = rw (lt-ltb x.done (how_many count) h, y)
 
   -- a mark that is counted
-  mark_on : (x : Place) (b : ℕ) → of_marks count ≡ true → (rule.ess && x.after) ≡ false → on_met x (met.Mark b) ≡ goes_on (place b (x.done + pick (of_marks count) 1 0) true true)
+  mark_on : (x : Place) (b : ℕ) → of_marks count ≡ true → (rule.ess && x.after) ≡ false → on_met x (Ok (met.Mark b)) ≡ goes_on (place b (x.done + pick (of_marks count) 1 0) true true)
   mark_on x b z w = rw (z, w)
 
   -- where nothing lies ahead nothing is met
-  none_ahead : (reverse : Bool) (q : ℕ) → ahead reverse q t.end ≡ 0 → passed s reverse q t.end ≡ met.Nothing
+  none_ahead : (reverse : Bool) (q : ℕ) → ahead reverse q t.end ≡ 0 → passed s reverse q t.end ≡ Ok met.Nothing
   unfolding passed_under
   none_ahead reverse q h = rw (eq-eqb (ahead reverse q t.end) 0 h)
 
@@ -126,24 +128,24 @@ module _ (s : List ℕ) (t : Tape) (rule : Rule) (count : Count) where
   done_halts : (x : Place) (left : ℕ) → left ≡ 0 → x.done + left ≡ how_many count → next x ≡ halts (tells x.at left 0 (flag_of x.tmk TMK) (flag_of rule.reverse REV))
   done_halts x left z c = rw (le-ltb x.done (how_many count) (omega arith), z)
 
-  mark_halts : (x : Place) (b left : ℕ) → of_marks count ≡ false → x.done + left ≡ how_many count → on_met x (met.Mark b) ≡ halts (tells b left 2 (TMK + RLS) (flag_of rule.reverse REV))
+  mark_halts : (x : Place) (b left : ℕ) → of_marks count ≡ false → x.done + left ≡ how_many count → on_met x (Ok (met.Mark b)) ≡ halts (tells b left 2 (TMK + RLS) (flag_of rule.reverse REV))
   mark_halts x b left z c =
       let l : how_many count - x.done ≡ left = omega arith in
       rw (z, l)
 
   logical_halts : (x : Place) (b left : ℕ) → of_marks count ≡ true → (rule.ess && x.after) ≡ true → x.done + 1 + left ≡ how_many count
-      → on_met x (met.Mark b) ≡ halts (tells b left 2 (TMK + LET + flag_of (not (eqb left 0)) RLS) (flag_of rule.reverse REV))
+      → on_met x (Ok (met.Mark b)) ≡ halts (tells b left 2 (TMK + LET + flag_of (not (eqb left 0)) RLS) (flag_of rule.reverse REV))
   logical_halts x b left z w c =
       let l : how_many count - x.done - 1 ≡ left = omega arith in
       rw (z, w, l)
 
   bot_halts : (x : Place) (left : ℕ) → rule.reverse ≡ true → x.done + left ≡ how_many count
-      → on_met x met.Nothing ≡ halts (tells x.at left 2 (flag_of x.tmk TMK + flag_of (not (eqb left 0)) RLS) (REV + RIB))
+      → on_met x (Ok met.Nothing) ≡ halts (tells x.at left 2 (flag_of x.tmk TMK + flag_of (not (eqb left 0)) RLS) (REV + RIB))
   bot_halts x left z c =
       let l : how_many count - x.done ≡ left = omega arith in
       rw (z, l)
 
-  recorded_halts : (x : Place) (left : ℕ) → rule.reverse ≡ false → x.done + left ≡ how_many count → on_met x met.Nothing ≡ halts (tells x.at left 6 (flag_of x.tmk TMK) OPI)
+  recorded_halts : (x : Place) (left : ℕ) → rule.reverse ≡ false → x.done + left ≡ how_many count → on_met x (Ok met.Nothing) ≡ halts (tells x.at left 6 (flag_of x.tmk TMK) OPI)
   recorded_halts x left z c =
       let l : how_many count - x.done ≡ left = omega arith in
       rw (z, l)
@@ -172,9 +174,9 @@ module _ (s : List ℕ) (t : Tape) (rule : Rule) (count : Count) where
     why_leads {left = left} c (at_logical_end {q = q} {r = r} {x = x} g h z w) =
         let one : pick {A = ℕ} (of_marks count) 1 0 ≡ 1 = rw z in
         goes_leads g (now (next_met (behind q r) _ h x ∙ logical_halts (behind q r) _ left z w (omega (arith, one, c))) refl)
-    why_leads c (at_bot {q = q} {r = r} g h z a) = goes_leads g (now (next_met (behind q r) met.Nothing h (rw z (none_ahead true q a)) ∙ bot_halts (behind q r) _ z c) refl)
+    why_leads c (at_bot {q = q} {r = r} g h z a) = goes_leads g (now (next_met (behind q r) (Ok met.Nothing) h (rw z (none_ahead true q a)) ∙ bot_halts (behind q r) _ z c) refl)
     why_leads c (at_recorded_end {q = q} {r = r} g h z a) =
-        goes_leads g (now (next_met (behind q r) met.Nothing h (rw z (none_ahead false q a)) ∙ recorded_halts (behind q r) _ z c) refl)
+        goes_leads g (now (next_met (behind q r) (Ok met.Nothing) h (rw z (none_ahead false q a)) ∙ recorded_halts (behind q r) _ z c) refl)
 
     abbrev told_by_lem : Ending → Told
     told_by_lem x = tells x.tape.position (residual_word x.end.residual) x.end.class x.end.found x.end.xst3

@@ -7,6 +7,7 @@ use native.Mathlib.Omega.{arith}
 use borrow.Author.Tests.{eqb-true, ltb-false, ltb-true, ne_eqb}
 use lib.Dec.{eqb, leb, ltb}
 use lib.ListN.{length}
+use Rattle.std.specs.Prelude.{Option, Some, None}
 use Rattle.tape.specs.declared.BlockFault.{BlockFault}
 use Rattle.lists.specs.Pick.{Always}
 use Rattle.lists.proofs.Cases.{by_test, pick_told}
@@ -27,11 +28,13 @@ use Rattle.moves.specs.declared.seeking.Sought.TheVariants as sought-as
 use Rattle.motions.specs.Parts.{laid_blocks}
 use Rattle.motions.specs.Writes.{behind_gap, no_room, retried, retried_under, retried_by, retried_by_under, written_at, written_at_under, written_motion_under}
 use Rattle.motions.specs.declared.parts.Laid.{Laid}
-use Rattle.motions.specs.declared.parts.Motion.{Motion}
+use Rattle.motions.specs.declared.parts.Ending.{Ending}
+use Rattle.std.specs.Prelude.{Ok, Err}
 use Rattle.commands.specs.Commands.{carried_out, carried_out_under, characteristics_at, characterized, characterized_under, formatted_under, plain_effect_under, positioned_by, positioned_by_under, refused_characteristics_under, released, rewound_under, taken_characteristics_under, unloaded_under, written_by_under}
 use Rattle.commands.specs.Ends.{motion_plan, still, told_under, untold}
-use Rattle.commands.specs.declared.plans.Answer.{Answer}
-use Rattle.commands.specs.declared.plans.Answer.TheVariants as answer
+use Rattle.state.proofs.Behind.{in_block}
+use Rattle.commands.specs.Answers.{Answer, bad_block}
+use Rattle.commands.specs.declared.plans.Done.TheVariants as answer
 use Rattle.commands.specs.declared.plans.Plan.{Plan}
 use Rattle.advance.specs.Rules.{reverse_first, writes}
 use Rattle.advance.specs.Steps.{advanced}
@@ -46,13 +49,14 @@ use Rattle.demands.proofs.Faults.{first_here}
 use Rattle.demands.proofs.Meets.{Answers, Comes, Meets, meets, motion_answers}
 use Rattle.demands.proofs.Stopping.{space_comes, space_of_none}
 use Rattle.demands.proofs.Ways.{advanced_way}
+use Rattle.std.specs.Prelude.{Result}
+use Rattle.tape.specs.declared.Damage.{Damage}
 
 -- what the block named means, said in other words
 answers_as : (F G : BlockFault → ℕ → Type 0) (a : Answer) → ((why : BlockFault) (k : ℕ) → F why k → G why k) → Answers F a → Answers G a
-answers_as F G (answer.BadBlock why k) f h = f why k h
-answers_as F G (answer.Done i) f h = tt
-answers_as F G answer.Idle f h = tt
-answers_as F G (answer.Refused n) f h = tt
+answers_as F G (Ok (answer.Step i)) f h = tt
+answers_as F G (Ok answer.Idle) f h = tt
+answers_as F G (Err r) f h = in_block Always f r h
 
 -- the commands that read one object: a Read, and a retry, which goes in reverse first
 abbrev reads_one : Header → Bool
@@ -87,15 +91,15 @@ module _ (F : BlockFault → ℕ → Type 0) where
   rewind_none v m s h x mode l =
       let other : (k : ℕ) → k < 4 → eqb mode k ≡ false = λ k j. ne_eqb mode k (λ z. omega arith) in
       rw (other 0 (omega arith), other 1 (omega arith), other 2 (omega arith), other 3 (omega arith))
-      (either (λ c. Answers F (carried_out v m s h x c).answer) (eqb mode 4) command.Rewind command.Illegal tt tt)
+      (either (λ c. Answers F (carried_out v m s h x c).answer) (eqb mode 4) (Some command.Rewind) None tt tt)
 
 module _ (u : Unit) (m s : List ℕ) (inside : u.tape.position ≤ u.tape.end) where
   -- a command that runs
   module _ (ran : RunsOn u m s) where
-    abbrev Must : Command → Type 0
+    abbrev Must : Option Command → Type 0
     Must c = Answers (MustRead u m s) (carried_out (started u m s) m s (header u m s) (packet u m s) c).answer
 
-    abbrev Moves : Motion → Type 0
+    abbrev Moves : Result Ending Damage → Type 0
     Moves y = Answers (MustRead u m s) (motion_plan (started u m s) (header u m s).ie y).answer
 
     -- a Read
@@ -108,18 +112,18 @@ module _ (u : Unit) (m s : List ℕ) (inside : u.tape.position ≤ u.tape.end) w
 
     -- a retry, by what its space back met
     module _ (l : Laid) (mark : Bool) (one : reads_one (header u m s) ≡ true) where
-      retry_by : (f : Sought) → Meets s u.tape.end (way u m s) (Gapped u m s) (λ q t g y. after_gap g y) u.tape.position f
+      retry_by : (f : Result Sought Damage) → Meets s u.tape.end (way u m s) (Gapped u m s) (λ q t g y. after_gap g y) u.tape.position f
           → Comes (λ x. Always) (MustRead u m s) (retried_by u.tape u.lengths.blocks l mark f)
       unfolding retried_by_under
-      retry_by (sought-as.Record n q) o = written_none (MustRead u m s) u.tape u.lengths.blocks (behind_gap l q) mark
-      retry_by (sought-as.Mark q) o = written_none (MustRead u m s) u.tape u.lengths.blocks (behind_gap l q) mark
-      retry_by (sought-as.Nothing q) o = tt
-      retry_by (sought-as.Bad why k) (q, g, y) = of_one ran one g y
+      retry_by (Ok (sought-as.Record n q)) o = written_none (MustRead u m s) u.tape u.lengths.blocks (behind_gap l q) mark
+      retry_by (Ok (sought-as.Mark q)) o = written_none (MustRead u m s) u.tape u.lengths.blocks (behind_gap l q) mark
+      retry_by (Ok (sought-as.Nothing q)) o = tt
+      retry_by (Err d) (q, g, y) = of_one ran one g y
 
       retry_must : way u m s ≡ true → Moves (retried s u.tape u.lengths.blocks l mark)
       unfolding retried_under
       retry_must back =
-          let by : Bool → Motion = λ b. retried_by u.tape u.lengths.blocks l mark (sought s b u.tape.position u.tape.end) in
+          let by : Bool → Result Ending Damage = λ b. retried_by u.tape u.lengths.blocks l mark (sought s b u.tape.position u.tape.end) in
           subst (λ b. Moves (by b)) back
           (motion_answers (λ x. Always) (MustRead u m s) (started u m s) (header u m s).ie (by (way u m s))
           (retry_by _ (meets s u.tape.end (way u m s) (Gapped u m s) (λ q t g y. after_gap g y) u.tape.position at_once)))
@@ -201,7 +205,7 @@ module _ (u : Unit) (m s : List ℕ) (inside : u.tape.position ≤ u.tape.end) w
   way_must (carried r a) = command_must (r, a)
 
 -- "7 a block that mount or the command must read is damaged or out of place (its number is given)": the command must read it
-pub advanced_must : (u : Unit) (m s : List ℕ) (why : BlockFault) (k : ℕ) → u.tape.position ≤ u.tape.end → (advanced u m s).answer ≡ answer.BadBlock why k → MustRead u m s why k
+pub advanced_must : (u : Unit) (m s : List ℕ) (why : BlockFault) (k : ℕ) → u.tape.position ≤ u.tape.end → (advanced u m s).answer ≡ bad_block why k → MustRead u m s why k
 advanced_must u m s why k inside y =
     let a : Answers (MustRead u m s) (advanced u m s).answer = way_must u m s inside (advanced_way u m s) in
     rw y at a

@@ -31,14 +31,16 @@ use Rattle.motions.specs.declared.reads.Buffer.{Buffer}
 use Rattle.storing.specs.Stored.{laid_object, laid_on, moved_on}
 use Rattle.demands.specs.ReadBack.{GivesAll, written, written_at_block, written_end}
 use Rattle.storing.proofs.Ways.{blocks_after_gap, blocks_alone, laid_after_gap, laid_alone}
+use Rattle.std.specs.Prelude.{Ok}
+use native.Mathlib.Nat.{sub-zero}
 
 -- a record met at once is what the search finds
-pub found_at_once : (s : List ℕ) (reverse : Bool) (p e n q : ℕ) → 0 < e → passed s reverse p e ≡ met.Record n q → sought s reverse p e ≡ sought-as.Record n q
+pub found_at_once : (s : List ℕ) (reverse : Bool) (p e n q : ℕ) → 0 < e → passed s reverse p e ≡ Ok (met.Record n q) → sought s reverse p e ≡ Ok (sought-as.Record n q)
 unfolding sought_under sought_on
-found_at_once s reverse p e n q h k = sym (seek_turn e s reverse p e {m = met.Record n q} {r = sought-as.Record n q} h (sym k) refl)
+found_at_once s reverse p e n q h k = sym (rw sub-zero at (seek_turn 0 s reverse p e {m = Ok (met.Record n q)} {r = Ok (sought-as.Record n q)} h (sym k) refl))
 
 -- and a Read that finds one moves it
-pub read_found : (s : List ℕ) (reverse : Bool) (p e n q : ℕ) (r : Buffer) → sought s reverse p e ≡ sought-as.Record n q → read_one s (standing p e) r reverse ≡ read_motion r reverse n q (standing q e) reverse
+pub read_found : (s : List ℕ) (reverse : Bool) (p e n q : ℕ) (r : Buffer) → sought s reverse p e ≡ Ok (sought-as.Record n q) → read_one s (standing p e) r reverse ≡ read_motion r reverse n q (standing q e) reverse
 unfolding read_one_under stage_of_under stage_by on_record
 read_found s reverse p e n q r k = rw k
 

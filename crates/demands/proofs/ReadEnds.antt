@@ -18,6 +18,8 @@ use Rattle.motions.specs.Reads.{first_block, on_record, read_motion, read_one, r
 use Rattle.motions.specs.declared.reads.Buffer.{Buffer}
 use Rattle.storing.specs.Stored.{moved_on}
 use Rattle.demands.specs.Reading.{Moves, ReadEnds, met_mark, met_nothing, met_record}
+use Rattle.std.specs.Prelude.{Result}
+use Rattle.tape.specs.declared.Damage.{Damage}
 
 module _ {s : List ℕ} {e : ℕ} {os : List Object} (h : Holds s e os) (r : Buffer) (reverse : Bool) {p : ℕ} where
   -- a motion that moves the record found
@@ -29,7 +31,7 @@ module _ {s : List ℕ} {e : ℕ} {os : List Object} (h : Holds s e os) (r : Buf
       (_, refl, record { tape = refl; told = refl; bytes = λ m. rw its-bytes })
 
   module _ (b : Bound os p) where
-    one_by : {f : Sought} → Finds os reverse p f → ReadEnds os p e r reverse (λ d q. Moves s e r d reverse reverse q) (on_record (stage_by (standing p e) r.count reverse f) (λ n q. read_motion r reverse n q (standing q e) reverse))
+    one_by : {f : Result Sought Damage} → Finds os reverse p f → ReadEnds os p e r reverse (λ d q. Moves s e r d reverse reverse q) (on_record (stage_by (standing p e) r.count reverse f) (λ n q. read_motion r reverse n q (standing q e) reverse))
     unfolding on_record stage_by stop_motion first_block
     one_by (finds_record d {gaps = gaps} {q = q} g w) = met_record d g w (moves_found d gaps w reverse reverse q q refl)
     one_by (finds_mark g w) = met_mark g w

@@ -25,12 +25,14 @@ use Rattle.moves.proofs.FoundAt.{found_stands}
 use Rattle.moves.proofs.Within.{sought_record}
 use Rattle.motions.specs.Parts.{standing}
 use Rattle.motions.specs.Reads.{first_block, on_record, read_one, read_then_space_under, reread, reread_under, space_back, space_back_under, space_then_read_under, stage_by, stage_of_under, stop_motion}
-use Rattle.motions.specs.declared.parts.Motion.{Motion}
+use Rattle.motions.specs.declared.parts.Ending.{Ending}
 use Rattle.motions.specs.declared.reads.Buffer.{Buffer}
 use Rattle.demands.specs.Reading.{BothStages, Moves, ReadEnds, met_mark, met_nothing, met_record}
 use Rattle.demands.proofs.Nearest.{bound_from, nearest}
 use Rattle.demands.proofs.ReadBack.{found_at_once, read_found}
 use Rattle.demands.proofs.ReadEnds.{moves_found}
+use Rattle.std.specs.Prelude.{Result, Ok}
+use Rattle.tape.specs.declared.Damage.{Damage}
 
 -- the record's blocks lie ahead on the way back, and stand where the way back meets them
 back_ahead : (reverse : Bool) (e n q : ℕ) → RecordIn reverse e n q → pieces_of n ≤ ahead (not reverse) q e
@@ -48,12 +50,12 @@ back_first true n q = omega arith
 back_first false n q = refl
 
 module _ {s : List ℕ} {e : ℕ} {os : List Object} (h : Holds s e os) (r : Buffer) (reverse : Bool) {p : ℕ} (b : Bound os p) where
-  module _ (d : List ℕ) (gaps : List Object) {q : ℕ} (w : Between os reverse p q (with_gaps reverse gaps (record_of d))) (k : sought s reverse p e ≡ sought-as.Record (length d) q) where
+  module _ (d : List ℕ) (gaps : List Object) {q : ℕ} (w : Between os reverse p q (with_gaps reverse gaps (record_of d))) (k : sought s reverse p e ≡ Ok (sought-as.Record (length d) q)) where
     inside : RecordIn reverse e (length d) q
     inside = sought_record s reverse p e (bound_below h b) k
 
     -- the second stage meets the same record
-    second : sought s (not reverse) q e ≡ sought-as.Record (length d) (beyond (not reverse) q (pieces_of (length d)))
+    second : sought s (not reverse) q e ≡ Ok (sought-as.Record (length d) (beyond (not reverse) q (pieces_of (length d))))
     unfolding met_as blocks_in
     second =
         let f = found_stands reverse gaps (record_of d) h w in
@@ -71,10 +73,10 @@ module _ {s : List ℕ} {e : ℕ} {os : List Object} (h : Holds s e os) (r : Buf
     then_space = rw second (moves_found h r reverse d gaps w reverse (not reverse) q _ refl)
 
   -- by what the first stage found, with the read last or, with OPP, first
-  abbrev Ends : Bool → Motion → Type 0
+  abbrev Ends : Bool → Result Ending Damage → Type 0
   Ends opp a = ReadEnds os p e r reverse (BothStages s e r reverse opp) a
 
-  by_first : (opp : Bool) {f : Sought} → sought s reverse p e ≡ f → Finds os reverse p f
+  by_first : (opp : Bool) {f : Result Sought Damage} → sought s reverse p e ≡ f → Finds os reverse p f
       → Ends opp
       (pick opp
       (on_record (stage_by (standing p e) r.count reverse f) (λ n q. space_back s e r reverse n q))

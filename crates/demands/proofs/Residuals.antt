@@ -10,7 +10,6 @@ use lib.Dec.{eqb}
 use Rattle.lists.specs.Pick.{Always}
 use Rattle.lists.proofs.Cases.{pick_told}
 use Rattle.tape.specs.Objects.{Holds, Object}
-use Rattle.tape.specs.declared.BlockFault.{BlockFault}
 use Rattle.signals.specs.Residuals.{residual_word}
 use Rattle.signals.specs.declared.message.End.{End}
 use Rattle.state.specs.declared.Tape.{Tape}
@@ -28,18 +27,18 @@ use Rattle.moves.specs.declared.spacing.Spaced.{Spaced}
 use Rattle.moves.specs.declared.spacing.Stop.{Stop}
 use Rattle.moves.specs.declared.spacing.Stop.TheVariants as stop-as
 use Rattle.moves.proofs.Bounds.{bound_below, stays}
-use Rattle.moves.proofs.Counts.{spaced_between, spaced_sound, spaced_why}
-use Rattle.motions.specs.Parts.{end, moved_length, standing, stops}
+use Rattle.moves.proofs.Counts.{spaced_between, spaced_why}
+use Rattle.motions.specs.Parts.{end, moved_length, stops}
 use Rattle.motions.specs.Reads.{mark_end, nothing_end, on_record, read_end, read_motion, read_one, read_one_under, read_then_space, read_then_space_under, reread, reread_under, space_back, space_back_under, space_then_read, space_then_read_under, stage_by, stage_of, stage_of_under, stop_motion}
 use Rattle.motions.specs.Spaces.{positioned, positioned_under, residual_of, space_end, space_motion, space_motion_by, start_span}
-use Rattle.motions.specs.declared.parts.Motion.{Motion}
-use Rattle.motions.specs.declared.parts.Motion.TheVariants as motion
 use Rattle.motions.specs.declared.parts.Ending.{Ending}
 use Rattle.motions.specs.declared.reads.Buffer.{Buffer}
 use Rattle.motions.specs.declared.reads.Stage.{Stage}
 use Rattle.motions.proofs.Ends.{Has}
 use Rattle.motions.proofs.Onward.{StageHas, on_record_lem}
 use Rattle.demands.specs.Spacing.{SpacedPast}
+use Rattle.std.specs.Prelude.{Result, Ok, Err}
+use Rattle.tape.specs.declared.Damage.{Damage}
 
 -- the bytes that a Read moved and its residual
 module _ (r : Buffer) where
@@ -60,15 +59,15 @@ module _ (r : Buffer) where
   nothing_adds false q e = omega arith
 
   -- a stage that is over
-  abbrev StageAdds : Stage → Type 0
+  abbrev StageAdds : Result Stage Damage → Type 0
   StageAdds = StageHas (Has Adds) (λ n q. Always)
 
-  stage_by_lem : (t : Tape) (reverse : Bool) (f : Sought) → StageAdds (stage_by t r.count reverse f)
+  stage_by_lem : (t : Tape) (reverse : Bool) (f : Result Sought Damage) → StageAdds (stage_by t r.count reverse f)
   unfolding stage_by stop_motion
-  stage_by_lem t reverse (sought-as.Record n q) = tt
-  stage_by_lem t reverse (sought-as.Mark q) = mark_adds reverse q t.end
-  stage_by_lem t reverse (sought-as.Nothing q) = nothing_adds reverse q t.end
-  stage_by_lem t reverse (sought-as.Bad why k) = tt
+  stage_by_lem t reverse (Ok (sought-as.Record n q)) = tt
+  stage_by_lem t reverse (Ok (sought-as.Mark q)) = mark_adds reverse q t.end
+  stage_by_lem t reverse (Ok (sought-as.Nothing q)) = nothing_adds reverse q t.end
+  stage_by_lem t reverse (Err d) = tt
 
   module _ (s : List ℕ) where
     stage_adds : (t : Tape) (reverse : Bool) → StageAdds (stage_of s t r.count reverse)
@@ -76,7 +75,7 @@ module _ (r : Buffer) where
     stage_adds t reverse = stage_by_lem t reverse _
 
     -- what goes on from a stage
-    goes_on : (t : Tape) (reverse : Bool) (f : ℕ → ℕ → Motion) → ((n q : ℕ) → Has Adds (f n q)) → Has Adds (on_record (stage_of s t r.count reverse) f)
+    goes_on : (t : Tape) (reverse : Bool) (f : ℕ → ℕ → Result Ending Damage) → ((n q : ℕ) → Has Adds (f n q)) → Has Adds (on_record (stage_of s t r.count reverse) f)
     goes_on t reverse f h = on_record_lem (Has Adds) (λ n q. Always) _ f (stage_adds t reverse) (λ n q i. h n q)
 
     one_adds : (t : Tape) (reverse : Bool) → Has Adds (read_one s t r reverse)
@@ -101,11 +100,11 @@ module _ (r : Buffer) where
 
 module _ (s : List ℕ) (t : Tape) (r : Buffer) (reverse : Bool) {x : Ending} where
   -- "The residual counts bytes for Read"
-  pub read_residual : read_one s t r reverse ≡ motion.Ended x → moved_length x.moved + residual_word x.end.residual ≡ r.count.0
+  pub read_residual : read_one s t r reverse ≡ Ok x → moved_length x.moved + residual_word x.end.residual ≡ r.count.0
   read_residual y = rw y at (one_adds r s t reverse)
 
   -- "A mark, BOT or end in the first stage ends it, residual as if nothing moved."
-  pub reread_residual : (opp : Bool) → reread s t r reverse opp ≡ motion.Ended x → moved_length x.moved + residual_word x.end.residual ≡ r.count.0
+  pub reread_residual : (opp : Bool) → reread s t r reverse opp ≡ Ok x → moved_length x.moved + residual_word x.end.residual ≡ r.count.0
   reread_residual opp y = rw y at (reread_adds r s t reverse opp)
 
 -- the number in a Position's residual
@@ -123,15 +122,13 @@ module _ (r : Rule) (x : Span) where
   left_told stop-as.LogicalEnd = residual_word_lem x.left
   left_told stop-as.Nothing =
       either (λ (y : End). residual_word y.residual ≡ how_many x.left) r.reverse _ _ (residual_word_lem x.left) (residual_word_lem x.left)
-  left_told (stop-as.Bad why k) = residual_word_lem x.left
 
-  class_told : (stop : Stop) → ((why : BlockFault) (k : ℕ) → stop ≡ stop-as.Bad why k → ⊥) → (space_end r x stop).class ≡ 0 → stop ≡ stop-as.Count
+  class_told : (stop : Stop) → (space_end r x stop).class ≡ 0 → stop ≡ stop-as.Count
   unfolding space_end
-  class_told stop-as.Count n c = refl
-  class_told stop-as.Mark n c = absurd (omega arith)
-  class_told stop-as.LogicalEnd n c = absurd (omega arith)
-  class_told stop-as.Nothing n c = absurd (either (λ (y : End). y.class ≡ 0 → ⊥) r.reverse _ _ (λ z. omega arith) (λ z. omega arith) c)
-  class_told (stop-as.Bad why k) n c = absurd (n why k refl)
+  class_told stop-as.Count c = refl
+  class_told stop-as.Mark c = absurd (omega arith)
+  class_told stop-as.LogicalEnd c = absurd (omega arith)
+  class_told stop-as.Nothing c = absurd (either (λ (y : End). y.class ≡ 0 → ⊥) r.reverse _ _ (λ z. omega arith) (λ z. omega arith) c)
 
 module _ {s : List ℕ} {os : List Object} (t : Tape) (h : Holds s t.end os) (b : Bound os t.position) (r : Rule) (count : Count) where
   -- "A Position count of 0 moves nothing, class 0"
@@ -149,34 +146,28 @@ module _ {s : List ℕ} {os : List Object} (t : Tape) (h : Holds s t.end os) (b 
     abbrev from : Span
     from = start_span t count enb
 
-    abbrev spaces : Spaced
-    spaces = spaced s r t.end from
-
-    stopped_as : (stop : Stop) → spaces.stop ≡ stop → Has (SpacedPast os r t.position count) (stops (space_end r spaces.span stop) (standing spaces.span.position t.end))
-    stopped_as stop e =
-        let done = spaced_between h r from b in
+    stopped_as : {z : Spaced} → spaced s r t.end from ≡ Ok z → Has (SpacedPast os r t.position count) (space_motion_by r z.span t.end z.stop)
+    unfolding space_motion_by
+    stopped_as {z} y =
+        let done = spaced_between h r from b y in
+        let why = rw y at (spaced_why s r t.end from (bound_below h b)) in
         record {
           mid = done.0;
           between = done.1;
-          counted = rw (left_told r spaces.span stop) done.2;
-          whole =
-              λ c. left_told r spaces.span stop
-              ∙ spaced_why s r t.end from (bound_below h b) (e ∙ class_told r spaces.span stop (λ why k z. spaced_sound h r from b why k (e ∙ z)) c);
+          counted = rw (left_told r z.span z.stop) done.2;
+          whole = λ c. left_told r z.span z.stop ∙ why (class_told r z.span z.stop c);
         }
 
-    motion_by : (stop : Stop) → spaces.stop ≡ stop → Has (SpacedPast os r t.position count) (space_motion_by r spaces.span t.end stop)
-    unfolding space_motion_by
-    motion_by stop-as.Count e = stopped_as stop-as.Count e
-    motion_by stop-as.Mark e = stopped_as stop-as.Mark e
-    motion_by stop-as.LogicalEnd e = stopped_as stop-as.LogicalEnd e
-    motion_by stop-as.Nothing e = stopped_as stop-as.Nothing e
-    motion_by (stop-as.Bad why k) e = tt
+    motion_by : (f : Result Spaced Damage) → spaced s r t.end from ≡ f → Has (SpacedPast os r t.position count) (space_motion r f t.end)
+    unfolding space_motion
+    motion_by (Ok z) y = stopped_as y
+    motion_by (Err d) y = tt
 
     passes : Has (SpacedPast os r t.position count) (positioned s t r count enb)
-    unfolding positioned_under space_motion
-    passes = pick_told (Has (SpacedPast os r t.position count)) (eqb (how_many count) 0) _ _ none_asked (λ e. motion_by spaces.stop refl)
+    unfolding positioned_under
+    passes = pick_told (Has (SpacedPast os r t.position count)) (eqb (how_many count) 0) _ _ none_asked (λ e. motion_by (spaced s r t.end from) refl)
 
-    module _ {x : Ending} (y : positioned s t r count enb ≡ motion.Ended x) where
+    module _ {x : Ending} (y : positioned s t r count enb ≡ Ok x) where
       passed_as : SpacedPast os r t.position count x
       passed_as = rw y at passes
 

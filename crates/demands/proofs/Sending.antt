@@ -6,6 +6,7 @@ use mathlib.Core.Path.{◌≡◌, refl}
 use Prim.Native.Nat.{ℕ}
 use native.Mathlib.Omega.{arith}
 use lib.Dec.{eqb}
+use Rattle.std.specs.Prelude.{Option, Some, None}
 use Rattle.tape.proofs.Accepted.{clash}
 use Rattle.signals.specs.Codes.{command_of, format_mode, position_mode, read_mode, single_mode, write_mode}
 use Rattle.signals.specs.declared.codes.Command.{Command}
@@ -14,41 +15,43 @@ use Rattle.signals.specs.declared.packet.Header.{Header}
 use Rattle.signals.specs.declared.packet.Packet.{Packet}
 use Rattle.state.specs.declared.Unit.{Unit}
 use Rattle.state.proofs.Tests.{either}
-use Rattle.motions.specs.declared.parts.Motion.{Motion}
-use Rattle.motions.specs.declared.parts.Motion.TheVariants as motion
+use Rattle.motions.specs.declared.parts.Ending.{Ending}
+use Rattle.std.specs.Prelude.{Ok}
 use Rattle.commands.specs.Commands.{carried_out, carried_out_under, formatted_under, plain_effect_under, positioned_by_under, read_by_under, reread_by_under, rewound_under, unloaded_under, written_by_under}
 use Rattle.commands.specs.Ends.{ended, motion_plan, motion_plan_under, still, told_under, told_unit}
-use Rattle.commands.specs.declared.plans.Answer.TheVariants as answer
+use Rattle.commands.specs.declared.plans.Done.TheVariants as answer
 use Rattle.commands.specs.declared.plans.Plan.{Plan}
 use Rattle.advance.specs.Steps.{advanced}
 use Rattle.demands.specs.Ways.{Fetched, Way, attention, bad_pointer, carried, header, idle, locked, lost, no_buffer, no_extent, no_header, no_words, no_execution, not_mounted, not_owned, packet, started, unknown}
 use Rattle.demands.proofs.Ways.{advanced_way}
+use Rattle.std.specs.Prelude.{Result, Err}
+use Rattle.tape.specs.declared.Damage.{Damage}
 
 -- the commands that end with a message where there is a buffer before them
-abbrev telling : Command → Bool
-telling command.WriteCharacteristics = false
-telling command.Release = false
-telling command.ReadNext = true
-telling command.ReadPrevious = true
-telling command.RereadPrevious = true
-telling command.RereadNext = true
-telling command.Write = true
-telling command.WriteRetry = true
-telling command.RecordsForward = true
-telling command.RecordsReverse = true
-telling command.MarksForward = true
-telling command.MarksReverse = true
-telling command.Rewind = true
-telling command.WriteMark = true
-telling command.Erase = true
-telling command.MarkRetry = true
-telling command.Unload = true
-telling command.Clean = true
-telling command.Initialize = true
-telling command.GetStatus = true
-telling command.Illegal = true
+abbrev telling : Option Command → Bool
+telling (Some command.WriteCharacteristics) = false
+telling (Some command.Release) = false
+telling (Some command.ReadNext) = true
+telling (Some command.ReadPrevious) = true
+telling (Some command.RereadPrevious) = true
+telling (Some command.RereadNext) = true
+telling (Some command.Write) = true
+telling (Some command.WriteRetry) = true
+telling (Some command.RecordsForward) = true
+telling (Some command.RecordsReverse) = true
+telling (Some command.MarksForward) = true
+telling (Some command.MarksReverse) = true
+telling (Some command.Rewind) = true
+telling (Some command.WriteMark) = true
+telling (Some command.Erase) = true
+telling (Some command.MarkRetry) = true
+telling (Some command.Unload) = true
+telling (Some command.Clean) = true
+telling (Some command.Initialize) = true
+telling (Some command.GetStatus) = true
+telling None = true
 
-abbrev Telling : Command → Type 0
+abbrev Telling : Option Command → Type 0
 Telling c = telling c ≡ true
 
 telling_code : (code mode : ℕ) → eqb code 4 ≡ false → eqb code 10 ≡ false → Telling (command_of code mode)
@@ -66,37 +69,37 @@ telling_code code mode four ten =
 
 -- a plan that is done sends
 abbrev Done : Plan → Type 0
-Done x = (i : Bool) → x.answer ≡ answer.Done i → x.sends ≡ true
+Done x = (i : Bool) → x.answer ≡ Ok (answer.Step i) → x.sends ≡ true
 
 module _ (v : Unit) (clear : v.registers.nba ≡ false) where
-  motion_done : (ie : Bool) (y : Motion) → Done (motion_plan v ie y)
+  motion_done : (ie : Bool) (y : Result Ending Damage) → Done (motion_plan v ie y)
   unfolding motion_plan_under told_under told_unit ended still
-  motion_done ie (motion.Ended x) i e = rw clear
-  motion_done ie (motion.Fault why k) i e = absurd (clash (cc e))
+  motion_done ie (Ok x) i e = rw clear
+  motion_done ie (Err d) i e = absurd (clash (cc e))
 
-  carried_done : (m s : List ℕ) (h : Header) (p : Packet) (c : Command) → Telling c → Done (carried_out v m s h p c)
+  carried_done : (m s : List ℕ) (h : Header) (p : Packet) (c : Option Command) → Telling c → Done (carried_out v m s h p c)
   unfolding carried_out_under read_by_under reread_by_under positioned_by_under written_by_under formatted_under rewound_under unloaded_under plain_effect_under told_under told_unit ended
-  carried_done m s h p command.ReadNext t = motion_done h.ie _
-  carried_done m s h p command.ReadPrevious t = motion_done h.ie _
-  carried_done m s h p command.RereadPrevious t = motion_done h.ie _
-  carried_done m s h p command.RereadNext t = motion_done h.ie _
-  carried_done m s h p command.WriteCharacteristics t = absurd (clash (cc t))
-  carried_done m s h p command.Write t = motion_done h.ie _
-  carried_done m s h p command.WriteRetry t = motion_done h.ie _
-  carried_done m s h p command.RecordsForward t = motion_done h.ie _
-  carried_done m s h p command.RecordsReverse t = motion_done h.ie _
-  carried_done m s h p command.MarksForward t = motion_done h.ie _
-  carried_done m s h p command.MarksReverse t = motion_done h.ie _
-  carried_done m s h p command.Rewind t = λ i e. rw clear
-  carried_done m s h p command.WriteMark t = motion_done h.ie _
-  carried_done m s h p command.Erase t = motion_done h.ie _
-  carried_done m s h p command.MarkRetry t = motion_done h.ie _
-  carried_done m s h p command.Release t = absurd (clash (cc t))
-  carried_done m s h p command.Unload t = λ i e. rw clear
-  carried_done m s h p command.Clean t = λ i e. rw clear
-  carried_done m s h p command.Initialize t = λ i e. rw clear
-  carried_done m s h p command.GetStatus t = λ i e. rw clear
-  carried_done m s h p command.Illegal t = λ i e. rw clear
+  carried_done m s h p (Some command.ReadNext) t = motion_done h.ie _
+  carried_done m s h p (Some command.ReadPrevious) t = motion_done h.ie _
+  carried_done m s h p (Some command.RereadPrevious) t = motion_done h.ie _
+  carried_done m s h p (Some command.RereadNext) t = motion_done h.ie _
+  carried_done m s h p (Some command.WriteCharacteristics) t = absurd (clash (cc t))
+  carried_done m s h p (Some command.Write) t = motion_done h.ie _
+  carried_done m s h p (Some command.WriteRetry) t = motion_done h.ie _
+  carried_done m s h p (Some command.RecordsForward) t = motion_done h.ie _
+  carried_done m s h p (Some command.RecordsReverse) t = motion_done h.ie _
+  carried_done m s h p (Some command.MarksForward) t = motion_done h.ie _
+  carried_done m s h p (Some command.MarksReverse) t = motion_done h.ie _
+  carried_done m s h p (Some command.Rewind) t = λ i e. rw clear
+  carried_done m s h p (Some command.WriteMark) t = motion_done h.ie _
+  carried_done m s h p (Some command.Erase) t = motion_done h.ie _
+  carried_done m s h p (Some command.MarkRetry) t = motion_done h.ie _
+  carried_done m s h p (Some command.Release) t = absurd (clash (cc t))
+  carried_done m s h p (Some command.Unload) t = λ i e. rw clear
+  carried_done m s h p (Some command.Clean) t = λ i e. rw clear
+  carried_done m s h p (Some command.Initialize) t = λ i e. rw clear
+  carried_done m s h p (Some command.GetStatus) t = λ i e. rw clear
+  carried_done m s h p None t = λ i e. rw clear
 
 -- a part that counts only where the other does not hold
 both_clear : (a b : Bool) → (a && not b) ≡ false → b ≡ false → a ≡ false
@@ -124,5 +127,5 @@ module _ (u : Unit) (m s : List ℕ) (f : Fetched u m s) (four : eqb (header u m
   way_done (no_extent r a) = λ i e. rw clear_buffer
   way_done (carried r a) = carried_done (started u m s) clear_buffer m s (header u m s) (packet u m s) _ (telling_code (header u m s).code (header u m s).mode four ten)
 
-  pub fetched_sends : (i : Bool) → (advanced u m s).answer ≡ answer.Done i → (advanced u m s).sends ≡ true
+  pub fetched_sends : (i : Bool) → (advanced u m s).answer ≡ Ok (answer.Step i) → (advanced u m s).sends ≡ true
   fetched_sends = way_done (advanced_way u m s)

@@ -1,7 +1,7 @@
 -- "Done plus residual equals the count asked": what was really stored in memory, or passed on the reel, and the residual word that stands in
 -- the message buffer. (01, "The message": "The residual counts bytes for Read, records or marks for Position modes 0 to 3 .. Ended at steps 8
 -- to 10 they give the whole count")
-use Rattle.std.specs.Prelude.{Bool, true, false, ◌&&◌, not, List, [], ◌≡◌, ℕ, ◌+◌, ◌*◌, ◌/◌, ◌<◌, ◌≤◌, eqb, leb, ltb, length}
+use Rattle.std.specs.Prelude.{Bool, true, false, ◌&&◌, not, List, [], ◌≡◌, ℕ, ◌+◌, ◌*◌, ◌/◌, ◌<◌, ◌≤◌, eqb, leb, ltb, length, Ok}
 use Rattle.lists.specs.Pick.{pick}
 use Rattle.lists.specs.Places.{placed}
 use Rattle.lists.specs.Words.{word_at}
@@ -41,7 +41,7 @@ module _ (u : Unit) (m s : List ℕ) where
 
   pub data Gapped : ℕ → Type 0 where
     at_once : Gapped u.tape.position
-    after_gap : {q q' : ℕ} → Gapped q → passed s way q u.tape.end ≡ met.Gap q' → Gapped q'
+    after_gap : {q q' : ℕ} → Gapped q → passed s way q u.tape.end ≡ Ok (met.Gap q') → Gapped q'
 
   -- a reread's read goes the other way unless OPP puts it first, and leaves the tape at the edge of the record that is met first
   abbrev pub again : Bool
@@ -59,11 +59,11 @@ module _ (u : Unit) (m s : List ℕ) where
     -- ended at steps 8 to 10
     not_run : {class found : ℕ} → (RunsOn → ⊥) → ReadStops [] class found 0 u.tape.position
     -- "A mark: TMK, RLS, class 2, position past it, nothing moved."
-    at_mark : {q q' : ℕ} → RunsOn → Gapped q → passed s way q u.tape.end ≡ met.Mark q' → ReadStops [] 2 (TMK + RLS) (flag_of way REV) q'
+    at_mark : {q q' : ℕ} → RunsOn → Gapped q → passed s way q u.tape.end ≡ Ok (met.Mark q') → ReadStops [] 2 (TMK + RLS) (flag_of way REV) q'
     -- "Forward at the recorded end: OPI, class 6. Reverse to block 0 with no further record or mark: RIB, class 2, position 0."
     at_end : {q : ℕ} → RunsOn → Gapped q → ahead way q u.tape.end ≡ 0 → ReadStops [] (pick way 2 6) 0 (pick way (REV + RIB) OPI) q
     -- "Record longer than the count: RLL; shorter: RLS; class 2": the first record that lies ahead
-    at_record : {q q' n : ℕ} → RunsOn → Gapped q → passed s way q u.tape.end ≡ met.Record n q'
+    at_record : {q q' n : ℕ} → RunsOn → Gapped q → passed s way q u.tape.end ≡ Ok (met.Record n q')
         → ReadStops (moved_bytes reads (packet u m s).count (record_bytes s (lowest way q (pieces_of n)) n)) (pick (eqb n (packet u m s).count) 0 2)
         (flag_of (ltb n (packet u m s).count) RLS + flag_of (ltb (packet u m s).count n) RLL)
         (flag_of (pick again (not way) way) REV)

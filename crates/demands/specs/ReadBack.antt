@@ -1,15 +1,14 @@
 -- A record that was written, and a Read that gives all of it back.
-use Rattle.std.specs.Prelude.{◌≡◌, List, ℕ, ◌+◌}
+use Rattle.std.specs.Prelude.{◌≡◌, List, ℕ, ◌+◌, Result, Ok}
 use Rattle.lists.specs.Pick.{pick}
 use Rattle.lists.specs.Places.{gathered, placed}
 use Rattle.signals.specs.Residuals.{residual_word}
 use Rattle.motions.specs.Parts.{laid_blocks}
 use Rattle.motions.specs.declared.parts.Ending.{Ending}
 use Rattle.motions.specs.declared.parts.Laid.{Laid}
-use Rattle.motions.specs.declared.parts.Motion.{Motion}
-use Rattle.motions.specs.declared.parts.Motion.TheVariants as motion
 use Rattle.motions.specs.declared.reads.Buffer.{Buffer}
 use Rattle.storing.specs.Stored.{moved_on}
+use Rattle.tape.specs.declared.Damage.{Damage}
 
 -- the bytes that a Write lays: "Data byte i lies at address pointer + i; with SWB at that address with its lowest bit flipped."
 abbrev pub written : List ℕ → Laid → List ℕ
@@ -32,5 +31,5 @@ pub record GaveAll (s : List ℕ) (r : Buffer) (d : List ℕ) (q : ℕ) (x : End
   pub place : x.tape.position ≡ q
   pub bytes : (m : List ℕ) → moved_on s x.moved m ≡ placed r.swb m r.pointer d
 
-abbrev pub GivesAll : List ℕ → Buffer → List ℕ → ℕ → Motion → Type 0
-GivesAll s r d q a = (x : Ending) × (a ≡ motion.Ended x) × GaveAll s r d q x
+abbrev pub GivesAll : List ℕ → Buffer → List ℕ → ℕ → Result Ending Damage → Type 0
+GivesAll s r d q a = (x : Ending) × (a ≡ Ok x) × GaveAll s r d q x

@@ -2,7 +2,7 @@
 -- Marks: TMK if one was passed. In Marks with ESS two marks with no record between them in one command, or with ENB too a mark met first from
 -- block 0, end it, that mark counted: LET, class 2. In Records and Marks alike, RLS if BOT or LET left any count." "Forward at the recorded end:
 -- OPI, class 6. Reverse to block 0 with no further record or mark: RIB, class 2, position 0." (01, Commands)
-use Rattle.std.specs.Prelude.{Bool, true, false, ◌&&◌, not, List, ◌≡◌, ℕ, ◌+◌, ◌<◌, eqb}
+use Rattle.std.specs.Prelude.{Bool, true, false, ◌&&◌, not, List, ◌≡◌, ℕ, ◌+◌, ◌<◌, eqb, Ok, Err}
 use Rattle.tape.specs.Pass.{ahead, passed}
 use Rattle.tape.specs.declared.Met.TheVariants as met
 use Rattle.tape.specs.declared.BlockFault.{BlockFault}
@@ -16,6 +16,7 @@ use Rattle.moves.specs.declared.spacing.Count.{Count}
 use Rattle.moves.specs.declared.spacing.Rule.{Rule}
 use Rattle.demands.specs.Done.{passed_in}
 use Rattle.demands.specs.Faults.{ReadOver, nothing_yet, then_gap, then_mark, then_record}
+use Rattle.tape.specs.Damage.{damage}
 
 module _ {s : List ℕ} {e : ℕ} {reverse : Bool} {p : ℕ} where
   -- was a mark read over?
@@ -36,11 +37,11 @@ module _ {s : List ℕ} {e : ℕ} {reverse : Bool} {p : ℕ} where
   -- second in a row
   pub data Goes (rule : Rule) (count : Count) (first : Bool) : (q : ℕ) → ReadOver s e reverse p q → Type 0 where
     from_start : Goes rule count first p nothing_yet
-    past_record : {q q' n : ℕ} {r : ReadOver s e reverse p q} {x : passed s reverse q e ≡ met.Record n q'} → passed_in (of_marks count) r < how_many count
+    past_record : {q q' n : ℕ} {r : ReadOver s e reverse p q} {x : passed s reverse q e ≡ Ok (met.Record n q')} → passed_in (of_marks count) r < how_many count
         → Goes rule count first q r → Goes rule count first q' (then_record r x)
-    past_gap : {q q' : ℕ} {r : ReadOver s e reverse p q} {x : passed s reverse q e ≡ met.Gap q'} → passed_in (of_marks count) r < how_many count
+    past_gap : {q q' : ℕ} {r : ReadOver s e reverse p q} {x : passed s reverse q e ≡ Ok (met.Gap q')} → passed_in (of_marks count) r < how_many count
         → Goes rule count first q r → Goes rule count first q' (then_gap r x)
-    past_mark : {q q' : ℕ} {r : ReadOver s e reverse p q} {x : passed s reverse q e ≡ met.Mark q'} → passed_in (of_marks count) r < how_many count
+    past_mark : {q q' : ℕ} {r : ReadOver s e reverse p q} {x : passed s reverse q e ≡ Ok (met.Mark q')} → passed_in (of_marks count) r < how_many count
         → of_marks count ≡ true → (rule.ess && since_mark first r) ≡ false → Goes rule count first q r → Goes rule count first q' (then_mark r x)
 
 -- of a Position by the rule r with this count from the tape t on the reel s: the objects read over, and its class, XST0's upper bits and XST3. `left`
@@ -53,10 +54,10 @@ module _ (s : List ℕ) (t : Tape) (rule : Rule) (count : Count) (first : Bool) 
     -- the count is satisfied, by the object read over last
     satisfied : {q : ℕ} {r : Over q} → Goes rule count first q r → left ≡ 0 → Stopped left q r 0 (flag_of (mark_passed r) TMK) (flag_of rule.reverse REV)
     -- records, and a mark
-    by_mark : {q q' : ℕ} {r : Over q} {x : passed s rule.reverse q t.end ≡ met.Mark q'} → Goes rule count first q r → passed_in (of_marks count) r < how_many count → of_marks count ≡ false
+    by_mark : {q q' : ℕ} {r : Over q} {x : passed s rule.reverse q t.end ≡ Ok (met.Mark q')} → Goes rule count first q r → passed_in (of_marks count) r < how_many count → of_marks count ≡ false
         → Stopped left q' (then_mark r x) 2 (TMK + RLS) (flag_of rule.reverse REV)
     -- marks, and the second in a row
-    at_logical_end : {q q' : ℕ} {r : Over q} {x : passed s rule.reverse q t.end ≡ met.Mark q'} → Goes rule count first q r → passed_in (of_marks count) r < how_many count
+    at_logical_end : {q q' : ℕ} {r : Over q} {x : passed s rule.reverse q t.end ≡ Ok (met.Mark q')} → Goes rule count first q r → passed_in (of_marks count) r < how_many count
         → of_marks count ≡ true → (rule.ess && since_mark first r) ≡ true
         → Stopped left q' (then_mark r x) 2 (TMK + LET + flag_of (not (eqb left 0)) RLS) (flag_of rule.reverse REV)
     -- some of the count is left and nothing lies ahead, in reverse and forward
@@ -77,4 +78,4 @@ module _ (s : List ℕ) (t : Tape) (rule : Rule) (count : Count) (first : Bool) 
     pub over : Over from
     pub goes : Goes rule count first from over
     pub more : passed_in (of_marks count) over < how_many count
-    pub bad : passed s rule.reverse from t.end ≡ met.Bad why k
+    pub bad : passed s rule.reverse from t.end ≡ Err (damage why k)

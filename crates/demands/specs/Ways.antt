@@ -12,9 +12,10 @@ use Rattle.signals.specs.declared.counts.Residual.{Residual}
 use Rattle.signals.specs.declared.counts.Residual.TheVariants as residual
 use Rattle.state.specs.declared.Unit.{Unit}
 use Rattle.motions.specs.Parts.{end, resting}
+use Rattle.std.specs.Prelude.{Ok}
 use Rattle.commands.specs.Ends.{still, told, untold, with_attention, with_owner, with_panel}
 use Rattle.commands.specs.Commands.{carried_out}
-use Rattle.commands.specs.declared.plans.Answer.TheVariants as answer
+use Rattle.commands.specs.declared.plans.Done.TheVariants as answer
 use Rattle.commands.specs.declared.plans.Plan.{Plan}
 use Rattle.advance.specs.Rules.{has_extent, is_illegal, is_tape, not_executable, whole_count, writes}
 
@@ -73,7 +74,7 @@ module _ (u : Unit) (m s : List ℕ) where
 
   pub data Way : Plan → Type 0 where
     -- nothing to do
-    idle : u.registers.ssr ≡ true → (u.attention.pending && u.attention.unit_owns) ≡ false → Way (still u answer.Idle)
+    idle : u.registers.ssr ≡ true → (u.attention.pending && u.attention.unit_owns) ≡ false → Way (still u (Ok answer.Idle))
     -- an attention with no command waiting, with the release's IE
     attention : u.registers.ssr ≡ true → (u.attention.pending && u.attention.unit_owns) ≡ true
         → Way (ends (attended_to u) u.attention.release_ie 1 0 residual.Nothing)

@@ -10,23 +10,23 @@ use Rattle.lists.specs.Fours.{number_limit}
 use Rattle.touched.specs.Touches.{place_below}
 use Rattle.entries.specs.declared.Entry.{Entry}
 use Rattle.entries.specs.Bytes.{head_count}
-use Rattle.entries.specs.Numbers.{Small, bit_of, entry_of, numbers_of, touched_of, unit_of}
+use Rattle.entries.specs.Numbers.{Small, bit_of, entry_of, numbers_of, state_numbers, touched_of, unit_in}
 
 pub length_numbers : (e : Entry) → length (numbers_of e) ≡ head_count
-unfolding numbers_of
+unfolding numbers_of state_numbers
 length_numbers e = refl
 
 -- a number of four bytes, and a bit
-low : (x : ℕ) → x < number_limit → x % number_limit ≡ x
+pub low : (x : ℕ) → x < number_limit → x % number_limit ≡ x
 low x h = omega arith
 
-told : (b : Bool) → not (eqb (bit_of b) 0) ≡ b
+pub told : (b : Bool) → not (eqb (bit_of b) 0) ≡ b
 told true = refl
 told false = refl
 
 -- the places filled are not among the numbers: they end at the table's used part after the step, which is `top`
 pub entry_back : (e : Entry) (top : ℕ) → Small e → e.touched.place_at ≡ place_below top e.touched.places → entry_of (numbers_of e) top ≡ e
-unfolding numbers_of entry_of unit_of touched_of
+unfolding numbers_of state_numbers entry_of unit_in touched_of
 entry_back e top h at =
     let r = e.unit.registers in
     let p = e.unit.panel in

@@ -1,9 +1,9 @@
 -- An entry that was read and fits: it lies in the used journal, its places inside memory and reel, its lengths are the
 -- mount's, and it filled no more than the table's used places.
 use mathlib.Core.Path.{◌≡◌, refl, sym, ◌∙◌}
-use mathlib.Core.Bool.{Bool, true, false, ◌&&◌, not, and-eq-true_iff}
+use mathlib.Core.Bool.{Bool, true, false, ◌&&◌, and-eq-true_iff}
 use Prim.Native.Nat.{ℕ, ◌+◌, ◌≤◌}
-use borrow.Author.Tests.{eq-eqb, eqb-true, le-leb, leb-true, not-false, not-true}
+use borrow.Author.Tests.{eq-eqb, eqb-true, le-leb, leb-true}
 use lib.Dec.{eqb, leb}
 use Rattle.state.specs.declared.Lengths.{Lengths}
 use Rattle.touched.specs.Touches.{Sizes, TouchedIn, saved_length, touched_fits}
@@ -57,20 +57,20 @@ module _ (e : Entry) (used : ℕ) (mounted : Lengths) (memory reel top : ℕ) wh
     abbrev right : Bool
     right = x && (y && fill)
 
-    passed : not right ≡ false → (y && fill) ≡ true
-    passed t = ((and-eq-true_iff x (y && fill)).0 (not-false right t)).1
+    passed : right ≡ true → (y && fill) ≡ true
+    passed t = ((and-eq-true_iff x (y && fill)).0 t).1
 
-    pub unfit : not right ≡ true → false ≡ entry_fits e used mounted memory reel top
+    pub unfit : right ≡ false → false ≡ entry_fits e used mounted memory reel top
     unfolding entry_fits
-    unfit t = sym (rw (← dx, ← dy) (by_parts x (y && fill) (not-true right t)))
+    unfit t = sym (rw (← dx, ← dy) (by_parts x (y && fill) t))
       where
         by_parts : (a b : Bool) → (a && b) ≡ false → (a && (b && leb (entry_length e) used)) ≡ false
         by_parts true b h = rw h
         by_parts false b h = refl
 
-    pub places_in_lem : Sizes memory reel → not right ≡ false → TouchedIn e.touched memory reel
+    pub places_in_lem : Sizes memory reel → right ≡ true → TouchedIn e.touched memory reel
     places_in_lem z t = fits_in e.touched memory reel z (sym dy ∙ ((and-eq-true_iff y fill).0 (passed t)).0)
 
-    pub fit_by : (s : ℕ) → not right ≡ false → s ≡ saved_length e.touched → leb (entry_bare + s) used ≡ entry_fits e used mounted memory reel top
+    pub fit_by : (s : ℕ) → right ≡ true → s ≡ saved_length e.touched → leb (entry_bare + s) used ≡ entry_fits e used mounted memory reel top
     unfolding entry_fits entry_length
-    fit_by s t k = rw (← dx, ← dy, ((and-eq-true_iff x (y && fill)).0 (not-false right t)).0, passed t, k)
+    fit_by s t k = rw (← dx, ← dy, ((and-eq-true_iff x (y && fill)).0 t).0, passed t, k)

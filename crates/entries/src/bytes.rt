@@ -9,28 +9,18 @@ pub fn put_head(b: &mut [u8], at: usize, n: [u32; 31])
     requires { at + head_length ≤ length b.old }
     ensures { b.new ≡ sets b.old at (numbers_bytes n) }
 {
-    let mut i: usize = 0;
-    while i < 31 {
+    for i in 0..31 {
         put_number(b, at + 4 * i, n[i]);
-        i += 1;
     }
-}
-
-fn blank() -> [u32; 31]
-    ensures { length result ≡ head_count }
-{
-    [0u32; 31]
 }
 
 pub fn head_at(b: &[u8], at: usize) -> [u32; 31]
     requires { at + head_length ≤ length b.now }
     ensures { result ≡ head_numbers head_count (drop at b.now) }
 {
-    let mut n = blank();
-    let mut i: usize = 0;
-    while i < 31 {
-        n[i] = number_at(b, at + 4 * i);
-        i += 1;
+    let mut n = [0; 31];
+    for (i, x) in n.iter_mut().enumerate() {
+        *x = number_at(b, at + 4 * i);
     }
     n
 }

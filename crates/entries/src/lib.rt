@@ -9,7 +9,7 @@ mod restoring;
 
 pub use bytes::{head_at, put_head};
 pub use entering::{enter, enter_bare, enter_run, entry_length};
-pub use numbers::{entry_of, numbers_of};
+pub use numbers::{entry_of, flags_right, numbers_of, state_numbers, unit_in};
 pub use restoring::{bring_entry_back, entry_fits, newest_entry};
 use state::Unit;
 use touched::Touched;
@@ -24,6 +24,7 @@ pub struct Entry {
 }
 
 // "Document 002 allows units 0 to 3": a transport's number is below this, and an entry with this number names none.
+// Kept: a number and no `Option`, since an entry's bytes may have any number, and the law `entry_back` gives back that very one.
 pub const TRANSPORTS: usize = 4;
 
 // The entry's length, at its front.

@@ -31,12 +31,9 @@ pub fn entry_fits(
     ensures { result ≡ entry_fits e used mounted memory reel top }
 {
     let t = e.touched;
-    let same = (e.unit.lengths.memory == mounted.memory)
-        & (e.unit.lengths.blocks == mounted.blocks);
-    if !(same & (touched_fits(t, memory, reel) & (t.places as usize <= top))) {
-        return false;
-    }
-    BARE + saved_length(t, memory, reel) <= used
+    let right = (e.unit.lengths == mounted)
+        & (touched_fits(t, memory, reel) & (t.places as usize <= top));
+    right && BARE + saved_length(t, memory, reel) <= used
 }
 
 // The old bytes that stand in the entry below `used` go back to their places.

@@ -8,11 +8,12 @@ use borrow.Author.Tests.{eqb-false, eqb-true, le-ltb, ne_eqb}
 use lib.Dec.{eqb}
 use lib.ListN.{length}
 use lib.Seq.{get_or-set_same}
+use Rattle.std.specs.Prelude.{Ok, Err}
 use Rattle.lists.specs.Fours.{number_limit}
 use Rattle.lists.proofs.Cases.{by_test}
 use Rattle.state.proofs.Tests.{either}
-use Rattle.commands.specs.declared.plans.Answer.{Answer}
-use Rattle.commands.specs.declared.plans.Answer.TheVariants as answer
+use Rattle.commands.specs.Answers.{Answer}
+use Rattle.commands.specs.declared.plans.Done.TheVariants as answer
 use Rattle.unit.specs.Asks.{Ask, host_store}
 use Rattle.unit.specs.Cores.{Core}
 use Rattle.unit.specs.Steps.{Sound, Step, step_of, store_wrong, stored}
@@ -38,7 +39,7 @@ use Rattle.histories.proofs.Taking.{Stored, Taken, passing, present_is, step_tak
 
 -- a world that took a step, and whose newest entry is brought back
 module _ (n : ℕ) (w : World) (fit : Fit n w) (next : World) (x : Step) (t : Took w next x) (s : Sound w.core x) where
-  undo_taken : undo_on (taken_to w x) ≡ answered (answer.Done false) w
+  undo_taken : undo_on (taken_to w x) ≡ answered (Ok (answer.Step false)) w
   unfolding back_on guarded
   undo_taken =
       let room = has_room n w fit next x t in
@@ -50,7 +51,7 @@ module _ (n : ℕ) (w : World) (fit : Fit n w) (next : World) (x : Step) (t : To
 -- of a moment whose row is right, with an entry that names k
 module _ (n : ℕ) (ks : List ℕ) (s : Here) (f : Good n ks s) (every : EveryMounted ks s) where
   back_passes : (k : ℕ) → entry_bare ≤ (coupled_from n s).ledger.used → (eqb k transports || standing_in (seats_of s.core) k) ≡ true
-      → back_refusal (coupler_in (coupled_from n s)) (seats_of s.core) (length s.core.memory) n k ≡ 0
+      → back_refusal (coupler_in (coupled_from n s)) (seats_of s.core) (length s.core.memory) n k ≡ Ok tt
   unfolding back_refusal
   back_passes k l h =
       let used : ℕ = (coupled_from n s).ledger.used in
@@ -79,7 +80,7 @@ module _ (n k : ℕ) (a : Ask) (h : OfUnit a) (s : Here) (t : Taken n (coupled_f
   abbrev later : Coupled
   later = coupled_from n (step_to (step k a h) s)
 
-  put_before : lifted k later (answered (answer.Done false) (view_of k (coupled_from n s))) ≡ told (answer.Done false) (coupled_from n s)
+  put_before : lifted k later (answered (Ok (answer.Step false)) (view_of k (coupled_from n s))) ≡ told (Ok (answer.Step false)) (coupled_from n s)
   unfolding lifted next_rig
   put_before = rw (put_put k (core_of k s.core) its.after s.core, put_core k s.core)
 
@@ -87,7 +88,7 @@ module _ (n k : ℕ) (a : Ask) (h : OfUnit a) (s : Here) (t : Taken n (coupled_f
   taken_fit : length (coupled_from n s).ledger.bytes ≡ (coupled_from n s).ledger.used → Fit n (view_of k (coupled_from n s))
   taken_fit whole = record { sound = sound_asked n (view_of k (coupled_from n s)) a t.kind; whole = whole; named = omega (arith, (present_is (length s.core.decks) k t.present).1) }
 
-  undo_step : length (coupled_from n s).ledger.bytes ≡ (coupled_from n s).ledger.used → undo_named later k ≡ told (answer.Done false) (coupled_from n s)
+  undo_step : length (coupled_from n s).ledger.bytes ≡ (coupled_from n s).ledger.used → undo_named later k ≡ told (Ok (answer.Step false)) (coupled_from n s)
   unfolding undo_named
   undo_step whole =
       rw (ne_eqb k transports (λ e. omega (arith, e, (present_is (length s.core.decks) k t.present).1)))
@@ -110,12 +111,11 @@ module _ (n k : ℕ) (a : Ask) (h : OfUnit a) (s : Here) (t : Taken n (coupled_f
       ∙ ap (λ l. l.blocks) (taken_sound n k a h s t).lengths
 
 -- after a host store
-pub done_kind : (a : Answer) → step_kind a ≡ stepped → (i : Bool) × (a ≡ answer.Done i)
+pub done_kind : (a : Answer) → step_kind a ≡ stepped → (i : Bool) × (a ≡ Ok (answer.Step i))
 unfolding step_kind
-done_kind (answer.Done i) e = (i, refl)
-done_kind answer.Idle e = looked_none e
-done_kind (answer.Refused k) e = refused_none e
-done_kind (answer.BadBlock why k) e = refused_none e
+done_kind (Ok (answer.Step i)) e = (i, refl)
+done_kind (Ok answer.Idle) e = looked_none e
+done_kind (Err k) e = refused_none e
 
 module _ (n place : ℕ) (bytes : List ℕ) (s : Here) where
   abbrev stores : Step
@@ -135,7 +135,7 @@ module _ (n place : ℕ) (bytes : List ℕ) (s : Here) where
       let w : Coupled = coupled_from n s in
       ap (λ (c : Core). record { number = transports; core = c; ledger = noted w.ledger (entry_for transports (core_of_none s.core) stores) (core_of_none s.core) }) stores_core
 
-  unput : lifted_none behind (answered (answer.Done false) (view_of_none (coupled_from n s))) ≡ told (answer.Done false) (coupled_from n s)
+  unput : lifted_none behind (answered (Ok (answer.Step false)) (view_of_none (coupled_from n s))) ≡ told (Ok (answer.Step false)) (coupled_from n s)
   unfolding lifted_none next_rig core_of_none
   unput = refl
 
@@ -144,7 +144,7 @@ module _ (n place : ℕ) (bytes : List ℕ) (s : Here) where
   store_passed t = coupler_passed (coupler_in (coupled_from n s)) (length s.core.memory) n t.shared
 
   undo_store : Stored n (view_of_none (coupled_from n s)) place bytes → length (coupled_from n s).ledger.bytes ≡ (coupled_from n s).ledger.used
-      → undo_named behind transports ≡ told (answer.Done false) (coupled_from n s)
+      → undo_named behind transports ≡ told (Ok (answer.Step false)) (coupled_from n s)
   unfolding undo_named
   undo_store t whole =
       let w : Coupled = coupled_from n s in
@@ -163,14 +163,14 @@ name_small n (store place bytes) s e = omega arith
 name_small n (read_register k r) s e = read_none _ e
 
 undo_newest : (n : ℕ) (c : Call) (s : Here) → length (coupled_from n s).ledger.bytes ≡ (coupled_from n s).ledger.used → kind_now n c s ≡ stepped
-    → undo_named (coupled_from n (step_to c s)) (name_of c) ≡ told (answer.Done false) (coupled_from n s)
+    → undo_named (coupled_from n (step_to c s)) (name_of c) ≡ told (Ok (answer.Step false)) (coupled_from n s)
 unfolding on_call call_kind host_at lifted_none name_of
 undo_newest n (step k a h) s whole e = undo_step n k a h s (step_taken n (coupled_from n s) k a e) whole
 undo_newest n (store place bytes) s whole e = undo_store n place bytes s (store_taken n place bytes (view_of_none (coupled_from n s)) e) whole
 undo_newest n (read_register k r) s whole e = read_none _ e
 
 pub undo_named_lem : (n : ℕ) (c : Call) (s : Here) → length (coupled_from n s).ledger.bytes ≡ (coupled_from n s).ledger.used → kind_now n c s ≡ stepped
-    → undo_named (coupled_from n (step_to c s)) (named_in (coupled_from n (step_to c s)).ledger.bytes) ≡ told (answer.Done false) (coupled_from n s)
+    → undo_named (coupled_from n (step_to c s)) (named_in (coupled_from n (step_to c s)).ledger.bytes) ≡ told (Ok (answer.Step false)) (coupled_from n s)
 undo_named_lem n c s whole e = ap (undo_named (coupled_from n (step_to c s))) (names n c s (omega (arith, name_small n c s e))) ∙ undo_newest n c s whole e
 
 -- the row stays as long as it is
@@ -220,7 +220,7 @@ stands_after n (read_register k r) s e = read_none _ e
 
 -- the call step back, after any step
 pub back_stepped : (n : ℕ) (ks : List ℕ) (c : Call) (s : Here) → Good n ks s → EveryMounted ks s → kind_now n c s ≡ stepped
-    → back_over (coupled_from n (step_to c s)) n ≡ told (answer.Done false) (coupled_from n s)
+    → back_over (coupled_from n (step_to c s)) n ≡ told (Ok (answer.Step false)) (coupled_from n s)
 back_stepped n ks c s f every e =
     back_named n ks (step_to c s) (keeps_good n ks c s f e) (every_next n ks c s e every) (name_of c) (names n c s (omega (arith, name_small n c s e))) (long_entry n c s) (stands_after n c s e)
     ∙ undo_newest n c s f.whole e

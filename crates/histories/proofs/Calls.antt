@@ -6,11 +6,11 @@ use mathlib.Core.Bool.{false}
 use mathlib.Core.List.{List, [], ◌∷◌, map}
 use Prim.Native.Nat.{ℕ, zero, suc, ◌≤◌}
 use native.Mathlib.Omega.{arith}
-use borrow.Author.Tests.{eqb-false, eqb-true}
-use lib.Dec.{eqb}
 use lib.ListN.{length, length-map}
-use Rattle.lists.proofs.Cases.{by_test, pick_told}
-use Rattle.commands.specs.declared.plans.Answer.TheVariants as answer
+use Rattle.std.specs.Prelude.{Ok, Err}
+use Rattle.state.specs.declared.refusal.Refusal.TheVariants as refusal
+use Rattle.state.proofs.Behind.{behind_told, by_check, never}
+use Rattle.commands.specs.declared.plans.Done.TheVariants as answer
 use Rattle.worlds.specs.Rows.{back_refusal, row_checked}
 use Rattle.worlds.specs.Coupled.{back_checked, back_over, coupler_in, named_in, refused_with, seats_of, told, undo_named}
 use Rattle.sessions.specs.Session.{Clean, Done, Ran, and_did, and_saw, back, back_from, backs, before, entry_of, one_did, one_saw, start, stood, strike, and_not, and_undid}
@@ -21,6 +21,7 @@ use Rattle.histories.specs.Good.{Every, EveryMounted, Fresh, Good}
 use Rattle.histories.specs.History.{BackComes, stayed, went_back}
 use Rattle.histories.proofs.Backs.{back_stepped, every_next, row_stays, undo_named_lem}
 use Rattle.histories.proofs.Rows.{row_right}
+use Rattle.histories.proofs.Blockless.{Blockless, back_blockless}
 use Rattle.histories.proofs.Undone.{lawful, went}
 
 -- every transport in the row stays among those mounted, and each that is mounted does
@@ -39,12 +40,12 @@ mounted_clean n ks every k (and_undid _ _ _) = elim k [ ]
 
 module _ (n : ℕ) (ks : List ℕ) where
   clean_back : {s₀ s : Here} {l : List (Done (calls n))} {e : Noted} {es : List Noted} → Fresh n ks s₀ → EveryMounted ks s₀ → Clean (calls n) l → Ran (calls n) s₀ l s → s.entries ≡ e ∷ es
-      → back_over (coupled_from n s) n ≡ told (answer.Done false) (coupled_from n (back (calls n) s))
+      → back_over (coupled_from n s) n ≡ told (Ok (answer.Step false)) (coupled_from n (back (calls n) s))
   clean_back f every k start q = absurd (let z : ◌≡◌ {A = ℕ} 0 1 = cc f.none in omega arith)
   clean_back f every (one_did k) (and_did {k = c} {s = s} r kd an st) q =
       let good = fit_clean (calls n) (lawful n ks) f.good k r in
       let was : back (calls n) (step_to c s) ≡ s = λ i. record { core = went n c s kd i; entries = s.entries } in
-      rw st (back_stepped n ks c s good (mounted_clean n ks every k r) kd ∙ ap (λ (x : Here). told (answer.Done false) (coupled_from n x)) (sym was))
+      rw st (back_stepped n ks c s good (mounted_clean n ks every k r) kd ∙ ap (λ (x : Here). told (Ok (answer.Step false)) (coupled_from n x)) (sym was))
   clean_back f every (one_saw k) (and_saw r kd an) q = clean_back f every k r q
   clean_back f every k (and_not _ _ _) q = elim k [ ]
   clean_back f every k (and_undid _ _ _) q = elim k [ ]
@@ -56,7 +57,7 @@ module _ (n : ℕ) (ks : List ℕ) where
   clean_comes f (one_did k) (and_did {k = c} {s = s} r kd an st) =
       let good = fit_clean (calls n) (lawful n ks) f.good k r in
       let was : back (calls n) (step_to c s) ≡ s = λ i. record { core = went n c s kd i; entries = s.entries } in
-      inl (rw st (went_back refl (undo_named_lem n c s good.whole kd ∙ ap (λ (x : Here). told (answer.Done false) (coupled_from n x)) (sym was))))
+      inl (rw st (went_back refl (undo_named_lem n c s good.whole kd ∙ ap (λ (x : Here). told (Ok (answer.Step false)) (coupled_from n x)) (sym was))))
   clean_comes f (one_saw k) (and_saw r kd an) = clean_comes f k r
   clean_comes f k (and_not _ _ _) = elim k [ ]
   clean_comes f k (and_undid _ _ _) = elim k [ ]
@@ -76,35 +77,33 @@ module _ (n : ℕ) (ks : List ℕ) where
     entry_each = stands_as (calls n) f.none r
 
     -- the call step back, whatever else stands in the row: it is refused and leaves everything, or it leads where the model leads
-    none_refused : (coupled_from n s).ledger.used ≡ 0 → back_checked (coupled_from n s) n ≡ 0 → ⊥
+    none_refused : (coupled_from n s).ledger.used ≡ 0 → back_checked (coupled_from n s) n ≡ Ok tt → ⊥
     unfolding back_refusal
     none_refused e z =
-        let c : ℕ = row_checked (coupler_in (coupled_from n s)) (seats_of s.core) (length s.core.memory) n in
-        by_test (eqb c 0)
-        (λ t. let y : 6 ≡ 0 = rw (t, e) at z in absurd (omega (arith, y)))
-        (λ t. let y : c ≡ 0 = rw t at z in absurd (eqb-false c 0 t y))
+        by_check (row_checked (coupler_in (coupled_from n s)) (seats_of s.core) (length s.core.memory) n)
+        (λ t. let y : Err refusal.Empty ≡ Ok tt = rw (t, e) at z in never _ y)
+        (λ r t. let y : Err r ≡ Ok tt = rw t at z in never _ y)
 
     pub back_comes : BackComes n s (back_over (coupled_from n s) n)
     unfolding back_over
     back_comes =
-        let c : ℕ = back_checked (coupled_from n s) n in
-        pick_told (BackComes n s) (eqb c 0) (undo_named (coupled_from n s) (named_in (coupled_from n s).ledger.bytes)) (refused_with c (coupled_from n s))
-        (λ t. ⊎_elim (λ x. x) (λ z. absurd (none_refused z (eqb-true c 0 t))) (clean_comes f (strike_clean (calls n) l) never_was))
-        (λ t. stayed refl)
+        behind_told (BackComes n s) (back_checked (coupled_from n s) n) (λ r. refused_with r (coupled_from n s)) (undo_named (coupled_from n s) (named_in (coupled_from n s).ledger.bytes))
+        (λ r t. let none : Blockless (Err r) = subst Blockless t (back_blockless (coupler_in (coupled_from n s)) (seats_of s.core) (length s.core.memory) n (named_in (coupled_from n s).ledger.bytes)) in stayed none.0 none.1 refl)
+        (λ t. ⊎_elim (λ x. x) (λ z. absurd (none_refused z t)) (clean_comes f (strike_clean (calls n) l) never_was))
 
     -- where every transport that is mounted is one of ks, it is done with an entry, and refused with 6 without one
-    pub mounted_does : EveryMounted ks s₀ → {e : Noted} {es : List Noted} → s.entries ≡ e ∷ es → back_over (coupled_from n s) n ≡ told (answer.Done false) (coupled_from n (back (calls n) s))
+    pub mounted_does : EveryMounted ks s₀ → {e : Noted} {es : List Noted} → s.entries ≡ e ∷ es → back_over (coupled_from n s) n ≡ told (Ok (answer.Step false)) (coupled_from n (back (calls n) s))
     mounted_does every q = clean_back f every (strike_clean (calls n) l) never_was q
 
-    pub mounted_none : EveryMounted ks s₀ → s.entries ≡ [] → back_over (coupled_from n s) n ≡ refused_with 6 (coupled_from n s)
+    pub mounted_none : EveryMounted ks s₀ → s.entries ≡ [] → back_over (coupled_from n s) n ≡ refused_with refusal.Empty (coupled_from n s)
     unfolding back_over back_refusal length_of
     mounted_none every e = rw (row_right n ks s always_good (mounted_clean n ks every (strike_clean (calls n) l) never_was), ap length_of e)
 
     -- so "every unit in the row by then mounted"
-    pub back_does : Every ks s₀ → {e : Noted} {es : List Noted} → s.entries ≡ e ∷ es → back_over (coupled_from n s) n ≡ told (answer.Done false) (coupled_from n (back (calls n) s))
+    pub back_does : Every ks s₀ → {e : Noted} {es : List Noted} → s.entries ≡ e ∷ es → back_over (coupled_from n s) n ≡ told (Ok (answer.Step false)) (coupled_from n (back (calls n) s))
     back_does every q = mounted_does (every_mounted ks s₀ every) q
 
-    pub back_none : Every ks s₀ → s.entries ≡ [] → back_over (coupled_from n s) n ≡ refused_with 6 (coupled_from n s)
+    pub back_none : Every ks s₀ → s.entries ≡ [] → back_over (coupled_from n s) n ≡ refused_with refusal.Empty (coupled_from n s)
     back_none every e = mounted_none (every_mounted ks s₀ every) e
 
   -- as many calls of step back as the model's

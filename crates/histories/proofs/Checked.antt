@@ -9,6 +9,7 @@ use borrow.Author.Tests.{eqb-false, eqb-true, not-false}
 use lib.Dec.{eqb, ltb}
 use lib.ListN.{length}
 use lib.Seq.{get_or-set_same}
+use Rattle.std.specs.Prelude.{Result, Ok, Err, ⊤}
 use Rattle.lists.specs.Pick.{pick}
 use Rattle.lists.proofs.Cases.{by_test, past, pick_told}
 use Rattle.state.specs.Legal.{Legal}
@@ -16,6 +17,9 @@ use Rattle.state.proofs.Tests.{either, neither}
 use Rattle.touched.specs.Touches.{memory_back}
 use Rattle.entries.specs.Entries.{entry_bare, entry_fits, newest_entry, saved_in, transports}
 use Rattle.entries.specs.declared.Entry.{Entry}
+use Rattle.state.specs.declared.refusal.Refusal.TheVariants as refusal
+use Rattle.state.specs.declared.refusal.Refusal.{Refusal}
+use Rattle.state.proofs.Behind.{behind_told, both_pass, never}
 use Rattle.worlds.specs.Calls.{entry_wrong, no_place_back, refused_as, undo_by, undo_on, undone, without}
 use Rattle.worlds.specs.Passes.{Passed}
 use Rattle.worlds.specs.Rows.{back_refusal, is_mounted, row_checked, session_over, standing_in, unit_over}
@@ -32,7 +36,7 @@ use Rattle.histories.proofs.Rows.{is_present, seat_is, seats_long, stands_by}
 
 -- the row of w passes, for a journal of n bytes
 abbrev pub RowRight : ℕ → Coupled → Type 0
-RowRight n w = row_checked (coupler_in w) (seats_of w.rig) (length w.rig.memory) n ≡ 0
+RowRight n w = row_checked (coupler_in w) (seats_of w.rig) (length w.rig.memory) n ≡ Ok tt
 
 -- a transport passes as a session of its own
 abbrev DeckPassed : ℕ → Coupled → ℕ → Type 0
@@ -109,7 +113,7 @@ none_passes : (n : ℕ) (w : Coupled) → RowRight n w → Passes n (lifted_none
 unfolding undo_none undo_none_by lifted_none step_kind undone_none without core_of_none
 none_passes n w h =
     let e : Entry = newest_entry 0 w.ledger.bytes in
-    either (λ (x : Answered). Passes n (lifted_none w x)) (not (entry_fits e w.ledger.used (view_of_none w).core.unit.lengths (length w.rig.memory) 0 0)) (refused_as 8 (view_of_none w)) _
+    either (λ (x : Answered). Passes n (lifted_none w x)) (not (entry_fits e w.ledger.used (view_of_none w).core.unit.lengths (length w.rig.memory) 0 0)) (refused_as refusal.Entry (view_of_none w)) _
     (λ z. refused_none z)
     (λ z.
     row_shrunk n w (record { rig = with_memory (memory_back e.touched (saved_in e w.ledger.bytes) w.rig.memory) w.rig; ledger = without w.ledger e })
@@ -172,27 +176,24 @@ module _ (n : ℕ) (w : Coupled) (k : ℕ) (h : RowRight n w) (st : standing_in 
   unit_passes : Passes n (lifted k w (undo_on view))
   unfolding undo_on undo_by lifted step_kind
   unit_passes =
-      pick_told (λ (x : Answered). Passes n (lifted k w x)) (entry_wrong view newest) (refused_as 8 view) _
+      pick_told (λ (x : Answered). Passes n (lifted k w x)) (entry_wrong view newest) (refused_as refusal.Entry view) _
       (λ t z. refused_none z)
-      (λ t. either (λ (x : Answered). Passes n (lifted k w x)) (no_place_back view.core newest) (refused_as 11 view) _ (λ z. refused_none z) (λ z. row_after t))
+      (λ t. either (λ (x : Answered). Passes n (lifted k w x)) (no_place_back view.core newest) (refused_as refusal.Table view) _ (λ z. refused_none z) (λ z. row_after t))
 
 -- what the check of a step back has shown
 module _ (n : ℕ) (w : Coupled) (k : ℕ) where
-  check_shows : back_refusal (coupler_in w) (seats_of w.rig) (length w.rig.memory) n k ≡ 0 → (RowRight n w) × ((eqb k transports || standing_in (seats_of w.rig) k) ≡ true)
+  check_shows : back_refusal (coupler_in w) (seats_of w.rig) (length w.rig.memory) n k ≡ Ok tt → (RowRight n w) × ((eqb k transports || standing_in (seats_of w.rig) k) ≡ true)
   unfolding back_refusal
   check_shows z =
-      let c : ℕ = row_checked (coupler_in w) (seats_of w.rig) (length w.rig.memory) n in
+      let c : Result ⊤ Refusal = row_checked (coupler_in w) (seats_of w.rig) (length w.rig.memory) n in
       let named : Bool = eqb k transports || standing_in (seats_of w.rig) k in
       let short : Bool = ltb w.ledger.used entry_bare in
-      let third : ℕ = pick (short || not named) 8 0 in
-      let second : ℕ = pick (eqb w.ledger.used 0) 6 third in
-      by_test (eqb c 0)
-      (λ t.
-      let y : second ≡ 0 = rw t at z in
-      let p = past (eqb w.ledger.used 0) 6 third 0 (λ e. omega arith) y in
-      let q = past (short || not named) 8 0 0 (λ e. omega arith) p.1 in
-      (eqb-true c 0 t, not-false named (neither short (not named) q.0).1))
-      (λ t. let y : c ≡ 0 = rw t at z in absurd (eqb-false c 0 t y))
+      let third : Result ⊤ Refusal = pick (short || not named) (Err refusal.Entry) (Ok tt) in
+      let second : Result ⊤ Refusal = pick (eqb w.ledger.used 0) (Err refusal.Empty) third in
+      let o = both_pass c second z in
+      let p = past (eqb w.ledger.used 0) (Err refusal.Empty) third (Ok tt) (never _) o.1 in
+      let q = past (short || not named) (Err refusal.Entry) (Ok tt) (Ok tt) (never _) p.1 in
+      (o.0, not-false named (neither short (not named) q.0).1)
 
   named_passes : RowRight n w → (eqb k transports || standing_in (seats_of w.rig) k) ≡ true → Passes n (undo_named w k)
   unfolding undo_named
@@ -205,8 +206,7 @@ module _ (n : ℕ) (w : Coupled) (k : ℕ) where
 pub back_checked_lem : (n : ℕ) (w : Coupled) → step_kind (back_over w n).answer ≡ stepped → RowRight n (back_over w n).coupled
 unfolding back_over step_kind
 back_checked_lem n w =
-    let c : ℕ = back_checked w n in
     let k : ℕ = named_in w.ledger.bytes in
-    pick_told (Passes n) (eqb c 0) (undo_named w k) (refused_with c w)
-    (λ t. let s = check_shows n w k (eqb-true c 0 t) in named_passes n w k s.0 s.1)
-    (λ t z. refused_none z)
+    behind_told (Passes n) (back_checked w n) (λ r. refused_with r w) (undo_named w k)
+    (λ r t z. refused_none z)
+    (λ t. let s = check_shows n w k t in named_passes n w k s.0 s.1)

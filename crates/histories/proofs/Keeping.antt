@@ -8,6 +8,7 @@ use borrow.Author.Tests.{eqb-false, eqb-true, ltb-false}
 use lib.Dec.{eqb}
 use lib.ListN.{length}
 use lib.Seq.{get_or-set_other, length-sets}
+use Rattle.std.specs.Prelude.{Ok}
 use Rattle.lists.proofs.Cases.{by_test}
 use Rattle.state.proofs.Tests.{either}
 use Rattle.unit.specs.Asks.{Ask, host_store}
@@ -87,7 +88,7 @@ module _ (n k : ℕ) (c : Core) (x : Step) (l : Ledger) (next : World) (t : Took
 
 -- what is shared stays right
 shared_after : (n : ℕ) (w w' : Coupled) → CouplerPassed (coupler_in w) (length w.rig.memory) n → w'.rig.mounted ≡ w.rig.mounted → length w'.rig.memory ≡ length w.rig.memory → Kept n w'.ledger
-    → coupler_checked (coupler_in w') (length w'.rig.memory) n ≡ 0
+    → coupler_checked (coupler_in w') (length w'.rig.memory) n ≡ Ok tt
 shared_after n w w' p m e h =
     coupler_passes (coupler_in w') (length w'.rig.memory) n
     (record {

@@ -5,11 +5,12 @@ use mathlib.Core.Bool.{Bool}
 use mathlib.Core.List.{List, []}
 use Prim.Native.Nat.{ℕ}
 use lib.ListN.{length}
+use Rattle.std.specs.Prelude.{Ok}
 use Rattle.lists.specs.Places.{placed}
 use Rattle.lists.proofs.Placed.{placed_plain}
 use Rattle.lists.proofs.Cases.{pick_told}
 use Rattle.tape.proofs.Accepted.{clash}
-use Rattle.commands.specs.declared.plans.Answer.TheVariants as answer
+use Rattle.commands.specs.declared.plans.Done.TheVariants as answer
 use Rattle.unit.specs.Asks.{host_store}
 use Rattle.unit.specs.Cores.{Core}
 use Rattle.unit.specs.Steps.{Step, step_of, store_wrong, stored}
@@ -28,10 +29,10 @@ use Rattle.histories.specs.Good.{EntryLong, bytes_at}
 use Rattle.histories.proofs.Taking.{step_taken, store_taken}
 
 -- a host store that is answered "done" stores its bytes, in a core that none of refusals 1 to 3 has seen (`store_stores` of unit/proofs/Stored says so too, and isn't handed on)
-store_stores : (c : Core) (place : ℕ) (bytes : List ℕ) (i : Bool) → (step_of (host_store place bytes) c).answer ≡ answer.Done i → Stores c (step_of (host_store place bytes) c) (bytes_of (host_store place bytes) c)
+store_stores : (c : Core) (place : ℕ) (bytes : List ℕ) (i : Bool) → (step_of (host_store place bytes) c).answer ≡ Ok (answer.Step i) → Stores c (step_of (host_store place bytes) c) (bytes_of (host_store place bytes) c)
 unfolding step_of stored host_touched placed bytes_of
 store_stores c place bytes i =
-    pick_told (λ (x : Step). x.answer ≡ answer.Done i → Stores c x (record { data_stored = bytes; message_stored = []; reel_stored = []; table_stored = []; objects = [] })) (store_wrong (length c.memory) place (length bytes)) _ _
+    pick_told (λ (x : Step). x.answer ≡ Ok (answer.Step i) → Stores c x (record { data_stored = bytes; message_stored = []; reel_stored = []; table_stored = []; objects = [] })) (store_wrong (length c.memory) place (length bytes)) _ _
     (λ t e. absurd (clash cc))
     (λ t e. record {
       memory = sym (placed_plain c.memory place bytes);

@@ -6,6 +6,7 @@ pub mod Undone
 pub mod Naming
 pub mod Rows
 pub mod Checked
+pub mod Blockless
 pub mod Backs
 pub mod Calls
 pub mod Lengths

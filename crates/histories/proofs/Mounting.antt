@@ -9,19 +9,21 @@ use borrow.Author.Tests.{eqb-false, eqb-true}
 use lib.Dec.{eqb}
 use lib.ListN.{length, length-set, set}
 use lib.Seq.{get_or-set_other, get_or-set_same, set-set}
+use Rattle.std.specs.Prelude.{Ok, Err}
 use Rattle.lists.proofs.Cases.{by_test}
 use Rattle.tape.specs.Afresh.{objects_in}
 use Rattle.tape.proofs.Accepted.{clash}
 use Rattle.state.specs.Changes.{mounted_as}
-use Rattle.commands.specs.declared.plans.Answer.{Answer}
-use Rattle.commands.specs.declared.plans.Answer.TheVariants as answer
+use Rattle.state.specs.declared.refusal.Refusal.TheVariants as refusal
+use Rattle.commands.specs.Answers.{Answer}
+use Rattle.commands.specs.declared.plans.Done.TheVariants as answer
 use Rattle.unit.specs.Cores.{Core}
 use Rattle.entries.specs.Entries.{transports}
 use Rattle.worlds.specs.Calls.{mount_on, table_mounted}
 use Rattle.worlds.specs.Passes.{Fit}
 use Rattle.worlds.specs.Rows.{absent_in, coupler_checked, session_over, transport_of}
 use Rattle.worlds.specs.Worlds.{session_of}
-use Rattle.worlds.specs.declared.Outcome.{Outcome}
+use Rattle.worlds.specs.Worlds.{Outcome}
 use Rattle.worlds.specs.declared.Session.{Session}
 use Rattle.worlds.specs.Coupled.{Coupled, Deck, Rig, core_of, coupler_in, deck_at, is_absent, mount_at, mounted_at, no_deck, told, view_of}
 use Rattle.worlds.proofs.Coupling.{coupler_passed, coupler_passes}
@@ -82,7 +84,7 @@ module _ (n : ℕ) (m : Mount) (w : Coupled) where
   unfolding mount_at
   put_present a =
       by_test (is_absent put m.unit)
-      (λ t. let z : answer.Refused 12 ≡ answer.Done false = rw t at a.done in absurd (clash cc))
+      (λ t. let z : ◌≡◌ {A = Answer} (Err refusal.Absent) (Ok (answer.Step false)) = rw t at a.done in absurd (clash cc))
       (λ t. t)
 
   pub mount_present : Accepted n m w → absent_in (length g.decks) m.unit ≡ false
@@ -104,14 +106,14 @@ module _ (n : ℕ) (m : Mount) (w : Coupled) where
     unfolding mount_at
     mount_by = rw (put_present a, loaded_deck, loaded_memory)
 
-    done : o.answer ≡ answer.Done false
+    done : o.answer ≡ Ok (answer.Step false)
     done = sym (ap (λ x. x.answer) mount_by) ∙ a.done
 
     loaded_set : set (loaded m.unit m.reel m.table g).decks m.unit deck ≡ set g.decks m.unit deck
     unfolding loaded
     loaded_set = set-set g.decks m.unit reeled deck
 
-    done_rig : (x : Answer) → x ≡ answer.Done false → (mounted_at put m.unit o table x).rig ≡ new
+    done_rig : (x : Answer) → x ≡ Ok (answer.Step false) → (mounted_at put m.unit o table x).rig ≡ new
     unfolding mounted_at
     done_rig x e = rw (e, loaded_deck, loaded_set, loaded_memory)
 
@@ -152,7 +154,7 @@ module _ (n : ℕ) (m : Mount) (w : Coupled) where
     empty_kept = record { long = refl; used = omega arith; whole = refl }
 
     -- what is shared is right: its own transport passes
-    begun_shared : coupler_checked (coupler_in (coupled_from n begun)) (length begun.core.memory) n ≡ 0
+    begun_shared : coupler_checked (coupler_in (coupled_from n begun)) (length begun.core.memory) n ≡ Ok tt
     unfolding core_of
     begun_shared =
         let v = view_of m.unit (coupled_from n begun) in

@@ -9,7 +9,7 @@ use Rattle.lists.specs.Fours.{number_bytes, number_limit}
 use Rattle.touched.specs.Touches.{saved_bytes}
 use Rattle.entries.specs.Bytes.{head_count, head_length, head_numbers, numbers_bytes}
 use Rattle.entries.specs.Entries.{entry_bytes, entry_length, newest_entry}
-use Rattle.entries.specs.Numbers.{entry_of, numbers_of}
+use Rattle.entries.specs.Numbers.{entry_of, numbers_of, state_numbers}
 use Rattle.entries.specs.declared.Entry.{Entry}
 use Rattle.entries.proofs.Back.{length_numbers}
 use Rattle.entries.proofs.HeadBytes.{head_back}
@@ -17,7 +17,7 @@ use Rattle.entries.proofs.Joined.{head_long}
 
 module _ (e : Entry) (top : ℕ) where
   last_number : e.transport < number_limit → (entry_of (numbers_of e) top).transport ≡ e.transport
-  unfolding numbers_of entry_of
+  unfolding numbers_of state_numbers entry_of
   last_number h = let low : e.transport % number_limit ≡ e.transport = omega arith in low
 
   head_names : e.transport < number_limit → (entry_of (head_numbers head_count (numbers_bytes (numbers_of e))) top).transport ≡ e.transport

@@ -7,8 +7,10 @@ use mathlib.Core.Path.{◌≡◌, refl, sym, ap, subst, ◌∙◌}
 use Prim.Native.Nat.{ℕ}
 use native.Mathlib.Omega.{arith}
 use lib.ListN.{length}
+use Rattle.std.specs.Prelude.{Ok, Err}
 use Rattle.state.proofs.Tests.{either}
-use Rattle.commands.specs.declared.plans.Answer.TheVariants as answer
+use Rattle.state.specs.declared.refusal.Refusal.TheVariants as refusal
+use Rattle.commands.specs.declared.plans.Done.TheVariants as answer
 use Rattle.unit.specs.Asks.{Ask, host_store}
 use Rattle.unit.specs.Steps.{Step, step_of, store_wrong, stored}
 use Rattle.worlds.specs.Worlds.{World, session_of}
@@ -25,7 +27,7 @@ use Rattle.histories.proofs.Rows.{every_good}
 use Rattle.histories.proofs.Taking.{step_present}
 
 -- a step of a transport that refusals 1 to 4 let pass
-pub step_room : (n : ℕ) (w : Coupled) (k : ℕ) (a : Ask) (h : OfUnit a) (i : Bool) → is_absent w k ≡ false → Fit n (view_of k w) → (step_of a (core_of k w.rig)).answer ≡ answer.Done i
+pub step_room : (n : ℕ) (w : Coupled) (k : ℕ) (a : Ask) (h : OfUnit a) (i : Bool) → is_absent w k ≡ false → Fit n (view_of k w) → (step_of a (core_of k w.rig)).answer ≡ Ok (answer.Step i)
     → Exactly w (step k a h) (step_at w n k a)
 unfolding lifted core_for doing name_of
 step_room n w k a h i p fit e =
@@ -33,9 +35,9 @@ step_room n w k a h i p fit e =
     subst (Exactly w (step k a h)) (sym (step_present n w k a p))
     (record {
       nine = λ r. x.nine r;
-      no_room = λ f r. ap (lifted k w) (x.no_room f r) ∙ refused_same k w (answer.Refused 9);
+      no_room = λ f r. ap (lifted k w) (x.no_room f r) ∙ refused_same k w (Err refusal.Room);
       eleven = λ r. x.eleven r;
-      no_place = λ r. ap (lifted k w) (x.no_place r) ∙ refused_same k w (answer.Refused 11);
+      no_place = λ r. ap (lifted k w) (x.no_place r) ∙ refused_same k w (Err refusal.Table);
     })
 
 -- a host store is no step of a table
@@ -53,24 +55,24 @@ module _ (g : Rig) (place : ℕ) (bytes : List ℕ) where
   no_table (inr h) = absurd (omega (arith, h, none_after))
 
 -- the world of none has the shared numbers
-none_checked : (n : ℕ) (w : Coupled) → coupler_checked (coupler_in w) (length w.rig.memory) n ≡ 0 → coupler_checked (coupler_of (session_of (view_of_none w))) (length (view_of_none w).core.memory) n ≡ 0
+none_checked : (n : ℕ) (w : Coupled) → coupler_checked (coupler_in w) (length w.rig.memory) n ≡ Ok tt → coupler_checked (coupler_of (session_of (view_of_none w))) (length (view_of_none w).core.memory) n ≡ Ok tt
 unfolding core_of_none
 none_checked n w c = c
 
 -- a host store that 1, 2 and 4 let pass
-pub store_room : (n : ℕ) (w : Coupled) (place : ℕ) (bytes : List ℕ) (i : Bool) → coupler_checked (coupler_in w) (length w.rig.memory) n ≡ 0
-    → (step_of (host_store place bytes) (core_of_none w.rig)).answer ≡ answer.Done i → Exactly w (store place bytes) (host_at w n place bytes)
+pub store_room : (n : ℕ) (w : Coupled) (place : ℕ) (bytes : List ℕ) (i : Bool) → coupler_checked (coupler_in w) (length w.rig.memory) n ≡ Ok tt
+    → (step_of (host_store place bytes) (core_of_none w.rig)).answer ≡ Ok (answer.Step i) → Exactly w (store place bytes) (host_at w n place bytes)
 unfolding host_at host_on lifted_none core_for doing name_of
 store_room n w place bytes i c e =
     let v : World = view_of_none w in
     let x = room_taken v (step_of (host_store place bytes) v.core) i (step_of (host_store place bytes) v.core).answer e in
-    let check : coupler_checked (coupler_of (session_of v)) (length v.core.memory) n ≡ 0 = none_checked n w c in
+    let check : coupler_checked (coupler_of (session_of v)) (length v.core.memory) n ≡ Ok tt = none_checked n w c in
     rw check
     (record {
       nine = λ r. x.nine r;
-      no_room = λ f r. ap (lifted_none w) (x.no_room f r) ∙ refused_none w (answer.Refused 9);
+      no_room = λ f r. ap (lifted_none w) (x.no_room f r) ∙ refused_none w (Err refusal.Room);
       eleven = λ r. x.eleven r;
-      no_place = λ r. ap (lifted_none w) (x.no_place r) ∙ refused_none w (answer.Refused 11);
+      no_place = λ r. ap (lifted_none w) (x.no_place r) ∙ refused_none w (Err refusal.Table);
     })
 
 -- at every moment of a shared history, every unit in the row mounted
@@ -82,9 +84,9 @@ room_exactly n ks s f every (read_register k r) p = absurd p
 
 -- a host store, whichever transports are mounted: refused with 9 exactly when there is no room, and never with 11
 pub store_exactly : (n : ℕ) (ks : List ℕ) (s : Here) → Good n ks s → (place : ℕ) (bytes : List ℕ) → Steppable (store place bytes) s.core
-    → (NoRoom (coupled_from n s).ledger (entry_at (store place bytes) s.core) → host_at (coupled_from n s) n place bytes ≡ refused_with 9 (coupled_from n s))
-    × ((host_at (coupled_from n s) n place bytes).answer ≡ answer.Refused 9 → NoRoom (coupled_from n s).ledger (entry_at (store place bytes) s.core))
-    × ((host_at (coupled_from n s) n place bytes).answer ≡ answer.Refused 11 → ⊥)
+    → (NoRoom (coupled_from n s).ledger (entry_at (store place bytes) s.core) → host_at (coupled_from n s) n place bytes ≡ refused_with refusal.Room (coupled_from n s))
+    × ((host_at (coupled_from n s) n place bytes).answer ≡ Err refusal.Room → NoRoom (coupled_from n s).ledger (entry_at (store place bytes) s.core))
+    × ((host_at (coupled_from n s) n place bytes).answer ≡ Err refusal.Table → ⊥)
 unfolding core_for doing
 store_exactly n ks s f place bytes p =
     let x = store_room n (coupled_from n s) place bytes p.0 f.shared p.1 in

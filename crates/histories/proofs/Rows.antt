@@ -8,6 +8,7 @@ use native.Mathlib.Omega.{arith}
 use borrow.Author.Tests.{lt-leb}
 use lib.ListN.{get_or-map, get_or, length, length-map, length-take, take}
 use lib.Seq.{get_or-take}
+use Rattle.std.specs.Prelude.{Ok}
 use Rattle.entries.specs.Entries.{transports}
 use Rattle.worlds.specs.Rows.{absent_in, is_mounted, no_seat, row_checked, standing_in}
 use Rattle.worlds.specs.Coupled.{Rig, core_of, coupler_in, deck_at, is_absent, no_deck, seat_of, seats_of}
@@ -45,7 +46,7 @@ module _ (g : Rig) where
 pub every_good : (n : ℕ) (ks : List ℕ) (s : Here) → Good n ks s → Every ks s → (k : ℕ) → is_absent (coupled_from n s) k ≡ false → GoodDeck n (coupled_from n s) k
 every_good n ks s f every k h = f.decks k (every k h) h
 
-pub row_right : (n : ℕ) (ks : List ℕ) (s : Here) → Good n ks s → EveryMounted ks s → row_checked (coupler_in (coupled_from n s)) (seats_of s.core) (length s.core.memory) n ≡ 0
+pub row_right : (n : ℕ) (ks : List ℕ) (s : Here) → Good n ks s → EveryMounted ks s → row_checked (coupler_in (coupled_from n s)) (seats_of s.core) (length s.core.memory) n ≡ Ok tt
 unfolding core_of
 row_right n ks s f every =
     all_passed (coupler_in (coupled_from n s)) (seats_of s.core) (length s.core.memory) n

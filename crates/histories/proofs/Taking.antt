@@ -4,14 +4,17 @@ use mathlib.Core.Bool.{false}
 use mathlib.Core.List.{List, ◌∷◌}
 use Prim.Native.Nat.{ℕ, ◌<◌}
 use native.Mathlib.Omega.{arith}
-use borrow.Author.Tests.{eqb-true, leb-false}
-use lib.Dec.{eqb, leb}
+use borrow.Author.Tests.{leb-false}
+use lib.Dec.{leb}
 use lib.ListN.{length}
+use Rattle.std.specs.Prelude.{Result, Ok, ⊤}
 use Rattle.lists.proofs.Cases.{by_test}
-use Rattle.state.proofs.Tests.{either, neither}
+use Rattle.state.proofs.Tests.{neither}
 use Rattle.unit.specs.Asks.{Ask, Asked, advance, host_store, operate, write_tsdb, write_tssr}
 use Rattle.unit.specs.Steps.{Step, step_of}
 use Rattle.entries.specs.Entries.{transports}
+use Rattle.state.specs.declared.refusal.Refusal.{Refusal}
+use Rattle.state.proofs.Behind.{behind_told, by_check}
 use Rattle.worlds.specs.Worlds.{Answered, World, session_of}
 use Rattle.worlds.specs.Calls.{noted, refused_as, step_on, taken_by}
 use Rattle.worlds.specs.Rows.{absent_in, coupler_checked, coupler_of}
@@ -61,7 +64,7 @@ passing place bytes w = taken_by w (step_of (host_store place bytes) w.core) (st
 
 -- a host store that was taken: what is shared had passed
 pub record Stored (n : ℕ) (w : World) (place : ℕ) (bytes : List ℕ) : Type 0 where
-  pub shared : coupler_checked (coupler_of (session_of w)) (length w.core.memory) n ≡ 0
+  pub shared : coupler_checked (coupler_of (session_of w)) (length w.core.memory) n ≡ Ok tt
   pub is : host_on w n place bytes ≡ passing place bytes w
   pub kind : step_kind (passing place bytes w).answer ≡ stepped
 
@@ -69,22 +72,22 @@ module _ (n place : ℕ) (bytes : List ℕ) (w : World) where
   abbrev storing : Step
   storing = step_of (host_store place bytes) w.core
 
-  abbrev check : ℕ
+  abbrev check : Result ⊤ Refusal
   check = coupler_checked (coupler_of (session_of w)) (length w.core.memory) n
 
   pub store_taken : step_kind (host_on w n place bytes).answer ≡ stepped → Stored n w place bytes
   unfolding host_on step_kind
   store_taken e =
-      by_test (eqb check 0)
-      (λ t. record { shared = eqb-true check 0 t; is = rw t; kind = rw t at e })
-      (λ t. let z : refused ≡ stepped = rw t at e in refused_none z)
+      by_check check
+      (λ t. record { shared = t; is = rw t; kind = rw t at e })
+      (λ r t. let z : refused ≡ stepped = rw t at e in refused_none z)
 
   pub stored_took : Stored n w place bytes → Took w (passing place bytes w).world storing
   stored_took t = took_by w storing storing.answer t.kind
 
   pub store_left : Left w (host_on w n place bytes)
   unfolding host_on
-  store_left = either (Left w) (eqb check 0) (passing place bytes w) (refused_as check w) (by_left n w storing storing.answer) (λ g. refl)
+  store_left = behind_told (Left w) check (λ r. refused_as r w) (passing place bytes w) (λ r t g. refl) (λ t. by_left n w storing storing.answer)
 
 -- a noted entry is the ledger's newest
 pub ledger_noted : (n : ℕ) (c : Call) (g : Rig) (xs : List Noted) → noted (ledger_of n xs) (entry_at c g) (core_for c g) ≡ ledger_of n (noted_at c g ∷ xs)

@@ -1,9 +1,10 @@
 -- The calls over a row as the steps of a session: "demand 3 speaks of the shared history" (02, [9]). A session's core is the rig: every transport with its reel and
 -- table, and the memory that they share.
+use Rattle.std.specs.Prelude.{Ok}
 use Rattle.std.specs.Prelude.{List, [], ◌∷◌, ◌++◌, ℕ, zero, suc, ◌+◌, eqb}
 use Rattle.lists.specs.Pick.{pick}
-use Rattle.commands.specs.declared.plans.Answer.{Answer}
-use Rattle.commands.specs.declared.plans.Answer.TheVariants as answer
+use Rattle.commands.specs.Answers.{Answer}
+use Rattle.commands.specs.declared.plans.Done.TheVariants as answer
 use Rattle.touched.specs.Touches.{memory_back, none, saved_bytes}
 use Rattle.unit.specs.Asks.{Ask, Asked, advance, host_store, operate, write_tsdb, write_tssr}
 use Rattle.unit.specs.Cores.{Core}
@@ -62,7 +63,7 @@ core_for (read_register k r) g = core_of k g
 unfoldable pub doing : Call → Rig → Step
 doing (step k a h) g = step_of a (core_of k g)
 doing (store place bytes) g = step_of (host_store place bytes) (core_of_none g)
-doing (read_register k r) g = record { answer = answer.Idle; touched = none; after = core_of k g }
+doing (read_register k r) g = record { answer = (Ok answer.Idle); touched = none; after = core_of k g }
 
 -- and to the rig: every other transport stays as it is
 unfoldable pub next_rig : Call → Rig → Rig

@@ -1,8 +1,9 @@
 -- How a shared history begins: "demand 3 speaks of the shared history since the last mount, every unit in the row by then mounted over the one memory and journal and demand
 -- 3's other conditions kept from each unit's own mount on, later mounts of other units aside; mounting any unit empties the journal for all." (02, [9])
+use Rattle.std.specs.Prelude.{Ok}
 use Rattle.std.specs.Prelude.{Bool, false, List, [], ◌∷◌, ◌≡◌, ℕ, set}
 use Rattle.lists.specs.Words.{Bytes}
-use Rattle.commands.specs.declared.plans.Answer.TheVariants as answer
+use Rattle.commands.specs.declared.plans.Done.TheVariants as answer
 use Rattle.worlds.specs.Coupled.{Coupled, Rig, deck_at, mount_at}
 use Rattle.sessions.specs.Session.{Done, Ran}
 use Rattle.histories.specs.Calling.{Here, calls, coupled_from}
@@ -28,7 +29,7 @@ mounted_from n m w =
 
 pub record Accepted (n : ℕ) (m : Mount) (w : Coupled) : Type 0 where
   pub bytes : Bytes m.reel
-  pub done : (mount_at (record { rig = loaded m.unit m.reel m.table w.rig; ledger = w.ledger }) n m.unit m.end m.online m.locked).answer ≡ answer.Done false
+  pub done : (mount_at (record { rig = loaded m.unit m.reel m.table w.rig; ledger = w.ledger }) n m.unit m.end m.online m.locked).answer ≡ Ok (answer.Step false)
 
 -- a history whose transports ks have been mounted, the newest first, and whose last mount left s: from any world at all a first mount; or, behind any calls since the
 -- mount before, the mount of one transport more, or of one again

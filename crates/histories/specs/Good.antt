@@ -1,4 +1,5 @@
 -- What every moment of a shared history has. (02, [9])
+use Rattle.std.specs.Prelude.{Ok}
 use Rattle.std.specs.Prelude.{true, false, List, [], ◌∷◌, ◌≡◌, ℕ, length}
 use Rattle.unit.specs.Stores.{StepBytes, Stores, bytes_of, no_bytes}
 use Rattle.unit.specs.Asks.{host_store}
@@ -23,7 +24,7 @@ pub record GoodDeck (n : ℕ) (w : Coupled) (k : ℕ) : Type 0 where
 
 -- what every moment has, of the transports ks: the shared numbers are right, the journal holds as many bytes as are used, and each of these that is in the row is good
 pub record Good (n : ℕ) (ks : List ℕ) (s : Here) : Type 0 where
-  pub shared : coupler_checked (coupler_in (coupled_from n s)) (length s.core.memory) n ≡ 0
+  pub shared : coupler_checked (coupler_in (coupled_from n s)) (length s.core.memory) n ≡ Ok tt
   pub whole : length (coupled_from n s).ledger.bytes ≡ (coupled_from n s).ledger.used
   pub decks : (k : ℕ) → Among k ks → is_absent (coupled_from n s) k ≡ false → GoodDeck n (coupled_from n s) k
 

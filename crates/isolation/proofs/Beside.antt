@@ -7,11 +7,14 @@ use mathlib.Core.Logic.{inl, inr}
 use Prim.Native.Nat.{ℕ, ◌≤◌}
 use native.Mathlib.Omega.{arith}
 use lib.ListN.{length}
+use Rattle.std.specs.Prelude.{Ok, Err}
 use Rattle.lists.proofs.Cases.{by_test, past}
 use Rattle.unit.specs.Asks.{Ask, advance, host_store}
 use Rattle.unit.specs.Cores.{Admitted}
 use Rattle.unit.specs.Steps.{Step, step_of}
 use Rattle.unit.specs.declared.registers.Register.{Register}
+use Rattle.state.specs.declared.refusal.Refusal.TheVariants as refusal
+use Rattle.state.proofs.Behind.{never}
 use Rattle.worlds.specs.Calls.{register_on, step_on, taken_by}
 use Rattle.worlds.specs.Coupled.{Coupled, Deck, Rig, core_of, core_of_none, deck_at, host_at, host_on, is_absent, lifted, lifted_none, register_at, step_at, view_of, view_of_none}
 use Rattle.worlds.specs.Refusals.{checked, session_wrong}
@@ -114,9 +117,9 @@ module _ (n u : ℕ) (ks : List ℕ) (here : Among u ks) (s t : Here) (b : Besid
   step_answer a reads f = by_test (is_absent w u) (λ p. both_absent a p) (λ p. present_answer p a reads f)
 
   -- a register of unit u
-  right : (v : World) → checked (session_of v) (length v.core.memory) (length v.core.reel) n ≡ 0 → session_wrong (session_of v) ≡ false
+  right : (v : World) → checked (session_of v) (length v.core.memory) (length v.core.reel) n ≡ Ok tt → session_wrong (session_of v) ≡ false
   unfolding checked
-  right v h = (past (session_wrong (session_of v)) 1 _ 0 (λ e. omega arith) h).0
+  right v h = (past (session_wrong (session_of v)) (Err refusal.State) _ (Ok tt) (never _) h).0
 
   pub read_answer : (r : Register) → (register_at w' u r).answer ≡ (register_at w u r).answer
   unfolding register_at register_on

@@ -1,10 +1,11 @@
 -- Only code 4 gives Write Characteristics: the one command that is planned by what its data are.
-use mathlib.Core.Bool.{true, false, true≢false}
+use mathlib.Core.Bool.{Bool, true, false, true≢false}
 use mathlib.Core.Path.{◌≡◌, refl, sym, ◌∙◌}
 use Prim.Native.Nat.{ℕ}
 use borrow.Author.Tests.{eqb-true}
 use denote.Enum.Declared.{tag_of}
 use lib.Dec.{eqb}
+use Rattle.std.specs.Prelude.{Option, Some, None}
 use Rattle.lists.proofs.Cases.{by_test}
 use Rattle.signals.specs.Codes.{command_of, control_mode, format_mode, position_mode, read_mode, single_mode, write_mode}
 use Rattle.signals.specs.declared.codes.Command.{Command}
@@ -12,8 +13,13 @@ use Rattle.signals.specs.declared.codes.Command.TheVariants as command
 use Rattle.signals.specs.contracts.codes.Command as variants
 use Rattle.state.proofs.Tests.{either}
 
-abbrev Other : Command → Type 0
-Other c = eqb (tag_of variants.the_type c) 4 ≡ false
+-- is it a Write Characteristics?
+abbrev pub characterizes : Option Command → Bool
+characterizes None = false
+characterizes (Some c) = eqb (tag_of variants.the_type c) 4
+
+abbrev Other : Option Command → Type 0
+Other c = characterizes c ≡ false
 
 reads : (mode : ℕ) → Other (read_mode mode)
 unfolding read_mode
@@ -35,9 +41,9 @@ controls : (mode : ℕ) → Other (control_mode mode)
 unfolding control_mode
 controls mode = either Other (eqb mode 0) _ _ refl (either Other (eqb mode 1) _ _ refl (either Other (eqb mode 2) _ _ refl refl))
 
-singles : (c : Command) (mode : ℕ) → Other c → Other (single_mode c mode)
+singles : (c : Command) (mode : ℕ) → Other (Some c) → Other (single_mode c mode)
 unfolding single_mode
-singles c mode h = either Other (eqb mode 0) c command.Illegal h refl
+singles c mode h = either Other (eqb mode 0) (Some c) None h refl
 
 others : (code mode : ℕ) → eqb code 4 ≡ false → Other (command_of code mode)
 unfolding command_of
@@ -51,5 +57,5 @@ others code mode four =
     (either Other (eqb code 11) _ _ (singles command.Initialize mode refl)
     (either Other (eqb code 15) _ _ (singles command.GetStatus mode refl) refl)))))))
 
-pub code_four : (code mode : ℕ) → eqb (tag_of variants.the_type (command_of code mode)) 4 ≡ true → code ≡ 4
+pub code_four : (code mode : ℕ) → characterizes (command_of code mode) ≡ true → code ≡ 4
 code_four code mode h = by_test (eqb code 4) (λ t. eqb-true code 4 t) (λ t. absurd (true≢false (sym h ∙ others code mode t)))

@@ -5,10 +5,11 @@ use mathlib.Core.List.{List, [], ◌∷◌}
 use Prim.Native.Nat.{ℕ}
 use native.Mathlib.Omega.{arith}
 use borrow.Author.Tests.{eqb-true}
+use Rattle.std.specs.Prelude.{Ok, Err}
 use Rattle.lists.proofs.Cases.{by_test}
 use Rattle.commands.specs.Answers.{is_step}
-use Rattle.commands.specs.declared.plans.Answer.{Answer}
-use Rattle.commands.specs.declared.plans.Answer.TheVariants as answer
+use Rattle.commands.specs.Answers.{Answer}
+use Rattle.commands.specs.declared.plans.Done.TheVariants as answer
 use Rattle.unit.specs.Asks.{Ask, advance}
 use Rattle.worlds.specs.Coupled.{core_of, deck_at}
 use Rattle.sessions.specs.Calling.{step_kind}
@@ -16,7 +17,7 @@ use Rattle.sessions.specs.Session.{does, stepped}
 use Rattle.histories.specs.Calling.{Call, Here, OfUnit, call_kind, calls, core_for, coupled_from, kind_now, on_call, read_register, step, store}
 use Rattle.histories.specs.Good.{Among, Good, bytes_at}
 use Rattle.isolation.specs.Reads.{SameRead}
-use Rattle.isolation.specs.Runs.{IsAdvance, ReadsSame, Refusal, Seen, Undisturbed, Unrefused, is_of, none, one, ran, remains, seen, sight_of, without}
+use Rattle.isolation.specs.Runs.{IsAdvance, ReadsSame, Refusal, Undisturbed, Unrefused, is_of, one, ran, remains, seen, sight_of, without}
 use Rattle.isolation.specs.Runs as runs
 use Rattle.isolation.proofs.Beside.{Beside}
 use Rattle.isolation.proofs.Onward.{alike, answers_alike, onward, others_onward}
@@ -31,10 +32,9 @@ of_remains u (read_register k q) r = r
 -- a step is what is answered "done"
 done_step : (a : Answer) → is_step a ≡ true → step_kind a ≡ stepped
 unfolding is_step step_kind
-done_step (answer.Done i) e = refl
-done_step answer.Idle e = absurd (let z : ◌≡◌ {A = ℕ} 0 1 = cc e in omega arith)
-done_step (answer.Refused k) e = absurd (let z : ◌≡◌ {A = ℕ} 0 1 = cc e in omega arith)
-done_step (answer.BadBlock why k) e = absurd (let z : ◌≡◌ {A = ℕ} 0 1 = cc e in omega arith)
+done_step (Ok (answer.Step i)) e = refl
+done_step (Ok answer.Idle) e = absurd (let z : ◌≡◌ {A = ℕ} 0 1 = cc e in omega arith)
+done_step (Err k) e = absurd (let z : ◌≡◌ {A = ℕ} 0 1 = cc e in omega arith)
 
 module _ (n u : ℕ) (ks : List ℕ) (here : Among u ks) where
   -- the bytes that a call of unit u stores, if it takes a step

@@ -6,6 +6,7 @@ use Prim.Native.Nat.{ℕ}
 use denote.Enum.Declared.{tag_of}
 use lib.Dec.{eqb}
 use lib.ListN.{length}
+use Rattle.std.specs.Prelude.{Option, Some, None}
 use Rattle.tape.proofs.Below.{pick_agree}
 use Rattle.signals.specs.Codes.{command_of}
 use Rattle.signals.specs.Header.{packet_of}
@@ -20,7 +21,7 @@ use Rattle.advance.specs.Steps.{advanced, advanced_under, step_attention_under, 
 use Rattle.demands.specs.Ways.{started}
 use Rattle.isolation.specs.Reads.{SameRead, header_at, of_characteristics}
 use Rattle.isolation.proofs.Characterizing.{SameData, characterized_same}
-use Rattle.isolation.proofs.Coding.{code_four}
+use Rattle.isolation.proofs.Coding.{characterizes, code_four}
 use Rattle.isolation.proofs.Packets.{header_same, packet_same}
 use Rattle.isolation.proofs.Readings.{reads_same}
 
@@ -28,29 +29,29 @@ module _ (m m' s : List ℕ) (long : length m ≡ length m') where
   module _ (v : Unit) (h : Header) where
     module _ (p : Packet) where
       -- the others are planned from state, reel and packet alone
-      carried_same : (c : Command) → (eqb (tag_of variants.the_type c) 4 ≡ true → SameData m m' p) → carried_out v m s h p c ≡ carried_out v m' s h p c
+      carried_same : (c : Option Command) → (characterizes c ≡ true → SameData m m' p) → carried_out v m s h p c ≡ carried_out v m' s h p c
       unfolding carried_out_under
-      carried_same command.ReadNext f = refl
-      carried_same command.ReadPrevious f = refl
-      carried_same command.RereadPrevious f = refl
-      carried_same command.RereadNext f = refl
-      carried_same command.WriteCharacteristics f = characterized_same m m' p (f refl) long v h.ie
-      carried_same command.Write f = refl
-      carried_same command.WriteRetry f = refl
-      carried_same command.RecordsForward f = refl
-      carried_same command.RecordsReverse f = refl
-      carried_same command.MarksForward f = refl
-      carried_same command.MarksReverse f = refl
-      carried_same command.Rewind f = refl
-      carried_same command.WriteMark f = refl
-      carried_same command.Erase f = refl
-      carried_same command.MarkRetry f = refl
-      carried_same command.Release f = refl
-      carried_same command.Unload f = refl
-      carried_same command.Clean f = refl
-      carried_same command.Initialize f = refl
-      carried_same command.GetStatus f = refl
-      carried_same command.Illegal f = refl
+      carried_same (Some command.ReadNext) f = refl
+      carried_same (Some command.ReadPrevious) f = refl
+      carried_same (Some command.RereadPrevious) f = refl
+      carried_same (Some command.RereadNext) f = refl
+      carried_same (Some command.WriteCharacteristics) f = characterized_same m m' p (f refl) long v h.ie
+      carried_same (Some command.Write) f = refl
+      carried_same (Some command.WriteRetry) f = refl
+      carried_same (Some command.RecordsForward) f = refl
+      carried_same (Some command.RecordsReverse) f = refl
+      carried_same (Some command.MarksForward) f = refl
+      carried_same (Some command.MarksReverse) f = refl
+      carried_same (Some command.Rewind) f = refl
+      carried_same (Some command.WriteMark) f = refl
+      carried_same (Some command.Erase) f = refl
+      carried_same (Some command.MarkRetry) f = refl
+      carried_same (Some command.Release) f = refl
+      carried_same (Some command.Unload) f = refl
+      carried_same (Some command.Clean) f = refl
+      carried_same (Some command.Initialize) f = refl
+      carried_same (Some command.GetStatus) f = refl
+      carried_same None f = refl
 
       -- steps 10 to 8
       extent_same : (h.code ≡ 4 → SameData m m' p) → step_extent v m s h p ≡ step_extent v m' s h p

@@ -6,9 +6,11 @@ use Prim.Native.Nat.{ℕ, ◌-◌, ◌≤◌}
 use native.Mathlib.Omega.{arith}
 use borrow.Author.Tests.{le-ltb, ltb-false}
 use lib.ListN.{length}
+use Rattle.std.specs.Prelude.{Ok, Err}
 use Rattle.lists.proofs.Cases.{by_test}
-use Rattle.commands.specs.declared.plans.Answer.{Answer}
-use Rattle.commands.specs.declared.plans.Answer.TheVariants as answer
+use Rattle.state.specs.declared.refusal.Refusal.TheVariants as refusal
+use Rattle.commands.specs.Answers.{Answer}
+use Rattle.commands.specs.declared.plans.Done.TheVariants as answer
 use Rattle.unit.specs.Asks.{Ask}
 use Rattle.unit.specs.Cores.{Core}
 use Rattle.unit.specs.Steps.{Step, step_of, too_small}
@@ -32,19 +34,18 @@ module _ (v v' : World) (x x' : Step) (places : absent_place v'.core x' ≡ abse
       let same : e' ≡ e = same_entry in
       le-ltb (v'.ledger.length - v'.ledger.used) e' (omega (arith, enough, same, long, fewer))
 
-  by_answer : (a : Answer) → ((taken_by v x a).answer ≡ answer.Refused 9 → ⊥) → ((taken_by v x a).answer ≡ answer.Refused 11 → ⊥) → (taken_by v' x' a).answer ≡ (taken_by v x a).answer
+  by_answer : (a : Answer) → ((taken_by v x a).answer ≡ Err refusal.Room → ⊥) → ((taken_by v x a).answer ≡ Err refusal.Table → ⊥) → (taken_by v' x' a).answer ≡ (taken_by v x a).answer
   unfolding taken_by taken_as
-  by_answer (answer.Done i) f g =
+  by_answer (Ok (answer.Step i)) f g =
       by_test (absent_place v.core x)
       (λ p. absurd (g (rw p)))
       (λ p. by_test (too_full v.ledger (entry_for v.number v.core x))
       (λ q. absurd (f (rw (p, q))))
       (λ q. rw (places, p, q, roomy q)))
-  by_answer answer.Idle f g = refl
-  by_answer (answer.Refused k) f g = refl
-  by_answer (answer.BadBlock why k) f g = refl
+  by_answer (Ok answer.Idle) f g = refl
+  by_answer (Err k) f g = refl
 
-  pub taken_alike : x.answer ≡ x'.answer → ((taken_by v x x.answer).answer ≡ answer.Refused 9 → ⊥) → ((taken_by v x x.answer).answer ≡ answer.Refused 11 → ⊥)
+  pub taken_alike : x.answer ≡ x'.answer → ((taken_by v x x.answer).answer ≡ Err refusal.Room → ⊥) → ((taken_by v x x.answer).answer ≡ Err refusal.Table → ⊥)
       → (taken_by v' x' x'.answer).answer ≡ (taken_by v x x.answer).answer
   taken_alike e f g = ap (λ (a : Answer). (taken_by v' x' a).answer) (sym e) ∙ by_answer x.answer f g
 

@@ -19,13 +19,14 @@ use Rattle.moves.specs.declared.seeking.Sought.TheVariants as sought-as
 use Rattle.motions.specs.Parts.{laid_blocks, no_lay}
 use Rattle.motions.specs.Writes.{behind_gap, no_room, retried_by, retried_by_under, retried_under, written_at, written_at_under, written_motion_under}
 use Rattle.motions.specs.declared.parts.Laid.{Laid}
-use Rattle.motions.specs.declared.parts.Motion.{Motion}
-use Rattle.motions.specs.declared.parts.Motion.TheVariants as motion
+use Rattle.motions.specs.declared.parts.Ending.{Ending}
 use Rattle.motions.specs.declared.parts.ObjectKind.{ObjectKind}
 use Rattle.motions.specs.declared.parts.ObjectKind.TheVariants as kind
 use Rattle.commands.specs.Commands.{laying}
 use Rattle.commands.specs.Ends.{motion_plan, motion_plan_under, still, told_under}
 use Rattle.storing.specs.Stored.{laid_object, laid_objects}
+use Rattle.std.specs.Prelude.{Result, Ok, Err}
+use Rattle.tape.specs.declared.Damage.{Damage}
 
 module _ (m m' : List ℕ) where
   pub gathered_same : (w : Bool) (a n : ℕ) → ((i : ℕ) → i < n → get_or m (place w (a + i)) 0 ≡ get_or m' (place w (a + i)) 0) → gathered w m a n ≡ gathered w m' a n
@@ -53,9 +54,9 @@ module _ (m m' : List ℕ) where
   objects_same l e = rw (object_same l e l.object)
 
   -- and so where a motion lays l, or nothing
-  abbrev Taken : Motion → Type 0
-  Taken (motion.Ended x) = SameTaken x.laid
-  Taken (motion.Fault why k) = Always
+  abbrev Taken : Result Ending Damage → Type 0
+  Taken (Ok x) = SameTaken x.laid
+  Taken (Err d) = Always
 
   module _ (t : Tape) (blocks : ℕ) (mark : Bool) where
     written_same : (l : Laid) → SameTaken l → Taken (written_at t blocks l mark)
@@ -67,21 +68,21 @@ module _ (m m' : List ℕ) where
     unfolding behind_gap
     behind_same l q e = written_same (behind_gap l q) e
 
-    retried_same : (l : Laid) (f : Sought) → SameTaken l → Taken (retried_by t blocks l mark f)
+    retried_same : (l : Laid) (f : Result Sought Damage) → SameTaken l → Taken (retried_by t blocks l mark f)
     unfolding retried_by_under
-    retried_same l (sought-as.Record n q) e = behind_same l q e
-    retried_same l (sought-as.Mark q) e = behind_same l q e
-    retried_same l (sought-as.Nothing q) e = none_same
-    retried_same l (sought-as.Bad why k) e = tt
+    retried_same l (Ok (sought-as.Record n q)) e = behind_same l q e
+    retried_same l (Ok (sought-as.Mark q)) e = behind_same l q e
+    retried_same l (Ok (sought-as.Nothing q)) e = none_same
+    retried_same l (Err d) e = tt
 
     laying_same : (s : List ℕ) (l : Laid) (again : Bool) → SameTaken l → Taken (laying s t blocks l mark again)
     unfolding retried_under
     laying_same s l again e = either Taken again _ _ (retried_same l (sought s true t.position t.end) e) (written_same l e)
 
-  motion_same : (v : Unit) (ie : Bool) (y : Motion) → Taken y → SameTaken (motion_plan v ie y).laid
+  motion_same : (v : Unit) (ie : Bool) (y : Result Ending Damage) → Taken y → SameTaken (motion_plan v ie y).laid
   unfolding motion_plan_under told_under still
-  motion_same v ie (motion.Ended x) e = e
-  motion_same v ie (motion.Fault why k) e = none_same
+  motion_same v ie (Ok x) e = e
+  motion_same v ie (Err d) e = none_same
 
   -- the plan of a Write or Format
   pub laid_same : (v : Unit) (ie : Bool) (s : List ℕ) (l : Laid) (mark again : Bool) → SameTaken l → SameTaken (motion_plan v ie (laying s v.tape v.lengths.blocks l mark again)).laid

@@ -5,9 +5,10 @@ use mathlib.Core.Path.{◌≡◌, sym, subst, ◌∙◌}
 use Prim.Native.Nat.{ℕ, ◌+◌, ◌<◌}
 use native.Mathlib.Omega.{arith}
 use lib.ListN.{get_or, length}
+use Rattle.std.specs.Prelude.{Ok}
 use Rattle.lists.specs.Places.{place, placed}
 use Rattle.lists.proofs.Placed.{length_placed}
-use Rattle.commands.specs.declared.plans.Answer.TheVariants as answer
+use Rattle.commands.specs.declared.plans.Done.TheVariants as answer
 use Rattle.touched.specs.declared.Touched.{Touched}
 use Rattle.unit.specs.Asks.{Ask}
 use Rattle.unit.specs.Cores.{Admitted, Core}
@@ -36,7 +37,7 @@ filled_alike t b m m' long d n j x =
 pub admitted_alike : (c c' : Core) → SameButMemory c c' → Admitted c → Admitted c'
 admitted_alike c c' e a = subst Admitted (core_is c c' e) (record { legal = a.legal; memory_is = sym e.long ∙ a.memory_is; reel_is = a.reel_is })
 
-pub stored_alike : (a : Ask) (c c' : Core) → Admitted c → SameButMemory c c' → StepsAlike a c c' → (i : Bool) → (step_of a c).answer ≡ answer.Done i → (j : ℕ) → TouchesAt (step_of a c).touched j → get_or (step_of a c).after.memory j 0 ≡ get_or (step_of a c').after.memory j 0
+pub stored_alike : (a : Ask) (c c' : Core) → Admitted c → SameButMemory c c' → StepsAlike a c c' → (i : Bool) → (step_of a c).answer ≡ Ok (answer.Step i) → (j : ℕ) → TouchesAt (step_of a c).touched j → get_or (step_of a c).after.memory j 0 ≡ get_or (step_of a c').after.memory j 0
 stored_alike a c c' w e x i y j t =
     let s = stores a c i w y in
     let s' = stores a c' i (admitted_alike c c' e w) (sym x.answer ∙ y) in

@@ -6,6 +6,7 @@ use mathlib.Core.Path.{◌≡◌, refl}
 use Prim.Native.Nat.{ℕ, ◌≤◌}
 use borrow.Author.Tests.{eqb-true}
 use lib.Dec.{eqb}
+use Rattle.std.specs.Prelude.{Option}
 use Rattle.lists.proofs.Cases.{by_test}
 use Rattle.lists.specs.Places.{gathered}
 use Rattle.signals.specs.Codes.{command_of, format_mode, write_mode}
@@ -28,7 +29,7 @@ use Rattle.isolation.specs.Reads.{SameRead, header_at, of_data, packet_at}
 use Rattle.isolation.proofs.Taking.{SameTaken, gathered_same, laid_same, none_same, objects_same}
 
 module _ (m m' s : List ℕ) (v : Unit) (h : Header) (p : Packet) where
-  abbrev Same : Command → Type 0
+  abbrev Same : Option Command → Type 0
   Same c = SameTaken m m' (carried_out v m s h p c).laid
 
   write_same : (again : Bool) → SameTaken m m' (laid_here v.tape kind.Record p.pointer p.count h.swb) → SameTaken m m' (written_by v s h p again).laid

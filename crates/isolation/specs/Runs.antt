@@ -1,10 +1,11 @@
 -- "take a run without step back, later mounts, or refusals for room or index, and delete every step of the other units. If the bytes the remaining unit reads from memory are
 -- the same, its registers, messages, reel and position are too." (02, [9]) A run is a list of calls, oldest first.
+use Rattle.std.specs.Prelude.{Err}
 use Rattle.std.specs.Prelude.{Bool, true, false, List, [], ◌∷◌, ◌⊎◌, ◌≡◌, ℕ, eqb}
 use Rattle.lists.specs.Pick.{pick}
+use Rattle.state.specs.declared.refusal.Refusal.TheVariants as refusal
 use Rattle.commands.specs.Answers.{is_step}
-use Rattle.commands.specs.declared.plans.Answer.{Answer}
-use Rattle.commands.specs.declared.plans.Answer.TheVariants as answer
+use Rattle.commands.specs.Answers.{Answer}
 use Rattle.unit.specs.Asks.{advance}
 use Rattle.unit.specs.Stores.{StepBytes, no_bytes}
 use Rattle.worlds.specs.Coupled.{core_of, deck_at}
@@ -36,7 +37,7 @@ without u (c ∷ cs) = pick (remains u c) (c ∷ without u cs) (without u cs)
 
 -- "refusals for room or index": 9 and 11
 abbrev pub Refusal : Answer → Type 0
-Refusal a = (a ≡ answer.Refused 9) ⊎ (a ≡ answer.Refused 11)
+Refusal a = (a ≡ Err refusal.Room) ⊎ (a ≡ Err refusal.Table)
 
 -- no call that remains is refused so
 pub data Unrefused (n u : ℕ) : List Call → Here → Type 0 where

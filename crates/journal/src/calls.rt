@@ -2,15 +2,16 @@
 // (specs/Calls.antt); the theorems over any sequence of them are listed in crates/sessions/src/lib.rt.
 ghost use Rattle.std.specs.Prelude.{◌≡◌, length};
 ghost use Rattle.unit.specs.Asks.{Ask};
-ghost use Rattle.worlds.specs.Worlds.{Leaves, world_of};
+ghost use Rattle.worlds.specs.Worlds.{Leaves, answer_of, outcome_of, outcome_told, world_of};
 ghost use Rattle.tape.specs.Afresh.{objects_in};
-ghost use Rattle.worlds.specs.Calls.{back_on, mount_on, register_on, step_on, table_mounted};
+ghost use Rattle.worlds.specs.Calls.{back_on, mount_on, read_of, register_on, step_on, table_mounted};
+ghost use Rattle.worlds.specs.declared.Session.{Session};
 
-use commands::Answer;
-use state::Act;
-use steps::{change, change_refusal, host_step, mount_table, refused, step, undo};
+use commands::Done;
+use state::{Act, Refusal};
+use steps::{change, check_change, host_step, mount_table, step, undo};
 use unit::{Register, register_word};
-use worlds::{JOURNAL_LIMIT, Outcome, RegisterRead, Session, check, session_wrong};
+use worlds::{JOURNAL_LIMIT, Session, Stepped, check, session_wrong};
 
 pub fn write_tsdb(
     s: Session,
@@ -20,15 +21,11 @@ pub fn write_tsdb(
     table: &[u8],
     jrnl: &mut [u8],
     word: u16,
-) -> Outcome
-    ensures { Leaves (step_on (world_of k s mem.old reel.old table.now jrnl.old) (length jrnl.old) (Ask.write_tsdb word)) jrnl.old result mem.new reel.new table.now jrnl.new }
+) -> Result<Session, Refusal>
+    ensures { Leaves (step_on (world_of k s mem.old reel.old table.now jrnl.old) (length jrnl.old) (Ask.write_tsdb word)) jrnl.old (outcome_of s result) mem.new reel.new table.now jrnl.new }
 {
-    let n = change_refusal(s, mem.len(), reel.len(), table.len(), jrnl.len());
-    if n != 0 {
-        return refused(s, n);
-    }
-    let u = s.unit;
-    change(s, k, u.write_tsdb(word), mem, reel, table, jrnl)
+    check_change(s, mem.len(), reel.len(), table.len(), jrnl.len())?;
+    Ok(change(s, k, s.unit.write_tsdb(word), mem, reel, table, jrnl))
 }
 
 // Any value initializes.
@@ -39,15 +36,11 @@ pub fn write_tssr(
     reel: &mut [u8],
     table: &[u8],
     jrnl: &mut [u8],
-) -> Outcome
-    ensures { Leaves (step_on (world_of k s mem.old reel.old table.now jrnl.old) (length jrnl.old) Ask.write_tssr) jrnl.old result mem.new reel.new table.now jrnl.new }
+) -> Result<Session, Refusal>
+    ensures { Leaves (step_on (world_of k s mem.old reel.old table.now jrnl.old) (length jrnl.old) Ask.write_tssr) jrnl.old (outcome_of s result) mem.new reel.new table.now jrnl.new }
 {
-    let n = change_refusal(s, mem.len(), reel.len(), table.len(), jrnl.len());
-    if n != 0 {
-        return refused(s, n);
-    }
-    let u = s.unit;
-    change(s, k, u.initialize(), mem, reel, table, jrnl)
+    check_change(s, mem.len(), reel.len(), table.len(), jrnl.len())?;
+    Ok(change(s, k, s.unit.initialize(), mem, reel, table, jrnl))
 }
 
 pub fn operate(
@@ -58,32 +51,21 @@ pub fn operate(
     table: &[u8],
     jrnl: &mut [u8],
     act: Act,
-) -> Outcome
-    ensures { Leaves (step_on (world_of k s mem.old reel.old table.now jrnl.old) (length jrnl.old) (Ask.operate act)) jrnl.old result mem.new reel.new table.now jrnl.new }
+) -> Result<Session, Refusal>
+    ensures { Leaves (step_on (world_of k s mem.old reel.old table.now jrnl.old) (length jrnl.old) (Ask.operate act)) jrnl.old (outcome_of s result) mem.new reel.new table.now jrnl.new }
 {
-    let n = change_refusal(s, mem.len(), reel.len(), table.len(), jrnl.len());
-    if n != 0 {
-        return refused(s, n);
-    }
-    let u = s.unit;
-    change(s, k, u.operate(act), mem, reel, table, jrnl)
+    check_change(s, mem.len(), reel.len(), table.len(), jrnl.len())?;
+    Ok(change(s, k, s.unit.operate(act), mem, reel, table, jrnl))
 }
 
-// 0 and the word, or refusal 1 and word 0.
-pub fn read_register(s: Session, register: Register) -> RegisterRead
-    ensures { result ≡ register_on s register }
+// The word, or refusal 1.
+pub fn read_register(s: Session, register: Register) -> Result<u16, Refusal>
+    ensures { read_of result ≡ register_on s register }
 {
     if session_wrong(s) {
-        return RegisterRead {
-            answer: Answer::Refused(1),
-            word: 0,
-        };
+        return Err(Refusal::State);
     }
-    let u = s.unit;
-    RegisterRead {
-        answer: Answer::Done(false),
-        word: register_word(u, register),
-    }
+    Ok(register_word(s.unit, register))
 }
 
 pub fn host_store(
@@ -94,15 +76,12 @@ pub fn host_store(
     jrnl: &mut [u8],
     place: usize,
     bytes: &[u8],
-) -> Outcome
-    ensures { Leaves (step_on (world_of 0 s mem.old reel.now table.now jrnl.old) (length jrnl.old) (Ask.host_store place bytes.now)) jrnl.old result mem.new reel.now table.now jrnl.new }
+) -> Result<Session, Refusal>
+    ensures { Leaves (step_on (world_of 0 s mem.old reel.now table.now jrnl.old) (length jrnl.old) (Ask.host_store place bytes.now)) jrnl.old (outcome_of s result) mem.new reel.now table.now jrnl.new }
 {
-    let n = check(s, mem.len(), reel.len(), jrnl.len());
-    if n != 0 {
-        return refused(s, n);
-    }
+    check(s, mem.len(), reel.len(), jrnl.len())?;
     if unit::store_wrong(mem.len(), place, bytes.len()) {
-        return refused(s, 5);
+        return Err(Refusal::Store);
     }
     host_step(s, mem, reel, table, jrnl, place, bytes)
 }
@@ -114,21 +93,17 @@ pub fn advance(
     reel: &mut [u8],
     table: &mut [u8],
     jrnl: &mut [u8],
-) -> Outcome
-    ensures { Leaves (step_on (world_of k s mem.old reel.old table.old jrnl.old) (length jrnl.old) Ask.advance) jrnl.old result mem.new reel.new table.new jrnl.new }
+) -> Result<Stepped, Refusal>
+    ensures { Leaves (step_on (world_of k s mem.old reel.old table.old jrnl.old) (length jrnl.old) Ask.advance) jrnl.old (outcome_told s result) mem.new reel.new table.new jrnl.new }
 {
-    let n = check(s, mem.len(), reel.len(), jrnl.len());
-    if n != 0 {
-        return refused(s, n);
-    }
-    let u = s.unit;
-    let p = unit::plan_advance(u, mem, reel);
-    let answer = p.answer;
-    match answer {
-        Answer::Done(_) => step(s, k, p, mem, reel, table, jrnl),
-        Answer::Idle => Outcome { answer, session: s },
-        Answer::Refused(_) => Outcome { answer, session: s },
-        Answer::BadBlock(_, _) => Outcome { answer, session: s },
+    check(s, mem.len(), reel.len(), jrnl.len())?;
+    let p = unit::plan_advance(s.unit, mem, reel);
+    match p.answer? {
+        Done::Step(interrupts) => step(s, k, p, interrupts, mem, reel, table, jrnl),
+        Done::Idle => Ok(Stepped {
+            done: Done::Idle,
+            session: s,
+        }),
     }
 }
 
@@ -138,25 +113,21 @@ pub fn step_back(
     reel: &mut [u8],
     table: &mut [u8],
     jrnl: &[u8],
-) -> Outcome
-    ensures { Leaves (back_on (world_of 0 s mem.old reel.old table.old jrnl.now) (length jrnl.now)) jrnl.now result mem.new reel.new table.new jrnl.now }
+) -> Result<Session, Refusal>
+    ensures { Leaves (back_on (world_of 0 s mem.old reel.old table.old jrnl.now) (length jrnl.now)) jrnl.now (outcome_of s result) mem.new reel.new table.new jrnl.now }
 {
-    let n = check(s, mem.len(), reel.len(), jrnl.len());
-    if n != 0 {
-        return refused(s, n);
-    }
+    check(s, mem.len(), reel.len(), jrnl.len())?;
     if s.used == 0 {
-        return refused(s, 6);
+        return Err(Refusal::Empty);
     }
     if s.used < entries::BARE {
-        return refused(s, 8);
+        return Err(Refusal::Entry);
     }
     undo(s, mem, reel, table, jrnl)
 }
 
-// Mount: the session it replaces is not looked at; refused, that is handed back, else the table is filled and the journal empty.
+// Mount: the session it replaces is not looked at, and stands where it is refused; else the table is filled and the journal empty.
 pub fn mount(
-    old: Session,
     memory: usize,
     reel: &[u8],
     table: &mut [u8],
@@ -164,34 +135,14 @@ pub fn mount(
     e: usize,
     online: bool,
     locked: bool,
-) -> Outcome
-    ensures outcome { result ≡ mount_on old memory reel.now (length table.old) journal e online locked }
-    ensures table { table.new ≡ table_mounted table.old (objects_in reel.now e) result.answer }
+) -> Result<Session, Refusal>
+    ensures outcome { (old : Session) → outcome_of old result ≡ mount_on old memory reel.now (length table.old) journal e online locked }
+    ensures table { table.new ≡ table_mounted table.old (objects_in reel.now e) (answer_of result) }
 {
-    let n = unit::mount_refusal(memory, reel.len(), e);
-    if n != 0 {
-        return refused(old, n);
-    }
+    unit::mount_refusal(memory, reel.len(), e)?;
     if JOURNAL_LIMIT < journal {
-        return refused(old, 4);
+        return Err(Refusal::Journal);
     }
-    let u = old.unit;
-    let o = unit::mount(u, memory, reel, e, online, locked);
-    let answer = o.answer;
-    let unit = o.unit;
-    match answer {
-        Answer::Done(i) => mount_table(old, unit, i, reel, table, journal, e),
-        Answer::Idle => Outcome {
-            answer,
-            session: old,
-        },
-        Answer::Refused(_) => Outcome {
-            answer,
-            session: old,
-        },
-        Answer::BadBlock(_, _) => Outcome {
-            answer,
-            session: old,
-        },
-    }
+    let u = unit::mount(memory, reel, e, online, locked)?;
+    mount_table(u, reel, table, journal, e)
 }

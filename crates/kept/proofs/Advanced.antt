@@ -10,7 +10,9 @@ use Rattle.tape.specs.declared.BlockFault.{BlockFault}
 use Rattle.signals.specs.Codes.{command_of}
 use Rattle.state.specs.declared.Unit.{Unit}
 use Rattle.moves.specs.Between.{Bound}
-use Rattle.commands.specs.declared.plans.Answer.TheVariants as answer
+use Rattle.std.specs.Prelude.{Ok}
+use Rattle.commands.specs.Answers.{bad_block}
+use Rattle.commands.specs.declared.plans.Done.TheVariants as answer
 use Rattle.storing.specs.Stored.{reel_after}
 use Rattle.advance.specs.Steps.{advanced}
 use Rattle.advance.proofs.Walk.{Akin, Carries, Rejects, Untold, advanced_all}
@@ -35,11 +37,11 @@ module _ (s m : List ℕ) (u : Unit) (w : length s ≡ block_bytes * u.lengths.b
       carried_kept s m v (rw a.lengths w) (still_formed v a) h p (command_of h.code h.mode) (right_count h p.count f)
 
   plan_kept : KeptPlan s m (advanced u m s)
-  plan_kept = advanced_all u m s (KeptPlan s m) rejects untolds carries (still_kept s m u answer.Idle k (λ why b c. clash (cc)))
+  plan_kept = advanced_all u m s (KeptPlan s m) rejects untolds carries (still_kept s m u (Ok answer.Idle) k (λ why b c. clash (cc)))
 
 module _ (u : Unit) (m s : List ℕ) {os : List Object} (w : length s ≡ block_bytes * u.lengths.blocks) (h : Holds s u.tape.end os) (b : Bound os u.tape.position) where
   pub advanced_kept : Formed (reel_after (advanced u m s) m s) (advanced u m s).unit.tape
   advanced_kept = (plan_kept s m u w (os, h, b)).stands
 
-  pub advanced_no_fault : (why : BlockFault) (k : ℕ) → (advanced u m s).answer ≡ answer.BadBlock why k → ⊥
+  pub advanced_no_fault : (why : BlockFault) (k : ℕ) → (advanced u m s).answer ≡ bad_block why k → ⊥
   advanced_no_fault = (plan_kept s m u w (os, h, b)).sound

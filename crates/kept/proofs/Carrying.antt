@@ -5,6 +5,7 @@ use mathlib.Core.Path.{◌≡◌, refl}
 use Prim.Native.Nat.{ℕ, ◌*◌, ◌≤◌}
 use lib.Dec.{leb, ltb}
 use lib.ListN.{length}
+use Rattle.std.specs.Prelude.{Option, Some, None}
 use Rattle.lists.specs.Pick.{Always}
 use Rattle.tape.specs.Numbers.{block_bytes, record_limit}
 use Rattle.tape.specs.Objects.{blocks_of}
@@ -33,28 +34,28 @@ use Rattle.kept.proofs.Spacing.{positioned_kept}
 use Rattle.kept.proofs.Writing.{RightLength, retried_kept, written_kept}
 
 -- a Write asks for a record of an allowed length (step 9)
-abbrev pub RightCount : Command → ℕ → Type 0
-RightCount command.ReadNext n = Always
-RightCount command.ReadPrevious n = Always
-RightCount command.RereadPrevious n = Always
-RightCount command.RereadNext n = Always
-RightCount command.WriteCharacteristics n = Always
-RightCount command.Write n = (1 ≤ n) × (n ≤ record_limit)
-RightCount command.WriteRetry n = (1 ≤ n) × (n ≤ record_limit)
-RightCount command.RecordsForward n = Always
-RightCount command.RecordsReverse n = Always
-RightCount command.MarksForward n = Always
-RightCount command.MarksReverse n = Always
-RightCount command.Rewind n = Always
-RightCount command.WriteMark n = Always
-RightCount command.Erase n = Always
-RightCount command.MarkRetry n = Always
-RightCount command.Release n = Always
-RightCount command.Unload n = Always
-RightCount command.Clean n = Always
-RightCount command.Initialize n = Always
-RightCount command.GetStatus n = Always
-RightCount command.Illegal n = Always
+abbrev pub RightCount : Option Command → ℕ → Type 0
+RightCount (Some command.ReadNext) n = Always
+RightCount (Some command.ReadPrevious) n = Always
+RightCount (Some command.RereadPrevious) n = Always
+RightCount (Some command.RereadNext) n = Always
+RightCount (Some command.WriteCharacteristics) n = Always
+RightCount (Some command.Write) n = (1 ≤ n) × (n ≤ record_limit)
+RightCount (Some command.WriteRetry) n = (1 ≤ n) × (n ≤ record_limit)
+RightCount (Some command.RecordsForward) n = Always
+RightCount (Some command.RecordsReverse) n = Always
+RightCount (Some command.MarksForward) n = Always
+RightCount (Some command.MarksReverse) n = Always
+RightCount (Some command.Rewind) n = Always
+RightCount (Some command.WriteMark) n = Always
+RightCount (Some command.Erase) n = Always
+RightCount (Some command.MarkRetry) n = Always
+RightCount (Some command.Release) n = Always
+RightCount (Some command.Unload) n = Always
+RightCount (Some command.Clean) n = Always
+RightCount (Some command.Initialize) n = Always
+RightCount (Some command.GetStatus) n = Always
+RightCount None n = Always
 
 module _ (s m : List ℕ) where
   -- an end that lays nothing
@@ -117,26 +118,26 @@ module _ (s m : List ℕ) where
     unfolding formatted_under
     format_kept h o mark again f = motion_kept s m u h.ie _ (lays o 0 0 false mark again (λ e. absurd (f e)))
 
-    pub carried_kept : (h : Header) (p : Packet) (c : Command) → RightCount c p.count → KeptPlan s m (carried_out u m s h p c)
+    pub carried_kept : (h : Header) (p : Packet) (c : Option Command) → RightCount c p.count → KeptPlan s m (carried_out u m s h p c)
     unfolding carried_out_under
-    carried_kept h p command.ReadNext r = read_kept h p false
-    carried_kept h p command.ReadPrevious r = read_kept h p true
-    carried_kept h p command.RereadPrevious r = reread_by_kept h p true
-    carried_kept h p command.RereadNext r = reread_by_kept h p false
-    carried_kept h p command.WriteCharacteristics r = characterized_kept p h.ie
-    carried_kept h p command.Write r = write_kept h p false r
-    carried_kept h p command.WriteRetry r = write_kept h p true r
-    carried_kept h p command.RecordsForward r = position_kept h (records p.count) false
-    carried_kept h p command.RecordsReverse r = position_kept h (records p.count) true
-    carried_kept h p command.MarksForward r = position_kept h (marks p.count) false
-    carried_kept h p command.MarksReverse r = position_kept h (marks p.count) true
-    carried_kept h p command.Rewind r = rewound_kept h.ie
-    carried_kept h p command.WriteMark r = format_kept h kind.Mark true false (λ e. clash (cc))
-    carried_kept h p command.Erase r = format_kept h kind.Gap false false (λ e. clash (cc))
-    carried_kept h p command.MarkRetry r = format_kept h kind.Mark true true (λ e. clash (cc))
-    carried_kept h p command.Release r = released_kept h.ie
-    carried_kept h p command.Unload r = unloaded_kept h.ie
-    carried_kept h p command.Clean r = plain_kept h.ie
-    carried_kept h p command.Initialize r = plain_kept h.ie
-    carried_kept h p command.GetStatus r = plain_kept h.ie
-    carried_kept h p command.Illegal r = plain_kept h.ie
+    carried_kept h p (Some command.ReadNext) r = read_kept h p false
+    carried_kept h p (Some command.ReadPrevious) r = read_kept h p true
+    carried_kept h p (Some command.RereadPrevious) r = reread_by_kept h p true
+    carried_kept h p (Some command.RereadNext) r = reread_by_kept h p false
+    carried_kept h p (Some command.WriteCharacteristics) r = characterized_kept p h.ie
+    carried_kept h p (Some command.Write) r = write_kept h p false r
+    carried_kept h p (Some command.WriteRetry) r = write_kept h p true r
+    carried_kept h p (Some command.RecordsForward) r = position_kept h (records p.count) false
+    carried_kept h p (Some command.RecordsReverse) r = position_kept h (records p.count) true
+    carried_kept h p (Some command.MarksForward) r = position_kept h (marks p.count) false
+    carried_kept h p (Some command.MarksReverse) r = position_kept h (marks p.count) true
+    carried_kept h p (Some command.Rewind) r = rewound_kept h.ie
+    carried_kept h p (Some command.WriteMark) r = format_kept h kind.Mark true false (λ e. clash (cc))
+    carried_kept h p (Some command.Erase) r = format_kept h kind.Gap false false (λ e. clash (cc))
+    carried_kept h p (Some command.MarkRetry) r = format_kept h kind.Mark true true (λ e. clash (cc))
+    carried_kept h p (Some command.Release) r = released_kept h.ie
+    carried_kept h p (Some command.Unload) r = unloaded_kept h.ie
+    carried_kept h p (Some command.Clean) r = plain_kept h.ie
+    carried_kept h p (Some command.Initialize) r = plain_kept h.ie
+    carried_kept h p (Some command.GetStatus) r = plain_kept h.ie
+    carried_kept h p None r = plain_kept h.ie

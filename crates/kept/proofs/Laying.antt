@@ -6,6 +6,7 @@ use Prim.Native.Nat.{ℕ, ◌+◌, ◌≤◌}
 use native.Mathlib.Omega.{arith}
 use borrow.Author.Tests.{eqb-true}
 use lib.Dec.{eqb}
+use Rattle.std.specs.Prelude.{Option, Some, None}
 use Rattle.lists.proofs.Cases.{by_test, pick_told}
 use Rattle.tape.specs.Numbers.{record_limit}
 use Rattle.tape.specs.Objects.{Object, blocks_in, blocks_of, gap}
@@ -39,22 +40,24 @@ use Rattle.kept.specs.NoRoom.{Found, found_mark, found_record}
 use Rattle.kept.proofs.Carrying.{RightCount}
 use Rattle.kept.proofs.Lengths.{right_count}
 use Rattle.kept.proofs.Writing.{RightLength}
+use Rattle.std.specs.Prelude.{Result}
+use Rattle.tape.specs.declared.Damage.{Damage}
 
 -- the commands that write, by code and mode
-data Writer (code mode : ℕ) : Command → Type 0 where
-  write : code ≡ 5 → mode ≡ 0 → Writer code mode command.Write
-  write_retry : code ≡ 5 → mode ≡ 2 → Writer code mode command.WriteRetry
-  write_mark : code ≡ 9 → mode ≡ 0 → Writer code mode command.WriteMark
-  erase : code ≡ 9 → mode ≡ 1 → Writer code mode command.Erase
-  mark_retry : code ≡ 9 → mode ≡ 2 → Writer code mode command.MarkRetry
+data Writer (code mode : ℕ) : Option Command → Type 0 where
+  write : code ≡ 5 → mode ≡ 0 → Writer code mode (Some command.Write)
+  write_retry : code ≡ 5 → mode ≡ 2 → Writer code mode (Some command.WriteRetry)
+  write_mark : code ≡ 9 → mode ≡ 0 → Writer code mode (Some command.WriteMark)
+  erase : code ≡ 9 → mode ≡ 1 → Writer code mode (Some command.Erase)
+  mark_retry : code ≡ 9 → mode ≡ 2 → Writer code mode (Some command.MarkRetry)
 
 -- codes 5 and 9 in a mode that is not illegal
 module _ (code mode : ℕ) where
   -- a command that is illegal or of the writers
-  abbrev Legally : Command → Type 0
+  abbrev Legally : Option Command → Type 0
   Legally c = is_illegal c ≡ false → Writer code mode c
 
-  illegally : Legally command.Illegal
+  illegally : Legally None
   unfolding is_illegal
   illegally e = absurd (true≢false e)
 
@@ -108,7 +111,7 @@ module _ (v : Unit) (m s : List ℕ) (h : Header) (p : Packet) where
   lays_format k mark again c a o i f =
       record { kind = k; pointer = 0; count = 0; swb = false; mark = mark; object = o; marked = i; right = λ e. absurd (f e); short = omega arith; plan = rw a }
 
-  lays_by : {c : Command} → Writer h.code h.mode c → RightCount c p.count → Lay (carried_out v m s h p c)
+  lays_by : {c : Option Command} → Writer h.code h.mode c → RightCount c p.count → Lay (carried_out v m s h p c)
   unfolding carried_out_under laid_object
   lays_by (write c z) r = lays_record false c (rw z) r
   lays_by (write_retry c z) r = lays_record true c (rw z) r
@@ -142,7 +145,7 @@ unfolding laid_objects behind_gap
 gap_and_object m l q e = ap (λ (os : List Object). gap ∷ os) (behind m l q l.object ∙ e)
 
 -- a retry whose search found something lays it where the search stopped
-found_again : (t : Tape) (blocks : ℕ) (l : Laid) (mark : Bool) {at : ℕ} {f : Sought} → Found at f → retried_by t blocks l mark f ≡ written_at t blocks (behind_gap l at) mark
+found_again : (t : Tape) (blocks : ℕ) (l : Laid) (mark : Bool) {at : ℕ} {f : Result Sought Damage} → Found at f → retried_by t blocks l mark f ≡ written_at t blocks (behind_gap l at) mark
 unfolding retried_by_under
 found_again t blocks l mark found_record = refl
 found_again t blocks l mark found_mark = refl

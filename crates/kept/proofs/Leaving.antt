@@ -25,8 +25,7 @@ use Rattle.moves.proofs.Finds.{Finds, finds, finds_mark, finds_nothing, finds_re
 use Rattle.motions.specs.Parts.{laid_blocks, no_lay, object_blocks}
 use Rattle.motions.specs.Writes.{behind_gap, no_room, retried_under, retried_by, retried_by_under, written_at, written_at_under, written_motion, written_motion_under}
 use Rattle.motions.specs.declared.parts.Laid.{Laid}
-use Rattle.motions.specs.declared.parts.Motion.{Motion}
-use Rattle.motions.specs.declared.parts.Motion.TheVariants as motion
+use Rattle.motions.specs.declared.parts.Ending.{Ending}
 use Rattle.motions.specs.declared.parts.ObjectKind.{ObjectKind}
 use Rattle.commands.specs.Commands.{laid_here, laying}
 use Rattle.commands.specs.Ends.{ended, motion_plan, motion_plan_under, told_under, told_unit}
@@ -42,6 +41,8 @@ use Rattle.kept.proofs.Overlaid.{overlaid}
 use Rattle.kept.proofs.Standing.{unlaid}
 use Rattle.kept.proofs.Unwritten.{Unlaid, writes_or_stays}
 use Rattle.kept.proofs.Writing.{RightLength, laid_allowed}
+use Rattle.std.specs.Prelude.{Result, Ok, Err}
+use Rattle.tape.specs.declared.Damage.{Damage}
 
 -- the plan q lays something behind a bound of the objects os on the reel s: where, and what the reel holds then
 pub record LaysBehind (m s : List ℕ) (os : List Object) (q : Plan) : Type 0 where
@@ -64,18 +65,18 @@ module _ (s m : List ℕ) (t : Tape) (os : List Object) (o : Object) (mode : ℕ
     last : t'.position ≡ t'.end
 
   -- or nothing laid, and the recorded end as it was
-  abbrev MotionLeaves : Motion → Type 0
-  MotionLeaves (motion.Ended x) = Left x.laid x.tape ⊎ ((x.laid ≡ no_lay) × (x.tape.end ≡ t.end))
-  MotionLeaves (motion.Fault why k) = ⊥
+  abbrev MotionLeaves : Result Ending Damage → Type 0
+  MotionLeaves (Ok x) = Left x.laid x.tape ⊎ ((x.laid ≡ no_lay) × (x.tape.end ≡ t.end))
+  MotionLeaves (Err d) = ⊥
 
   abbrev PlanLeaves : Plan → Type 0
   PlanLeaves q = Left q.laid q.unit.tape ⊎ Unlaid t.end q
 
   -- a plan leaves what its motion leaves
-  plan_leaves : (u : Unit) (ie : Bool) (y : Motion) → MotionLeaves y → PlanLeaves (motion_plan u ie y)
+  plan_leaves : (u : Unit) (ie : Bool) (y : Result Ending Damage) → MotionLeaves y → PlanLeaves (motion_plan u ie y)
   unfolding motion_plan_under told_under told_unit ended
-  plan_leaves u ie (motion.Ended x) k = k
-  plan_leaves u ie (motion.Fault why b) k = absurd k
+  plan_leaves u ie (Ok x) k = k
+  plan_leaves u ie (Err d) k = absurd k
 
   module _ (blocks : ℕ) (whole : length s ≡ block_bytes * blocks) (h : Holds s t.end os) (b : Bound os t.position) (mark : Bool) where
     -- objects laid where the stretch that it goes over begins
@@ -110,7 +111,7 @@ module _ (s m : List ℕ) (t : Tape) (os : List Object) (o : Object) (mode : ℕ
           let l = laid_here t k pointer n swb in
           written_leaves (behind_gap l q) r c (subst (λ (new : List Object). Lays o mode over new) (sym (gap_and_object m l q one)) y)
 
-      again_by : mode ≡ 2 → {f : Sought} → Finds os true t.position f → MotionLeaves (retried_by t blocks (laid_here t k pointer n swb) mark f)
+      again_by : mode ≡ 2 → {f : Result Sought Damage} → Finds os true t.position f → MotionLeaves (retried_by t blocks (laid_here t k pointer n swb) mark f)
       unfolding retried_by_under
       again_by e (finds_record d g c) = again_leaves c (again_over_record e g)
       again_by e (finds_mark g c) = again_leaves c (again_over_mark e g)

@@ -5,6 +5,7 @@ use Prim.Native.Nat.{ℕ, ◌≤◌}
 use native.Mathlib.Omega.{arith}
 use borrow.Author.Tests.{eqb-false, ltb-false}
 use lib.Dec.{eqb, ltb}
+use Rattle.std.specs.Prelude.{Option, Some}
 use Rattle.lists.proofs.Cases.{pick_told}
 use Rattle.tape.specs.Numbers.{record_limit}
 use Rattle.signals.specs.Codes.{command_of, control_mode, format_mode, position_mode, read_mode, single_mode, write_mode}
@@ -15,7 +16,7 @@ use Rattle.advance.specs.Rules.{length_wrong}
 use Rattle.kept.proofs.Carrying.{RightCount}
 
 module _ (n : ℕ) where
-  abbrev Right : Command → Type 0
+  abbrev Right : Option Command → Type 0
   Right c = RightCount c n
 
   reads : (mode : ℕ) → Right (read_mode mode)
@@ -38,9 +39,9 @@ module _ (n : ℕ) where
   unfolding control_mode
   controls mode = either Right (eqb mode 0) _ _ tt (either Right (eqb mode 1) _ _ tt (either Right (eqb mode 2) _ _ tt tt))
 
-  singles : (c : Command) (mode : ℕ) → Right c → Right (single_mode c mode)
+  singles : (c : Command) (mode : ℕ) → Right (Some c) → Right (single_mode c mode)
   unfolding single_mode
-  singles c mode r = either Right (eqb mode 0) c _ r tt
+  singles c mode r = either Right (eqb mode 0) (Some c) _ r tt
 
   only_five : (code mode : ℕ) → (eqb code 5 ≡ true → (1 ≤ n) × (n ≤ record_limit)) → Right (command_of code mode)
   unfolding command_of

@@ -38,6 +38,8 @@ use Rattle.demands.proofs.Meets.{nothing_ahead}
 use Rattle.kept.specs.Leaving.{WriteRuns, object_for}
 use Rattle.kept.specs.NoRoom.{Found, NoRoom, NoneFound, found_mark, found_record}
 use Rattle.kept.proofs.Laying.{Here, Lay, advance_lays, again_blocks, again_plan, here_blocks, here_plan}
+use Rattle.std.specs.Prelude.{Result, Ok}
+use Rattle.tape.specs.declared.Damage.{Damage}
 
 -- a flag is set or not
 flag_is : (b : Bool) (w : ℕ) → (n : ℕ) × (n ≤ 1) × (flag_of b w ≡ w * n)
@@ -84,7 +86,7 @@ module _ (m s : List ℕ) (v : Unit) (ie : Bool) where
       }
 
 -- what a search in reverse found is before the position
-found_before : (p e : ℕ) {q : ℕ} {f : Sought} → Found q f → SoughtIn true p e f → q ≤ p
+found_before : (p e : ℕ) {q : ℕ} {f : Result Sought Damage} → Found q f → SoughtIn true p e f → q ≤ p
 found_before p e found_record i = omega (arith, i.1.down refl)
 found_before p e found_mark i = omega (arith, i.down refl)
 
@@ -101,7 +103,7 @@ module _ (m s : List ℕ) (v : Unit) (ie : Bool) where
   full_unlaid l mark e f = rw (e, f)
 
   -- a retry that found nothing, from inside the recorded part
-  told_none : {at : ℕ} → v.tape.position ≤ v.tape.end → sought s true v.tape.position v.tape.end ≡ sought-as.Nothing at → Sends v m s (told v ie (nothing_found v at)) → After m s v NoneFound (told v ie (nothing_found v at))
+  told_none : {at : ℕ} → v.tape.position ≤ v.tape.end → sought s true v.tape.position v.tape.end ≡ Ok (sought-as.Nothing at) → Sends v m s (told v ie (nothing_found v at)) → After m s v NoneFound (told v ie (nothing_found v at))
   unfolding told_under told_unit ended reel_after
   told_none {at} below none (sends, room) =
       let x = nothing_found v at in
@@ -119,7 +121,7 @@ module _ (v : Unit) (m s : List ℕ) (h : Header) (p : Packet) {q : Plan} (y : L
   full_here : eqb h.mode 2 ≡ false → ltb v.lengths.blocks (v.tape.position + blocks_in (object_for m h p)) ≡ true → Sends v m s q → After m s v NoRoom q
   full_here e f = full m s v h.ie (Here v m s h p y) y.mark (here_plan v m s h p y e) y.short (omega arith) (rw (here_blocks v m s h p y) f)
 
-  none_again : {at : ℕ} → h.mode ≡ 2 → v.tape.position ≤ v.tape.end → sought s true v.tape.position v.tape.end ≡ sought-as.Nothing at → Sends v m s q → After m s v NoneFound q
+  none_again : {at : ℕ} → h.mode ≡ 2 → v.tape.position ≤ v.tape.end → sought s true v.tape.position v.tape.end ≡ Ok (sought-as.Nothing at) → Sends v m s q → After m s v NoneFound q
   unfolding retried_under retried_by_under motion_plan_under
   none_again {at} e below none =
       let is : q ≡ told v h.ie (nothing_found v at) = rw (y.plan, e, none) in
@@ -129,7 +131,7 @@ module _ (v : Unit) (m s : List ℕ) (h : Header) (p : Packet) {q : Plan} (y : L
   unlaid_here : eqb h.mode 2 ≡ false → ltb v.lengths.blocks (v.tape.position + blocks_in (object_for m h p)) ≡ true → q.laid ≡ no_lay
   unlaid_here e f = full_unlaid m s v h.ie (Here v m s h p y) y.mark (here_plan v m s h p y e) (rw (here_blocks v m s h p y) f)
 
-  unlaid_none : {at : ℕ} → h.mode ≡ 2 → sought s true v.tape.position v.tape.end ≡ sought-as.Nothing at → q.laid ≡ no_lay
+  unlaid_none : {at : ℕ} → h.mode ≡ 2 → sought s true v.tape.position v.tape.end ≡ Ok (sought-as.Nothing at) → q.laid ≡ no_lay
   unfolding retried_under retried_by_under motion_plan_under told_under
   unlaid_none e none = rw (y.plan, e, none)
 
@@ -161,7 +163,7 @@ module _ (u : Unit) (m s : List ℕ) (w : WriteRuns u m s) (sent : Sent u m s) w
   no_room_retry e below found full = full_again (started u m s) m s (header u m s) (packet u m s) lay e below found full (sent.sends, sent.inside)
 
   -- "None found: RIB, class 2, nothing written."
-  pub none_found : {at : ℕ} → (header u m s).mode ≡ 2 → u.tape.position ≤ u.tape.end → sought s true u.tape.position u.tape.end ≡ sought-as.Nothing at → Left NoneFound
+  pub none_found : {at : ℕ} → (header u m s).mode ≡ 2 → u.tape.position ≤ u.tape.end → sought s true u.tape.position u.tape.end ≡ Ok (sought-as.Nothing at) → Left NoneFound
   none_found e below none = none_again (started u m s) m s (header u m s) (packet u m s) lay e below none (sent.sends, sent.inside)
 
 -- of these three ends none lays anything, whether its message goes out or not
@@ -175,5 +177,5 @@ module _ (u : Unit) (m s : List ℕ) (w : WriteRuns u m s) where
   pub retry_unlaid : {at : ℕ} → (header u m s).mode ≡ 2 → Found at (sought s true u.tape.position u.tape.end) → ltb u.lengths.blocks (at + (blocks_in (object_for m (header u m s) (packet u m s)) + 1)) ≡ true → (advanced u m s).laid ≡ no_lay
   retry_unlaid e found f = unlaid_again (started u m s) m s (header u m s) (packet u m s) laying e found f
 
-  pub none_unlaid : {at : ℕ} → (header u m s).mode ≡ 2 → sought s true u.tape.position u.tape.end ≡ sought-as.Nothing at → (advanced u m s).laid ≡ no_lay
+  pub none_unlaid : {at : ℕ} → (header u m s).mode ≡ 2 → sought s true u.tape.position u.tape.end ≡ Ok (sought-as.Nothing at) → (advanced u m s).laid ≡ no_lay
   none_unlaid e none = unlaid_none (started u m s) m s (header u m s) (packet u m s) laying e none

@@ -13,16 +13,18 @@ use Rattle.motions.specs.Parts.{standing}
 use Rattle.motions.specs.Reads.{on_record, read_motion, read_one, read_one_under, read_then_space, read_then_space_under, reread, reread_under, space_back, space_back_under, space_then_read, space_then_read_under, stage_by, stage_of, stage_of_under, stop_motion}
 use Rattle.motions.specs.declared.reads.Buffer.{Buffer}
 use Rattle.motions.specs.declared.reads.Stage.{Stage}
-use Rattle.motions.specs.declared.parts.Motion.{Motion}
+use Rattle.motions.specs.declared.parts.Ending.{Ending}
 use Rattle.motions.proofs.Onward.{StageHas, on_record_lem}
 use Rattle.kept.proofs.Standing.{KeptMotion, halts}
+use Rattle.std.specs.Prelude.{Result}
+use Rattle.tape.specs.declared.Damage.{Damage}
 
 module _ (s m : List ℕ) {e : ℕ} {os : List Object} (h : Holds s e os) (r : Buffer) where
   -- what is known of a stage: the record that it passed ends at a bound, or it is over
-  abbrev StageKept : Stage → Type 0
+  abbrev StageKept : Result Stage Damage → Type 0
   StageKept = StageHas (KeptMotion s m) (λ n q. Bound os q)
 
-  stage_by_lem : (p : ℕ) (reverse : Bool) {f : Sought} → Finds os reverse p f → StageKept (stage_by (standing p e) r.count reverse f)
+  stage_by_lem : (p : ℕ) (reverse : Bool) {f : Result Sought Damage} → Finds os reverse p f → StageKept (stage_by (standing p e) r.count reverse f)
   unfolding stage_by stop_motion
   stage_by_lem p reverse (finds_record d g b) = bound_to reverse b
   stage_by_lem p reverse (finds_mark g b) = halts s m h (bound_to reverse b)
@@ -38,7 +40,7 @@ module _ (s m : List ℕ) {e : ℕ} {os : List Object} (h : Holds s e os) (r : B
   record_kept reverse rev n q b i = halts s m h i
 
   -- what goes on from a stage
-  goes_on : (p : ℕ) (reverse : Bool) (f : ℕ → ℕ → Motion) → Bound os p → ((n q : ℕ) → Bound os q → KeptMotion s m (f n q)) → KeptMotion s m (on_record (stage_of s (standing p e) r.count reverse) f)
+  goes_on : (p : ℕ) (reverse : Bool) (f : ℕ → ℕ → Result Ending Damage) → Bound os p → ((n q : ℕ) → Bound os q → KeptMotion s m (f n q)) → KeptMotion s m (on_record (stage_of s (standing p e) r.count reverse) f)
   goes_on p reverse f b on = on_record_lem (KeptMotion s m) (λ n q. Bound os q) _ f (stage_kept p reverse b) on
 
   pub read_one_kept : (p : ℕ) (reverse : Bool) → Bound os p → KeptMotion s m (read_one s (standing p e) r reverse)

@@ -3,6 +3,7 @@ use mathlib.Core.Bool.{false, true≢false}
 use mathlib.Core.Path.{◌≡◌, sym, ◌∙◌}
 use Prim.Native.Nat.{ℕ}
 use lib.Dec.{eqb}
+use Rattle.std.specs.Prelude.{Option, Some, None}
 use Rattle.lists.specs.Pick.{Always}
 use Rattle.lists.proofs.Cases.{pick_told}
 use Rattle.signals.specs.Codes.{command_of, control_mode, position_mode, read_mode, single_mode}
@@ -12,28 +13,28 @@ use Rattle.signals.specs.declared.packet.Header.{Header}
 use Rattle.state.proofs.Tests.{either, neither}
 use Rattle.advance.specs.Rules.{writes}
 
-abbrev pub Unwriting : Command → Type 0
-Unwriting command.ReadNext = Always
-Unwriting command.ReadPrevious = Always
-Unwriting command.RereadPrevious = Always
-Unwriting command.RereadNext = Always
-Unwriting command.WriteCharacteristics = Always
-Unwriting command.Write = ⊥
-Unwriting command.WriteRetry = ⊥
-Unwriting command.RecordsForward = Always
-Unwriting command.RecordsReverse = Always
-Unwriting command.MarksForward = Always
-Unwriting command.MarksReverse = Always
-Unwriting command.Rewind = Always
-Unwriting command.WriteMark = ⊥
-Unwriting command.Erase = ⊥
-Unwriting command.MarkRetry = ⊥
-Unwriting command.Release = Always
-Unwriting command.Unload = Always
-Unwriting command.Clean = Always
-Unwriting command.Initialize = Always
-Unwriting command.GetStatus = Always
-Unwriting command.Illegal = Always
+abbrev pub Unwriting : Option Command → Type 0
+Unwriting (Some command.ReadNext) = Always
+Unwriting (Some command.ReadPrevious) = Always
+Unwriting (Some command.RereadPrevious) = Always
+Unwriting (Some command.RereadNext) = Always
+Unwriting (Some command.WriteCharacteristics) = Always
+Unwriting (Some command.Write) = ⊥
+Unwriting (Some command.WriteRetry) = ⊥
+Unwriting (Some command.RecordsForward) = Always
+Unwriting (Some command.RecordsReverse) = Always
+Unwriting (Some command.MarksForward) = Always
+Unwriting (Some command.MarksReverse) = Always
+Unwriting (Some command.Rewind) = Always
+Unwriting (Some command.WriteMark) = ⊥
+Unwriting (Some command.Erase) = ⊥
+Unwriting (Some command.MarkRetry) = ⊥
+Unwriting (Some command.Release) = Always
+Unwriting (Some command.Unload) = Always
+Unwriting (Some command.Clean) = Always
+Unwriting (Some command.Initialize) = Always
+Unwriting (Some command.GetStatus) = Always
+Unwriting None = Always
 
 reads : (mode : ℕ) → Unwriting (read_mode mode)
 unfolding read_mode
@@ -52,9 +53,9 @@ controls : (mode : ℕ) → Unwriting (control_mode mode)
 unfolding control_mode
 controls mode = either Unwriting (eqb mode 0) _ _ tt (either Unwriting (eqb mode 1) _ _ tt (either Unwriting (eqb mode 2) _ _ tt tt))
 
-single : (c : Command) (mode : ℕ) → Unwriting c → Unwriting (single_mode c mode)
+single : (c : Command) (mode : ℕ) → Unwriting (Some c) → Unwriting (single_mode c mode)
 unfolding single_mode
-single c mode k = either Unwriting (eqb mode 0) c _ k tt
+single c mode k = either Unwriting (eqb mode 0) (Some c) _ k tt
 
 others : (code mode : ℕ) → eqb code 5 ≡ false → eqb code 9 ≡ false → Unwriting (command_of code mode)
 unfolding command_of

@@ -6,6 +6,7 @@ use mathlib.Core.Path.{◌≡◌, refl}
 use Prim.Native.Nat.{ℕ, ◌≤◌}
 use lib.Dec.{leb, ltb}
 use lib.ListN.{length}
+use Rattle.std.specs.Prelude.{Option, Some, None}
 use Rattle.lists.proofs.Cases.{by_test}
 use Rattle.signals.specs.Codes.{command_of}
 use Rattle.signals.specs.Numbers.{pointer_limit}
@@ -20,8 +21,6 @@ use Rattle.moves.specs.Counting.{marks, records}
 use Rattle.moves.specs.declared.spacing.Count.{Count}
 use Rattle.motions.specs.Parts.{no_lay}
 use Rattle.motions.specs.declared.parts.Ending.{Ending}
-use Rattle.motions.specs.declared.parts.Motion.{Motion}
-use Rattle.motions.specs.declared.parts.Motion.TheVariants as motion
 use Rattle.motions.proofs.Fit.{read_one_fits, reread_fits, space_fits}
 use Rattle.commands.specs.Commands.{asked, carried_out, carried_out_under, characteristics_at, characterized, characterized_under, plain_effect, plain_effect_under, positioned_by, positioned_by_under, read_by, read_by_under, refused_characteristics_under, released, reread_by, reread_by_under, rewound, rewound_under, taken_characteristics_under, unloaded, unloaded_under}
 use Rattle.commands.specs.Ends.{ended, motion_plan, motion_plan_under, still, told_under, told_unit, untold}
@@ -32,6 +31,8 @@ use Rattle.demands.specs.Ways.{Way, attention, bad_pointer, carried, header, idl
 use Rattle.demands.proofs.Ways.{advanced_way}
 use Rattle.kept.specs.Leaving.{WriteRuns}
 use Rattle.kept.proofs.Unwriting.{Unwriting, unwriting}
+use Rattle.std.specs.Prelude.{Result, Ok, Err}
+use Rattle.tape.specs.declared.Damage.{Damage}
 
 -- nothing laid, and the recorded end is e
 abbrev pub Unlaid : ℕ → Plan → Type 0
@@ -41,10 +42,10 @@ module _ (v : Unit) (m s : List ℕ) (h : Header) (p : Packet) (below : v.tape.p
   abbrev Stays : Plan → Type 0
   Stays q = Unlaid v.tape.end q
 
-  motion_stays : (y : Motion) → ((x : Ending) → y ≡ motion.Ended x → (x.laid ≡ no_lay) × (x.tape.end ≡ v.tape.end)) → Stays (motion_plan v h.ie y)
+  motion_stays : (y : Result Ending Damage) → ((x : Ending) → y ≡ Ok x → (x.laid ≡ no_lay) × (x.tape.end ≡ v.tape.end)) → Stays (motion_plan v h.ie y)
   unfolding motion_plan_under told_under told_unit ended still
-  motion_stays (motion.Ended x) f = f x refl
-  motion_stays (motion.Fault why k) f = (refl, refl)
+  motion_stays (Ok x) f = f x refl
+  motion_stays (Err d) f = (refl, refl)
 
   read_stays : (reverse : Bool) → Stays (read_by v s h p reverse)
   unfolding read_by_under
@@ -81,29 +82,29 @@ module _ (v : Unit) (m s : List ℕ) (h : Header) (p : Packet) (below : v.tape.p
   unfolding unloaded_under told_under told_unit ended
   unload_stays = (refl, refl)
 
-  unwritten : (c : Command) → Unwriting c → Stays (carried_out v m s h p c)
+  unwritten : (c : Option Command) → Unwriting c → Stays (carried_out v m s h p c)
   unfolding carried_out_under
-  unwritten command.ReadNext r = read_stays false
-  unwritten command.ReadPrevious r = read_stays true
-  unwritten command.RereadPrevious r = reread_stays true
-  unwritten command.RereadNext r = reread_stays false
-  unwritten command.WriteCharacteristics r = characterize_stays
-  unwritten command.Write r = absurd r
-  unwritten command.WriteRetry r = absurd r
-  unwritten command.RecordsForward r = position_stays (records p.count) false
-  unwritten command.RecordsReverse r = position_stays (records p.count) true
-  unwritten command.MarksForward r = position_stays (marks p.count) false
-  unwritten command.MarksReverse r = position_stays (marks p.count) true
-  unwritten command.Rewind r = rewind_stays
-  unwritten command.WriteMark r = absurd r
-  unwritten command.Erase r = absurd r
-  unwritten command.MarkRetry r = absurd r
-  unwritten command.Release r = release_stays
-  unwritten command.Unload r = unload_stays
-  unwritten command.Clean r = plain_stays
-  unwritten command.Initialize r = plain_stays
-  unwritten command.GetStatus r = plain_stays
-  unwritten command.Illegal r = plain_stays
+  unwritten (Some command.ReadNext) r = read_stays false
+  unwritten (Some command.ReadPrevious) r = read_stays true
+  unwritten (Some command.RereadPrevious) r = reread_stays true
+  unwritten (Some command.RereadNext) r = reread_stays false
+  unwritten (Some command.WriteCharacteristics) r = characterize_stays
+  unwritten (Some command.Write) r = absurd r
+  unwritten (Some command.WriteRetry) r = absurd r
+  unwritten (Some command.RecordsForward) r = position_stays (records p.count) false
+  unwritten (Some command.RecordsReverse) r = position_stays (records p.count) true
+  unwritten (Some command.MarksForward) r = position_stays (marks p.count) false
+  unwritten (Some command.MarksReverse) r = position_stays (marks p.count) true
+  unwritten (Some command.Rewind) r = rewind_stays
+  unwritten (Some command.WriteMark) r = absurd r
+  unwritten (Some command.Erase) r = absurd r
+  unwritten (Some command.MarkRetry) r = absurd r
+  unwritten (Some command.Release) r = release_stays
+  unwritten (Some command.Unload) r = unload_stays
+  unwritten (Some command.Clean) r = plain_stays
+  unwritten (Some command.Initialize) r = plain_stays
+  unwritten (Some command.GetStatus) r = plain_stays
+  unwritten None r = plain_stays
 
 -- an advance carries out a Write or Format, or it lays nothing and keeps the recorded end
 module _ (u : Unit) (m s : List ℕ) (below : u.tape.position ≤ u.tape.end) where

@@ -27,6 +27,8 @@ use Rattle.storing.specs.Stored.{laid_object, laid_objects, laid_on}
 use Rattle.storing.proofs.Lengths.{blocks_laid}
 use Rattle.kept.proofs.Standing.{KeptMotion, halts}
 use Rattle.kept.proofs.Overlaid.{overlaid, overlaid_end}
+use Rattle.std.specs.Prelude.{Result}
+use Rattle.tape.specs.declared.Damage.{Damage}
 
 -- "Records: 1 to [65,535] bytes."
 abbrev pub RightLength : ObjectKind → ℕ → Type 0
@@ -62,7 +64,7 @@ module _ (s m : List ℕ) (t : Tape) (blocks : ℕ) (whole : length s ≡ block_
         pick_told (KeptMotion s m) (ltb blocks (l.at + laid_blocks l)) _ _ (λ f. halts s m h b) (λ f. laid_kept (ltb-false blocks (l.at + laid_blocks l) f))
 
   module _ (l : Laid) (mark : Bool) (r : RightLength l.object l.length) where
-    retried_by_lem : {f : Sought} → Finds os true t.position f → KeptMotion s m (retried_by t blocks l mark f)
+    retried_by_lem : {f : Result Sought Damage} → Finds os true t.position f → KeptMotion s m (retried_by t blocks l mark f)
     unfolding retried_by_under behind_gap
     retried_by_lem (finds_record d {q = q} g c) = written_kept (behind_gap l q) mark r (bound_to true c)
     retried_by_lem (finds_mark {q = q} g c) = written_kept (behind_gap l q) mark r (bound_to true c)

@@ -1,11 +1,12 @@
 -- A Write or Format that writes nothing, by the state, memory and reel that it left. (01, steps 11 and "Retry")
-use Rattle.std.specs.Prelude.{List, ◌≡◌, ℕ, ◌+◌, ◌*◌, ◌/◌, ◌%◌}
+use Rattle.std.specs.Prelude.{List, ◌≡◌, ℕ, ◌+◌, ◌*◌, ◌/◌, ◌%◌, Result, Ok}
 use Rattle.signals.specs.Bits.{EOT, NEF, REV, RIB}
 use Rattle.state.specs.declared.Tape.{Tape}
 use Rattle.state.specs.declared.Unit.{Unit}
 use Rattle.moves.specs.declared.seeking.Sought.{Sought}
 use Rattle.moves.specs.declared.seeking.Sought.TheVariants as sought-as
 use Rattle.demands.specs.Done.{sent_word}
+use Rattle.tape.specs.declared.Damage.{Damage}
 
 -- from the tape t and the reel s to the state u', the memory m' with its message and the reel s'
 module _ (t : Tape) (s : List ℕ) (u' : Unit) (m' s' : List ℕ) where
@@ -31,6 +32,6 @@ module _ (t : Tape) (s : List ℕ) (u' : Unit) (m' s' : List ℕ) where
     pub xst3 : sent_word u' m' 6 ≡ REV + RIB
 
 -- "space reverse over gaps and one record or mark": a search that found one stopped at q
-pub data Found (q : ℕ) : Sought → Type 0 where
-  found_record : {n : ℕ} → Found q (sought-as.Record n q)
-  found_mark : Found q (sought-as.Mark q)
+pub data Found (q : ℕ) : Result Sought Damage → Type 0 where
+  found_record : {n : ℕ} → Found q (Ok (sought-as.Record n q))
+  found_mark : Found q (Ok (sought-as.Mark q))

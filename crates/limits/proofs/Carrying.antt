@@ -6,6 +6,7 @@ use Prim.Native.Nat.{ℕ, ◌+◌, ◌≤◌}
 use borrow.Author.Tests.{ltb-false}
 use lib.Dec.{eqb, ltb}
 use lib.ListN.{length}
+use Rattle.std.specs.Prelude.{Option, Some, None}
 use Rattle.tape.specs.Numbers.{record_limit}
 use Rattle.tape.specs.Objects.{AllAllowedUnder, Holds, Object}
 use Rattle.tape.proofs.Below.{pick_agree}
@@ -46,29 +47,29 @@ module _ (s m : List ℕ) {os : List Object} (limit eotMargin : ℕ) (all : AllA
       unfolding positioned_by_under
       position_same count reverse = ap (motion_plan_under eotMargin v h.ie) (position_under k.0 limit all v.tape.position _ count v.characteristics.enb k.1)
 
-      carried_same : (c : Command) → Unwriting c → carried_out_under limit eotMargin v m s h p c ≡ carried_out_under record_limit eotMargin v m s h p c
+      carried_same : (c : Option Command) → Unwriting c → carried_out_under limit eotMargin v m s h p c ≡ carried_out_under record_limit eotMargin v m s h p c
       unfolding carried_out_under
-      carried_same command.ReadNext r = read_same false
-      carried_same command.ReadPrevious r = read_same true
-      carried_same command.RereadPrevious r = reread_same true
-      carried_same command.RereadNext r = reread_same false
-      carried_same command.WriteCharacteristics r = refl
-      carried_same command.Write r = absurd r
-      carried_same command.WriteRetry r = absurd r
-      carried_same command.RecordsForward r = position_same (records p.count) false
-      carried_same command.RecordsReverse r = position_same (records p.count) true
-      carried_same command.MarksForward r = position_same (marks p.count) false
-      carried_same command.MarksReverse r = position_same (marks p.count) true
-      carried_same command.Rewind r = refl
-      carried_same command.WriteMark r = absurd r
-      carried_same command.Erase r = absurd r
-      carried_same command.MarkRetry r = absurd r
-      carried_same command.Release r = refl
-      carried_same command.Unload r = refl
-      carried_same command.Clean r = refl
-      carried_same command.Initialize r = refl
-      carried_same command.GetStatus r = refl
-      carried_same command.Illegal r = refl
+      carried_same (Some command.ReadNext) r = read_same false
+      carried_same (Some command.ReadPrevious) r = read_same true
+      carried_same (Some command.RereadPrevious) r = reread_same true
+      carried_same (Some command.RereadNext) r = reread_same false
+      carried_same (Some command.WriteCharacteristics) r = refl
+      carried_same (Some command.Write) r = absurd r
+      carried_same (Some command.WriteRetry) r = absurd r
+      carried_same (Some command.RecordsForward) r = position_same (records p.count) false
+      carried_same (Some command.RecordsReverse) r = position_same (records p.count) true
+      carried_same (Some command.MarksForward) r = position_same (marks p.count) false
+      carried_same (Some command.MarksReverse) r = position_same (marks p.count) true
+      carried_same (Some command.Rewind) r = refl
+      carried_same (Some command.WriteMark) r = absurd r
+      carried_same (Some command.Erase) r = absurd r
+      carried_same (Some command.MarkRetry) r = absurd r
+      carried_same (Some command.Release) r = refl
+      carried_same (Some command.Unload) r = refl
+      carried_same (Some command.Clean) r = refl
+      carried_same (Some command.Initialize) r = refl
+      carried_same (Some command.GetStatus) r = refl
+      carried_same None r = refl
 
       -- step 10
       extent_same : writes h ≡ false → step_extent_under limit eotMargin v m s h p ≡ step_extent_under record_limit eotMargin v m s h p

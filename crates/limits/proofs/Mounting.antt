@@ -1,11 +1,11 @@
 -- Mounting one reel with units of different record limits.
-use mathlib.Core.Bool.{Bool, false}
+use mathlib.Core.Bool.{Bool}
 use mathlib.Core.List.{List, [], ◌∷◌, ◌++◌}
 use mathlib.Core.Logic.{◌⊎◌, inl, inr}
 use mathlib.Core.Path.{◌≡◌, refl, ap}
 use Prim.Native.Nat.{ℕ, ◌+◌, ◌/◌, ◌<◌, ◌≤◌}
 use native.Mathlib.Omega.{arith}
-use borrow.Author.Tests.{eq-eqb, leb-false, leb-true}
+use borrow.Author.Tests.{leb-false, leb-true}
 use lib.Dec.{leb}
 use lib.ListN.{length}
 use Rattle.lists.proofs.Cases.{by_test}
@@ -18,21 +18,21 @@ use Rattle.tape.proofs.Standing.{stands_below, stands_in}
 use Rattle.tape.proofs.Sweeps.{swept_over, swept_under}
 use Rattle.tape.proofs.Written.{holds_front}
 use Rattle.state.specs.Changes.{mounted_as}
-use Rattle.state.specs.declared.Unit.{Unit}
-use Rattle.commands.specs.declared.plans.Answer.TheVariants as answer
-use Rattle.unit.specs.Mounts.{mount_call_under, mount_refusal, mount_swept, mounted_with}
+use Rattle.std.specs.Prelude.{Ok, Err}
+use Rattle.state.specs.declared.refusal.Refusal.TheVariants as refusal
+use Rattle.unit.specs.Mounts.{mount_call_under, mount_refusal, mount_swept}
 use Rattle.limits.specs.Raised.{LongerAt}
 
-module _ (limit : ℕ) (old : Unit) (memory : ℕ) (s : List ℕ) (e : ℕ) (online locked : Bool) (right : mount_refusal memory (length s) e ≡ 0) where
+module _ (limit : ℕ) (memory : ℕ) (s : List ℕ) (e : ℕ) (online locked : Bool) (right : mount_refusal memory (length s) e ≡ Ok tt) where
   pub mount_takes : {os : List Object} → Holds s e os → AllAllowedUnder limit os
-      → mount_call_under limit old memory s e online locked ≡ mounted_with (answer.Done false) (mounted_as e online locked (record { memory = memory; blocks = length s / block_bytes }))
+      → mount_call_under limit memory s e online locked ≡ Ok (mounted_as e online locked (record { memory = memory; blocks = length s / block_bytes }))
   unfolding mount_call_under mount_swept
-  mount_takes h all = rw (eq-eqb (mount_refusal memory (length s) e) 0 right, swept_under limit s e h all)
+  mount_takes h all = rw (right, swept_under limit s e h all)
 
-  pub mount_refuses : {limit' p : ℕ} → limit ≤ record_limit → LongerAt limit limit' s e p → mount_call_under limit old memory s e online locked ≡ mounted_with (answer.BadBlock fault.Length p) old
+  pub mount_refuses : {limit' p : ℕ} → limit ≤ record_limit → LongerAt limit limit' s e p → mount_call_under limit memory s e online locked ≡ Err (refusal.BadBlock (record { fault = fault.Length; block = p }))
   unfolding mount_call_under mount_swept
   mount_refuses {limit'} {p} most k =
-      rw (eq-eqb (mount_refusal memory (length s) e) 0 right, swept_over limit s e p k.bytes 0 limit' k.piece k.longer k.below (holds_raised most k.formed) k.formed.allowed)
+      rw (right, swept_over limit s e p k.bytes 0 limit' k.piece k.longer k.below (holds_raised most k.formed) k.formed.allowed)
 
 -- the first object of a list that is longer than a limit, if one is
 data Split (limit : ℕ) (os : List Object) : Type 0 where

@@ -13,22 +13,24 @@ use Rattle.moves.proofs.Within.{SoughtIn, sought_in}
 use Rattle.motions.specs.Parts.{standing}
 use Rattle.motions.specs.Reads.{on_record, read_one, read_one_under, read_then_space, read_then_space_under, reread, reread_under, space_back, space_back_under, space_then_read, space_then_read_under, stage_by, stage_of, stage_of_under}
 use Rattle.motions.specs.Spaces.{positioned, positioned_under, start_span}
-use Rattle.motions.specs.declared.parts.Motion.{Motion}
+use Rattle.motions.specs.declared.parts.Ending.{Ending}
 use Rattle.motions.specs.declared.reads.Buffer.{Buffer}
 use Rattle.limits.proofs.Finding.{sought_under_lem, spaced_under_lem}
+use Rattle.std.specs.Prelude.{Result, Ok, Err}
+use Rattle.tape.specs.declared.Damage.{Damage}
 
 module _ {s : List ℕ} {e : ℕ} {os : List Object} (h : Holds s e os) (limit : ℕ) (all : AllAllowedUnder limit os) where
   module _ (r : Buffer) where
     -- what goes on from a stage, if it is the same from every position
-    by_found : (reverse : Bool) (p : ℕ) (f g : ℕ → ℕ → Motion) (x : Sought) → SoughtIn reverse p e x → ((n q : ℕ) → q ≤ e → f n q ≡ g n q)
+    by_found : (reverse : Bool) (p : ℕ) (f g : ℕ → ℕ → Result Ending Damage) (x : Result Sought Damage) → SoughtIn reverse p e x → ((n q : ℕ) → q ≤ e → f n q ≡ g n q)
         → on_record (stage_by (standing p e) r.count reverse x) f ≡ on_record (stage_by (standing p e) r.count reverse x) g
     unfolding on_record stage_by
-    by_found reverse p f g (sought-as.Record n q) i on = on n q i.0.below
-    by_found reverse p f g (sought-as.Mark q) i on = refl
-    by_found reverse p f g (sought-as.Nothing q) i on = refl
-    by_found reverse p f g (sought-as.Bad why k) i on = refl
+    by_found reverse p f g (Ok (sought-as.Record n q)) i on = on n q i.0.below
+    by_found reverse p f g (Ok (sought-as.Mark q)) i on = refl
+    by_found reverse p f g (Ok (sought-as.Nothing q)) i on = refl
+    by_found reverse p f g (Err d) i on = refl
 
-    goes_on : (reverse : Bool) (p : ℕ) (f g : ℕ → ℕ → Motion) → p ≤ e → ((n q : ℕ) → q ≤ e → f n q ≡ g n q)
+    goes_on : (reverse : Bool) (p : ℕ) (f g : ℕ → ℕ → Result Ending Damage) → p ≤ e → ((n q : ℕ) → q ≤ e → f n q ≡ g n q)
         → on_record (stage_of_under limit s (standing p e) r.count reverse) f ≡ on_record (stage_of s (standing p e) r.count reverse) g
     unfolding stage_of_under
     goes_on reverse p f g b on = rw (sought_under_lem h limit all reverse p b) (by_found reverse p f g (sought s reverse p e) (sought_in s reverse p e b) on)

@@ -46,12 +46,12 @@ module _ (limit limit' eotMargin eotMargin' : ℕ) (longer : limit ≤ limit') (
         reel = λ u m s r. reel_alike (reads_alike u m s r) m s;
         memory = λ u m s r inside. memory_alike (reads_alike u m s r) m s inside;
         writes = write_differs;
-        mounts = λ old memory s e online locked h right.
+        mounts = λ memory s e online locked h right.
             let k = holds_raised {limit' = record_limit} (omega arith) h in
-            let one = mount_takes limit old memory s e online locked right k h.allowed in
-            let other = mount_takes limit' old memory s e online locked right k (all_raised longer h.allowed) in
+            let one = mount_takes limit memory s e online locked right k h.allowed in
+            let other = mount_takes limit' memory s e online locked right k (all_raised longer h.allowed) in
             (one ∙ sym other, one);
-        refuses = λ old memory s e online locked k right. mount_refuses limit old memory s e online locked right (omega arith) k;
+        refuses = λ memory s e online locked k right. mount_refuses limit memory s e online locked right (omega arith) k;
         exhausts = λ h. holds_or_longer limit limit' most h;
       }
 

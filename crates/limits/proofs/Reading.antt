@@ -6,6 +6,7 @@ use Prim.Native.Nat.{ℕ, ◌+◌, ◌%◌, ◌≤◌}
 use borrow.Author.Tests.{ltb-false}
 use lib.Dec.{eqb, leb, ltb}
 use lib.ListN.{length}
+use Rattle.std.specs.Prelude.{Option, Some, None}
 use Rattle.signals.specs.Bits.{ILA, ILC, NEF, WLE}
 use Rattle.signals.specs.Codes.{command_of}
 use Rattle.signals.specs.Header.{packet_of}
@@ -82,29 +83,29 @@ module _ (s m : List ℕ) (limit eotMargin eotMargin' : ℕ) (more : eotMargin �
       unfolding released
       released_alike = untold_alike _ 0 false
 
-      carried_alike : (c : Command) → Unwriting c → ReadsAlike (carried_out_under limit eotMargin v m s h p c) (carried_out_under limit eotMargin' v m s h p c)
+      carried_alike : (c : Option Command) → Unwriting c → ReadsAlike (carried_out_under limit eotMargin v m s h p c) (carried_out_under limit eotMargin' v m s h p c)
       unfolding carried_out_under
-      carried_alike command.ReadNext r = read_alike false
-      carried_alike command.ReadPrevious r = read_alike true
-      carried_alike command.RereadPrevious r = reread_alike true
-      carried_alike command.RereadNext r = reread_alike false
-      carried_alike command.WriteCharacteristics r = characterized_alike
-      carried_alike command.Write r = absurd r
-      carried_alike command.WriteRetry r = absurd r
-      carried_alike command.RecordsForward r = position_alike (records p.count) false
-      carried_alike command.RecordsReverse r = position_alike (records p.count) true
-      carried_alike command.MarksForward r = position_alike (marks p.count) false
-      carried_alike command.MarksReverse r = position_alike (marks p.count) true
-      carried_alike command.Rewind r = rewound_alike
-      carried_alike command.WriteMark r = absurd r
-      carried_alike command.Erase r = absurd r
-      carried_alike command.MarkRetry r = absurd r
-      carried_alike command.Release r = released_alike
-      carried_alike command.Unload r = unloaded_alike
-      carried_alike command.Clean r = plain_alike
-      carried_alike command.Initialize r = plain_alike
-      carried_alike command.GetStatus r = plain_alike
-      carried_alike command.Illegal r = plain_alike
+      carried_alike (Some command.ReadNext) r = read_alike false
+      carried_alike (Some command.ReadPrevious) r = read_alike true
+      carried_alike (Some command.RereadPrevious) r = reread_alike true
+      carried_alike (Some command.RereadNext) r = reread_alike false
+      carried_alike (Some command.WriteCharacteristics) r = characterized_alike
+      carried_alike (Some command.Write) r = absurd r
+      carried_alike (Some command.WriteRetry) r = absurd r
+      carried_alike (Some command.RecordsForward) r = position_alike (records p.count) false
+      carried_alike (Some command.RecordsReverse) r = position_alike (records p.count) true
+      carried_alike (Some command.MarksForward) r = position_alike (marks p.count) false
+      carried_alike (Some command.MarksReverse) r = position_alike (marks p.count) true
+      carried_alike (Some command.Rewind) r = rewound_alike
+      carried_alike (Some command.WriteMark) r = absurd r
+      carried_alike (Some command.Erase) r = absurd r
+      carried_alike (Some command.MarkRetry) r = absurd r
+      carried_alike (Some command.Release) r = released_alike
+      carried_alike (Some command.Unload) r = unloaded_alike
+      carried_alike (Some command.Clean) r = plain_alike
+      carried_alike (Some command.Initialize) r = plain_alike
+      carried_alike (Some command.GetStatus) r = plain_alike
+      carried_alike None r = plain_alike
 
       -- steps 8 to 10
       pointer_alike : writes h ≡ false → ReadsAlike (step_pointer_under limit eotMargin v m s h p) (step_pointer_under limit eotMargin' v m s h p)

@@ -17,30 +17,33 @@ use Rattle.moves.specs.declared.seeking.Sought.TheVariants as sought-as
 use Rattle.moves.specs.declared.spacing.Count.{Count}
 use Rattle.moves.specs.declared.spacing.Rule.{Rule}
 use Rattle.moves.specs.declared.spacing.Span.{Span}
+use Rattle.moves.specs.declared.spacing.Spaced.{Spaced}
 use Rattle.moves.specs.declared.spacing.Stop.{Stop}
 use Rattle.moves.specs.declared.spacing.Stop.TheVariants as stop-as
 use Rattle.motions.specs.Parts.{standing}
 use Rattle.motions.specs.Reads.{mark_end, nothing_end, on_record, read_end, read_motion, read_one_under, read_then_space_under, reread_under, space_back_under, space_then_read_under, stage_by, stage_of_under}
 use Rattle.motions.specs.Spaces.{positioned_under, space_end, space_motion, space_motion_by, start_span}
-use Rattle.motions.specs.declared.parts.Motion.{Motion}
+use Rattle.motions.specs.declared.parts.Ending.{Ending}
 use Rattle.motions.specs.declared.reads.Buffer.{Buffer}
 use Rattle.motions.specs.declared.reads.Stage.{Stage}
 use Rattle.motions.proofs.Onward.{StageHas, on_record_lem}
 use Rattle.limits.proofs.Telling.{Even, EvenMotion, even_flag}
+use Rattle.std.specs.Prelude.{Result, Ok, Err}
+use Rattle.tape.specs.declared.Damage.{Damage}
 
 module _ (limit : ℕ) (s : List ℕ) where
   module _ (r : Buffer) where
-    abbrev StageEven : Stage → Type 0
+    abbrev StageEven : Result Stage Damage → Type 0
     StageEven = StageHas EvenMotion (λ n q. Always)
 
-    stage_by_lem : (t : Tape) (reverse : Bool) (x : Sought) → StageEven (stage_by t r.count reverse x)
+    stage_by_lem : (t : Tape) (reverse : Bool) (x : Result Sought Damage) → StageEven (stage_by t r.count reverse x)
     unfolding stage_by mark_end nothing_end
-    stage_by_lem t reverse (sought-as.Record n q) = tt
-    stage_by_lem t reverse (sought-as.Mark q) = refl
-    stage_by_lem t reverse (sought-as.Nothing q) = either Even reverse _ _ refl refl
-    stage_by_lem t reverse (sought-as.Bad why k) = tt
+    stage_by_lem t reverse (Ok (sought-as.Record n q)) = tt
+    stage_by_lem t reverse (Ok (sought-as.Mark q)) = refl
+    stage_by_lem t reverse (Ok (sought-as.Nothing q)) = either Even reverse _ _ refl refl
+    stage_by_lem t reverse (Err d) = tt
 
-    goes_on : (t : Tape) (reverse : Bool) (f : ℕ → ℕ → Motion) → ((n q : ℕ) → EvenMotion (f n q)) → EvenMotion (on_record (stage_of_under limit s t r.count reverse) f)
+    goes_on : (t : Tape) (reverse : Bool) (f : ℕ → ℕ → Result Ending Damage) → ((n q : ℕ) → EvenMotion (f n q)) → EvenMotion (on_record (stage_of_under limit s t r.count reverse) f)
     unfolding stage_of_under
     goes_on t reverse f on = on_record_lem EvenMotion (λ n q. Always) _ f (stage_by_lem t reverse (sought_under limit s reverse t.position t.end)) (λ n q k. on n q)
 
@@ -83,10 +86,13 @@ module _ (limit : ℕ) (s : List ℕ) where
       let tmk = even_flag x.tmk TMK refl in
       let rls = even_flag (not (eqb (how_many x.left) 0)) RLS refl in
       either Even r.reverse _ _ (omega arith) tmk
-  space_even r x e (stop-as.Bad why k) = tt
+
+  spaced_even : (r : Rule) (e : ℕ) (f : Result Spaced Damage) → EvenMotion (space_motion r f e)
+  unfolding space_motion
+  spaced_even r e (Ok y) = space_even r y.span e y.stop
+  spaced_even r e (Err d) = tt
 
   pub position_even : (t : Tape) (r : Rule) (count : Count) (enb : Bool) → EvenMotion (positioned_under limit s t r count enb)
-  unfolding positioned_under space_motion
+  unfolding positioned_under
   position_even t r count enb =
-      let x = spaced_under limit s r t.end (start_span t count enb) in
-      either EvenMotion (eqb (how_many count) 0) _ _ refl (space_even r x.span t.end x.stop)
+      either EvenMotion (eqb (how_many count) 0) _ _ refl (spaced_even r t.end (spaced_under limit s r t.end (start_span t count enb)))

@@ -13,12 +13,12 @@ use Rattle.signals.specs.declared.message.End.{End}
 use Rattle.signals.specs.declared.message.Status.{Status}
 use Rattle.state.specs.declared.Unit.{Unit}
 use Rattle.commands.specs.Ends.{motion_plan_under, motion_seen, status_of_under, still, told_under, told_unit, untold}
-use Rattle.commands.specs.declared.plans.Answer.{Answer}
+use Rattle.commands.specs.Answers.{Answer}
 use Rattle.commands.specs.declared.plans.Plan.{Plan}
 use Rattle.motions.specs.declared.parts.Ending.{Ending}
-use Rattle.motions.specs.declared.parts.Motion.{Motion}
-use Rattle.motions.specs.declared.parts.Motion.TheVariants as motion
 use Rattle.limits.specs.Alike.{ReadsAlike, SoonerEot, as_before, eot_now, same_words}
+use Rattle.std.specs.Prelude.{Result, Ok, Err}
+use Rattle.tape.specs.declared.Damage.{Damage}
 
 pub even_flag : (b : Bool) (w : ℕ) → w % 2 ≡ 0 → flag_of b w % 2 ≡ 0
 even_flag true w h = h
@@ -28,9 +28,9 @@ even_flag false w h = refl
 abbrev pub Even : End → Type 0
 Even x = x.found % 2 ≡ 0
 
-abbrev pub EvenMotion : Motion → Type 0
-EvenMotion (motion.Ended x) = Even x.end
-EvenMotion (motion.Fault why k) = Always
+abbrev pub EvenMotion : Result Ending Damage → Type 0
+EvenMotion (Ok x) = Even x.end
+EvenMotion (Err d) = Always
 
 -- XST0 under two conditions of the unit that differ in EOT
 abbrev with_eot : Status → Bool → Status
@@ -102,7 +102,7 @@ module _ (eotMargin eotMargin' : ℕ) (more : eotMargin ≤ eotMargin') where
         message = same_words (eot_sooner x.end.found (status_of_under eotMargin (told_unit u x) ie (motion_seen u.tape.position x)) _ _ h (marker_sooner (told_unit u x)));
       }
 
-  pub motion_alike : (u : Unit) (ie : Bool) (y : Motion) → EvenMotion y → ReadsAlike (motion_plan_under eotMargin u ie y) (motion_plan_under eotMargin' u ie y)
+  pub motion_alike : (u : Unit) (ie : Bool) (y : Result Ending Damage) → EvenMotion y → ReadsAlike (motion_plan_under eotMargin u ie y) (motion_plan_under eotMargin' u ie y)
   unfolding motion_plan_under
-  motion_alike u ie (motion.Ended x) h = told_alike u ie x h
-  motion_alike u ie (motion.Fault why k) h = still_alike u _
+  motion_alike u ie (Ok x) h = told_alike u ie x h
+  motion_alike u ie (Err d) h = still_alike u _

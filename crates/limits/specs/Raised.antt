@@ -1,7 +1,7 @@
 -- Request [7] as laws over the numbers: what holds between a unit whose record limit and EOT margin are `limit` and `eotMargin` and one with `limit'` and
 -- `eotMargin'`, neither smaller. "Every reel stored under the old limit reads the same, only its EOT bit may come earlier; a unit of the old limit that meets a
 -- longer record refuses the mount with 7 at its first block." (02, [7])
-use Rattle.std.specs.Prelude.{Bool, true, false, List, ◌⊎◌, ◌≡◌, ℕ, ◌+◌, ◌-◌, ◌/◌, ◌<◌, ◌≤◌, length}
+use Rattle.std.specs.Prelude.{Bool, true, false, List, ◌⊎◌, ◌≡◌, ℕ, ◌+◌, ◌-◌, ◌/◌, ◌<◌, ◌≤◌, length, Result, Ok, Err}
 use Rattle.tape.specs.Numbers.{block_bytes}
 use Rattle.tape.specs.Objects.{HoldsUnder, Object}
 use Rattle.tape.specs.Reading.{class_at_under}
@@ -13,17 +13,17 @@ use Rattle.state.specs.declared.Unit.{Unit}
 use Rattle.motions.specs.Parts.{laid_blocks}
 use Rattle.motions.specs.Writes.{written_motion_under}
 use Rattle.motions.specs.declared.parts.Laid.{Laid}
-use Rattle.motions.specs.declared.parts.Motion.{Motion}
-use Rattle.motions.specs.declared.parts.Motion.TheVariants as motion
-use Rattle.commands.specs.declared.plans.Answer.TheVariants as answer
+use Rattle.motions.specs.declared.parts.Ending.{Ending}
+use Rattle.state.specs.declared.refusal.Refusal.TheVariants as refusal
 use Rattle.commands.specs.declared.plans.Plan.{Plan}
 use Rattle.storing.specs.Stored.{memory_after, reel_after}
 use Rattle.advance.specs.Rules.{writes}
 use Rattle.advance.specs.Steps.{advanced_under}
 use Rattle.demands.specs.Ways.{Waits, header}
-use Rattle.unit.specs.Mounts.{mount_call_under, mount_refusal, mounted_with}
+use Rattle.unit.specs.Mounts.{mount_call_under, mount_refusal}
 use Rattle.unit.specs.Touching.{touched_by}
 use Rattle.limits.specs.Alike.{ButEotAt, ReadsAlike}
+use Rattle.tape.specs.declared.Damage.{Damage}
 
 -- an advance that reads, of a reel that keeps to the limit: no Write or Format waits, and the tape stands no further than the recorded end
 pub record ReadsUnder (limit : ℕ) (u : Unit) (m s : List ℕ) (os : List Object) : Type 0 where
@@ -40,9 +40,9 @@ abbrev pub eot_byte : Plan → ℕ
 eot_byte q = q.unit.characteristics.address + 6
 
 -- a motion that ends so
-abbrev pub EndsWith : ℕ → Motion → Type 0
-EndsWith class (motion.Ended x) = x.end.class ≡ class
-EndsWith class (motion.Fault why k) = ⊥
+abbrev pub EndsWith : ℕ → Result Ending Damage → Type 0
+EndsWith class (Ok x) = x.end.class ≡ class
+EndsWith class (Err d) = ⊥
 
 -- at block p of the reel s, below its end e, a record begins that is longer than the limit, and none before it is: a unit of the other limit reads its first piece
 pub record LongerAt (limit limit' : ℕ) (s : List ℕ) (e p : ℕ) : Type 0 where
@@ -50,7 +50,7 @@ pub record LongerAt (limit limit' : ℕ) (s : List ℕ) (e p : ℕ) : Type 0 whe
   pub formed : HoldsUnder limit s p before
   pub below : p < e
   pub bytes : ℕ
-  pub piece : class_at_under limit' s p ≡ block.Piece bytes 0
+  pub piece : class_at_under limit' s p ≡ Ok (block.Piece bytes 0)
   pub longer : limit < bytes
 
 module _ (limit limit' eotMargin eotMargin' : ℕ) where
@@ -74,11 +74,11 @@ module _ (limit limit' eotMargin eotMargin' : ℕ) where
     pub writes : (l : Laid) (blocks : ℕ) (mark : Bool) → eotMargin < eotMargin' → eotMargin' ≤ blocks → l.at + laid_blocks l ≡ blocks - eotMargin'
         → EndsWith 0 (written_motion_under eotMargin l blocks mark) × EndsWith 2 (written_motion_under eotMargin' l blocks mark)
     -- both mount such a reel, to the same state
-    pub mounts : (old : Unit) (memory : ℕ) (s : List ℕ) (e : ℕ) (online locked : Bool) {os : List Object} → HoldsUnder limit s e os → mount_refusal memory (length s) e ≡ 0
-        → (mount_call_under limit old memory s e online locked ≡ mount_call_under limit' old memory s e online locked)
-        × (mount_call_under limit old memory s e online locked ≡ mounted_with (answer.Done false) (mounted_as e online locked (record { memory = memory; blocks = length s / block_bytes })))
+    pub mounts : (memory : ℕ) (s : List ℕ) (e : ℕ) (online locked : Bool) {os : List Object} → HoldsUnder limit s e os → mount_refusal memory (length s) e ≡ Ok tt
+        → (mount_call_under limit memory s e online locked ≡ mount_call_under limit' memory s e online locked)
+        × (mount_call_under limit memory s e online locked ≡ Ok (mounted_as e online locked (record { memory = memory; blocks = length s / block_bytes })))
     -- where a record is longer, the smaller limit refuses the mount with 7 at its first block, for its length (N), whatever lies behind that block
-    pub refuses : (old : Unit) (memory : ℕ) (s : List ℕ) (e : ℕ) (online locked : Bool) {p : ℕ} → LongerAt limit limit' s e p → mount_refusal memory (length s) e ≡ 0
-        → mount_call_under limit old memory s e online locked ≡ mounted_with (answer.BadBlock fault.Length p) old
+    pub refuses : (memory : ℕ) (s : List ℕ) (e : ℕ) (online locked : Bool) {p : ℕ} → LongerAt limit limit' s e p → mount_refusal memory (length s) e ≡ Ok tt
+        → mount_call_under limit memory s e online locked ≡ Err (refusal.BadBlock (record { fault = fault.Length; block = p }))
     -- and of every reel that is well formed under the higher limit one of the two holds
     pub exhausts : {s : List ℕ} {e : ℕ} {os : List Object} → HoldsUnder limit' s e os → HoldsUnder limit s e os ⊎ ((p : ℕ) × LongerAt limit limit' s e p)

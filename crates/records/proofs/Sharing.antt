@@ -7,7 +7,8 @@ use Rattle.lists.specs.Fours.{number_limit}
 use Rattle.entries.specs.Numbers.{nth}
 use Rattle.worlds.specs.declared.Coupler.{Coupler}
 use Rattle.records.specs.Shares.{SmallCoupler, coupler_in, shares_of}
-use Rattle.records.proofs.Keeping.{all_elements, elements, low}
+use Rattle.entries.proofs.Back.{low}
+use Rattle.entries.proofs.Own.{all_elements, elements}
 
 pub coupler_back : (c : Coupler) → SmallCoupler c → coupler_in (shares_of c) ≡ c
 unfolding coupler_in shares_of

@@ -5,15 +5,19 @@ use mathlib.Core.Bool.{Bool, true, false, ◌&&◌, not, and-eq-true_iff}
 use mathlib.Core.List.{List}
 use Prim.Native.Nat.{ℕ}
 use native.Mathlib.Omega.{arith}
-use borrow.Author.Tests.{eqb-true, not-false, not-true}
+use borrow.Author.Tests.{not-false, not-true}
 use lib.Dec.{eqb, ltb}
 use lib.ListN.{length}
+use Rattle.std.specs.Prelude.{Ok}
 use Rattle.lists.proofs.Cases.{pick_told}
 use Rattle.lists.proofs.Placed.{length_placed}
 use Rattle.state.specs.Checks.{state_wrong}
 use Rattle.state.proofs.Legal.{legal}
+use Rattle.state.proofs.Behind.{behind_told}
+use Rattle.state.specs.declared.refusal.Refusal.{Refusal}
+use Rattle.state.specs.declared.refusal.Refusal.TheVariants as refusal
 use Rattle.state.proofs.Tests.{either}
-use Rattle.commands.specs.declared.plans.Answer.TheVariants as answer
+use Rattle.commands.specs.declared.plans.Done.TheVariants as answer
 use Rattle.touched.specs.Touches.{memory_back, reel_back}
 use Rattle.touched.specs.declared.Touched.{Touched}
 use Rattle.entries.specs.Entries.{entry_bare, entry_fits, newest_entry, saved_in}
@@ -45,10 +49,10 @@ pub back_left : (n : ℕ) (w : World) → Left w (back_on w n)
 unfolding back_on undo_on undo_by step_kind
 back_left n w =
     guarded_left n w _
-    (either (Left w) (eqb w.ledger.used 0) (refused_as 6 w) _ (λ g. refl)
-    (either (Left w) (ltb w.ledger.used entry_bare) (refused_as 8 w) _ (λ g. refl)
-    (either (Left w) (entry_wrong w (newest w)) (refused_as 8 w) _ (λ g. refl)
-    (either (Left w) (no_place_back w.core (newest w)) (refused_as 11 w) _ (λ g. refl) (λ g. absurd (g refl))))))
+    (either (Left w) (eqb w.ledger.used 0) (refused_as refusal.Empty w) _ (λ g. refl)
+    (either (Left w) (ltb w.ledger.used entry_bare) (refused_as refusal.Entry w) _ (λ g. refl)
+    (either (Left w) (entry_wrong w (newest w)) (refused_as refusal.Entry w) _ (λ g. refl)
+    (either (Left w) (no_place_back w.core (newest w)) (refused_as refusal.Table w) _ (λ g. refl) (λ g. absurd (g refl))))))
 
 -- the world with the entry e brought back, if e is right
 abbrev pub back_to : World → Entry → World
@@ -78,29 +82,28 @@ module _ (n : ℕ) (w : World) (e : Entry) (p : Passed (session_of w) (length w.
 
 -- a step back was refused and left the world, or brought an entry back that was right, and for which the table was large enough
 pub data WentBack (n : ℕ) (w : World) : Answered → Type 0 where
-  stayed_back : {k : ℕ} → WentBack n w (refused_as k w)
+  stayed_back : {k : Refusal} → WentBack n w (refused_as k w)
   brought_back_lem : (e : Entry) → e ≡ newest w → Passed (session_of w) (length w.core.memory) (length w.core.reel) n → entry_wrong w e ≡ false → no_place_back w.core e ≡ false
-      → WentBack n w (answered (answer.Done false) (back_to w e))
+      → WentBack n w (answered (Ok (answer.Step false)) (back_to w e))
 
 pub went_back_as : (n : ℕ) (w : World) → WentBack n w (back_on w n)
 unfolding back_on guarded undo_on undo_by
 went_back_as n w =
-    let c : ℕ = checked (session_of w) (length w.core.memory) (length w.core.reel) n in
-    pick_told (WentBack n w) (eqb c 0) _ (refused_as c w)
-    (λ t. either (WentBack n w) (eqb w.ledger.used 0) (refused_as 6 w) _ stayed_back
-    (either (WentBack n w) (ltb w.ledger.used entry_bare) (refused_as 8 w) _ stayed_back
-    (pick_told (WentBack n w) (entry_wrong w (newest w)) (refused_as 8 w) _
+    behind_told (WentBack n w) (checked (session_of w) (length w.core.memory) (length w.core.reel) n) (λ r. refused_as r w) _
+    (λ r t. stayed_back)
+    (λ t. either (WentBack n w) (eqb w.ledger.used 0) (refused_as refusal.Empty w) _ stayed_back
+    (either (WentBack n w) (ltb w.ledger.used entry_bare) (refused_as refusal.Entry w) _ stayed_back
+    (pick_told (WentBack n w) (entry_wrong w (newest w)) (refused_as refusal.Entry w) _
     (λ v. stayed_back)
-    (λ v. pick_told (WentBack n w) (no_place_back w.core (newest w)) (refused_as 11 w) _
+    (λ v. pick_told (WentBack n w) (no_place_back w.core (newest w)) (refused_as refusal.Table w) _
     (λ f. stayed_back)
-    (λ f. brought_back_lem (newest w) refl (passed (session_of w) (length w.core.memory) (length w.core.reel) n (eqb-true c 0 t)) v f)))))
-    (λ t. stayed_back)
+    (λ f. brought_back_lem (newest w) refl (passed (session_of w) (length w.core.memory) (length w.core.reel) n t) v f)))))
 
-checked_by : (n : ℕ) (w : World) (x : Answered) → WentBack n w x → step_kind x.answer ≡ stepped → checked (session_of x.world) (length x.world.core.memory) (length x.world.core.reel) n ≡ 0
+checked_by : (n : ℕ) (w : World) (x : Answered) → WentBack n w x → step_kind x.answer ≡ stepped → checked (session_of x.world) (length x.world.core.memory) (length x.world.core.reel) n ≡ Ok tt
 unfolding step_kind
 checked_by n w x stayed_back k = absurd (let z : ◌≡◌ {A = ℕ} 0 1 = cc in omega arith)
 checked_by n w x (brought_back_lem e d p v f) k = let_pass _ _ _ n (back_passed n w e p v)
 
 -- "8 .. or it would restore a state that 1 refuses": after a step back that is done, refusals 1 to 4 let the next call pass
-pub back_checked_lem : (n : ℕ) (w : World) → step_kind (back_on w n).answer ≡ stepped → checked (session_of (back_on w n).world) (length (back_on w n).world.core.memory) (length (back_on w n).world.core.reel) n ≡ 0
+pub back_checked_lem : (n : ℕ) (w : World) → step_kind (back_on w n).answer ≡ stepped → checked (session_of (back_on w n).world) (length (back_on w n).world.core.memory) (length (back_on w n).world.core.reel) n ≡ Ok tt
 back_checked_lem n w k = checked_by n w (back_on w n) (went_back_as n w) k

@@ -5,7 +5,9 @@ use mathlib.Core.List.{List, [], ◌∷◌, map}
 use Prim.Native.Nat.{ℕ, zero, suc, ◌≤◌}
 use native.Mathlib.Omega.{arith}
 use lib.ListN.{length, length-map}
-use Rattle.commands.specs.declared.plans.Answer.TheVariants as answer
+use Rattle.std.specs.Prelude.{Ok}
+use Rattle.state.specs.declared.refusal.Refusal.TheVariants as refusal
+use Rattle.commands.specs.declared.plans.Done.TheVariants as answer
 use Rattle.unit.specs.Cores.{Core}
 use Rattle.worlds.specs.Worlds.{answered}
 use Rattle.worlds.specs.Calls.{back_on, guarded, noted, refused_as}
@@ -45,15 +47,15 @@ module _ (n : ℕ) where
   lawful = record { Fit = Good n; keeps = kept_good; undoes = went }
 
   -- the call itself, step back: nothing but the bytes of the journal tells it what to do, and it leads where the model leads
-  back_stepped : (c : Call) (s : Here) → Good n s → kind_now n c s ≡ stepped → back_on (world_from n (step_to c s)) n ≡ answered (answer.Done false) (world_from n s)
+  back_stepped : (c : Call) (s : Here) → Good n s → kind_now n c s ≡ stepped → back_on (world_from n (step_to c s)) n ≡ answered (Ok (answer.Step false)) (world_from n s)
   back_stepped c s f k = rw (← stepped_world c s k) (step_undone n (world_from n s) f.fit c k)
 
-  clean_back : {s₀ s : Here} {l : List (Done (calls n))} {e : Noted} {es : List Noted} → Fresh n s₀ → Clean (calls n) l → Ran (calls n) s₀ l s → s.entries ≡ e ∷ es → back_on (world_from n s) n ≡ answered (answer.Done false) (world_from n (back (calls n) s))
+  clean_back : {s₀ s : Here} {l : List (Done (calls n))} {e : Noted} {es : List Noted} → Fresh n s₀ → Clean (calls n) l → Ran (calls n) s₀ l s → s.entries ≡ e ∷ es → back_on (world_from n s) n ≡ answered (Ok (answer.Step false)) (world_from n (back (calls n) s))
   clean_back f k start q = absurd (let z : ◌≡◌ {A = ℕ} 0 1 = cc f.none in omega arith)
   clean_back f (one_did k) (and_did {k = c} {s = s} r kd an st) q =
       let good = fit_clean (calls n) lawful f.good k r in
       let was : back (calls n) (step_to c s) ≡ s = λ i. record { core = went c s good kd i; entries = s.entries } in
-      rw st (back_stepped c s good kd ∙ ap (λ (x : Here). answered (answer.Done false) (world_from n x)) (sym was))
+      rw st (back_stepped c s good kd ∙ ap (λ (x : Here). answered (Ok (answer.Step false)) (world_from n x)) (sym was))
   clean_back f (one_saw k) (and_saw r kd an) q = clean_back f k r q
   clean_back f k (and_not _ _ _) q = elim k [ ]
   clean_back f k (and_undid _ _ _) q = elim k [ ]
@@ -69,10 +71,10 @@ module _ (n : ℕ) where
     never_was = struck (calls n) lawful f.good f.none r
 
     -- the call leads where the model leads: with an entry it is done, without one it is refused with 6
-    pub back_does : {e : Noted} {es : List Noted} → s.entries ≡ e ∷ es → back_on (world_from n s) n ≡ answered (answer.Done false) (world_from n (back (calls n) s))
+    pub back_does : {e : Noted} {es : List Noted} → s.entries ≡ e ∷ es → back_on (world_from n s) n ≡ answered (Ok (answer.Step false)) (world_from n (back (calls n) s))
     back_does q = clean_back f (strike_clean (calls n) l) never_was q
 
-    pub back_none : s.entries ≡ [] → back_on (world_from n s) n ≡ refused_as 6 (world_from n s)
+    pub back_none : s.entries ≡ [] → back_on (world_from n s) n ≡ refused_as refusal.Empty (world_from n s)
     unfolding back_on guarded length_of
     back_none e = rw (always_good.fit.sound, ap length_of e)
 

@@ -5,8 +5,9 @@ use mathlib.Core.List.{List}
 use Prim.Native.Nat.{ℕ}
 use native.Mathlib.Omega.{arith}
 use lib.ListN.{drop}
-use Rattle.commands.specs.declared.plans.Answer.{Answer}
-use Rattle.commands.specs.declared.plans.Answer.TheVariants as answer
+use Rattle.std.specs.Prelude.{Ok, Err}
+use Rattle.commands.specs.Answers.{Answer}
+use Rattle.commands.specs.declared.plans.Done.TheVariants as answer
 use Rattle.unit.specs.Asks.{Ask}
 use Rattle.unit.specs.Cores.{Admitted, Core}
 use Rattle.unit.specs.Steps.{Step, step_of}
@@ -27,14 +28,13 @@ each_rest of_none = of_none
 each_rest (and_of p ps) = ps
 
 -- only a step that is answered "done" is taken
-pub done_by : (w : World) (x : Step) (a : Answer) → step_kind (taken_by w x a).answer ≡ stepped → (i : Bool) × (a ≡ answer.Done i)
+pub done_by : (w : World) (x : Step) (a : Answer) → step_kind (taken_by w x a).answer ≡ stepped → (i : Bool) × (a ≡ Ok (answer.Step i))
 unfolding taken_by step_kind
-done_by w x (answer.Done i) k = (i, refl)
-done_by w x answer.Idle k = looked_none k
-done_by w x (answer.Refused j) k = refused_none k
-done_by w x (answer.BadBlock why j) k = refused_none k
+done_by w x (Ok (answer.Step i)) k = (i, refl)
+done_by w x (Ok answer.Idle) k = looked_none k
+done_by w x (Err j) k = refused_none k
 
-pub asked_done : (n : ℕ) (w : World) (a : Ask) → step_kind (step_on w n a).answer ≡ stepped → (i : Bool) × ((step_of a w.core).answer ≡ answer.Done i)
+pub asked_done : (n : ℕ) (w : World) (a : Ask) → step_kind (step_on w n a).answer ≡ stepped → (i : Bool) × ((step_of a w.core).answer ≡ Ok (answer.Step i))
 unfolding step_on
 asked_done n w a k =
     let x : Step = step_of a w.core in

@@ -7,6 +7,7 @@ use Prim.Native.Nat.{ℕ, ◌+◌, ◌*◌, ◌<◌, ◌≤◌}
 use borrow.Author.Tests.{eqb-true}
 use lib.Dec.{eqb}
 use lib.ListN.{get_or}
+use Rattle.std.specs.Prelude.{Ok}
 use Rattle.lists.proofs.Cases.{by_test}
 use Rattle.tape.specs.Objects.{Holds, Object}
 use Rattle.index.specs.Cutting.{extended}
@@ -16,7 +17,7 @@ use Rattle.signals.specs.declared.packet.Header.{Header}
 use Rattle.moves.specs.Between.{Bound}
 use Rattle.motions.specs.Parts.{no_lay}
 use Rattle.motions.specs.declared.parts.Laid.{Laid}
-use Rattle.commands.specs.declared.plans.Answer.TheVariants as answer
+use Rattle.commands.specs.declared.plans.Done.TheVariants as answer
 use Rattle.commands.specs.declared.plans.Plan.{Plan}
 use Rattle.storing.specs.Stored.{laid_object, laid_objects, memory_after, reel_after}
 use Rattle.advance.specs.Rules.{writes}
@@ -85,7 +86,7 @@ module _ (c : Core) (a : Admitted c) (i : Bool) where
   unfilled : plan.laid ≡ no_lay → Unfilled c i after
   unfilled e = (rw e none_filled, rw e none_counted)
 
-  module _ (done : plan.answer ≡ answer.Done i) where
+  module _ (done : plan.answer ≡ Ok (answer.Step i)) where
     sent : Fetched c.unit c.memory c.reel → Tells (header_in c) → Sent c.unit c.memory c.reel
     sent f t =
         let goes = fetched_sends c.unit c.memory c.reel f t.0 t.1 i done in

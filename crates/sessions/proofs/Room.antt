@@ -8,10 +8,14 @@ use native.Mathlib.Omega.{arith}
 use borrow.Author.Tests.{lt-ltb, ltb-true}
 use lib.Dec.{ltb}
 use lib.ListN.{length}
+use Rattle.std.specs.Prelude.{Ok, Err}
 use Rattle.lists.proofs.Cases.{by_test}
 use Rattle.index.specs.Table.{places_in}
-use Rattle.commands.specs.declared.plans.Answer.{Answer}
-use Rattle.commands.specs.declared.plans.Answer.TheVariants as answer
+use Rattle.state.specs.declared.refusal.Refusal.TheVariants as refusal
+use Rattle.state.specs.Refusals.{refusal_number}
+use Rattle.state.specs.declared.refusal.Refusal.{Refusal}
+use Rattle.commands.specs.Answers.{Answer, number_of}
+use Rattle.commands.specs.declared.plans.Done.TheVariants as answer
 use Rattle.unit.specs.Asks.{Ask}
 use Rattle.unit.specs.Cores.{Core}
 use Rattle.unit.specs.Steps.{Step, step_of, too_small}
@@ -25,12 +29,13 @@ use Rattle.sessions.specs.Good.{Exactly, NoPlace, Steppable}
 use Rattle.sessions.proofs.Taken.{let_through, refused_none}
 
 -- "done" is no refusal
-not_done : {P : Type 0} (i : Bool) (k : ℕ) → answer.Done i ≡ answer.Refused k → P
+not_done : {P : Type 0} (i : Bool) (k : Refusal) → ◌≡◌ {A = Answer} (Ok (answer.Step i)) (Err k) → P
 unfolding step_kind
 not_done i k e = let z : refused ≡ stepped = sym (ap step_kind e) in refused_none z
 
-other_number : {P : Type 0} → answer.Refused 11 ≡ answer.Refused 9 → P
-other_number e = absurd (let z : ◌≡◌ {A = ℕ} 11 9 = cc in omega arith)
+other_number : {P : Type 0} → ◌≡◌ {A = Answer} (Err refusal.Table) (Err refusal.Room) → P
+unfolding number_of refusal_number
+other_number e = absurd (let z : ◌≡◌ {A = ℕ} 11 9 = ap number_of e in omega arith)
 
 -- the test of 11 says what it means
 module _ (c : Core) (x : Step) where
@@ -53,7 +58,7 @@ module _ (c : Core) (x : Step) where
   never_crowded t h = true≢false (sym (crowds h) ∙ t)
 
 module _ (w : World) (x : Step) where
-  as_room : (i : Bool) → Exactly w x (entry_for w.number w.core x) (taken_as w x (answer.Done i))
+  as_room : (i : Bool) → Exactly w x (entry_for w.number w.core x) (taken_as w x (Ok (answer.Step i)))
   unfolding taken_as
   as_room i =
       let free : ℕ = w.ledger.length - w.ledger.used in
@@ -61,26 +66,26 @@ module _ (w : World) (x : Step) where
       record {
         nine = λ r.
             by_test (absent_place w.core x)
-            (λ s. let z : answer.Refused 11 ≡ answer.Refused 9 = rw s at r in other_number z)
+            (λ s. let z : ◌≡◌ {A = Answer} (Err refusal.Table) (Err refusal.Room) = rw s at r in other_number z)
             (λ s. by_test (too_full w.ledger (entry_for w.number w.core x))
             (λ t. ltb-true free long t)
-            (λ t. let z : answer.Done i ≡ answer.Refused 9 = rw (s, t) at r in not_done i 9 z));
+            (λ t. let z : ◌≡◌ {A = Answer} (Ok (answer.Step i)) (Err refusal.Room) = rw (s, t) at r in not_done i _ z));
         no_room = λ f h. rw (not_crowded w.core x f, lt-ltb free long h);
         eleven = λ r.
             by_test (absent_place w.core x)
             (λ s. crowded w.core x s)
             (λ s. by_test (too_full w.ledger (entry_for w.number w.core x))
-            (λ t. let z : answer.Refused 9 ≡ answer.Refused 11 = rw (s, t) at r in other_number (sym z))
-            (λ t. let z : answer.Done i ≡ answer.Refused 11 = rw (s, t) at r in not_done i 11 z));
+            (λ t. let z : ◌≡◌ {A = Answer} (Err refusal.Room) (Err refusal.Table) = rw (s, t) at r in other_number (sym z))
+            (λ t. let z : ◌≡◌ {A = Answer} (Ok (answer.Step i)) (Err refusal.Table) = rw (s, t) at r in not_done i _ z));
         no_place = λ h. rw (crowds w.core x h);
       }
 
-  pub room_taken : (i : Bool) (a : Answer) → a ≡ answer.Done i → Exactly w x (entry_for w.number w.core x) (taken_by w x a)
+  pub room_taken : (i : Bool) (a : Answer) → a ≡ Ok (answer.Step i) → Exactly w x (entry_for w.number w.core x) (taken_by w x a)
   unfolding taken_by
   room_taken i a e = rw e (as_room i)
 
 -- of any ask
-pub room_asked : (n : ℕ) (a : Ask) (w : World) (i : Bool) → Fit n w → (step_of a w.core).answer ≡ answer.Done i
+pub room_asked : (n : ℕ) (a : Ask) (w : World) (i : Bool) → Fit n w → (step_of a w.core).answer ≡ Ok (answer.Step i)
     → Exactly w (step_of a w.core) (entry_for w.number w.core (step_of a w.core)) (step_on w n a)
 unfolding step_on
 room_asked n a w i fit s =

@@ -4,14 +4,16 @@ use mathlib.Core.Path.{◌≡◌, refl, sym, subst}
 use mathlib.Core.Bool.{Bool, false}
 use Prim.Native.Nat.{ℕ, ◌+◌, ◌-◌, ◌≤◌}
 use native.Mathlib.Omega.{arith}
-use borrow.Author.Tests.{eqb-true, ltb-false}
-use lib.Dec.{eqb}
+use borrow.Author.Tests.{ltb-false}
 use lib.ListN.{length}
+use Rattle.std.specs.Prelude.{Ok, Err}
 use Rattle.lists.proofs.Cases.{by_test}
+use Rattle.state.proofs.Behind.{behind_told, by_check}
 use Rattle.state.proofs.Tests.{either}
 use Rattle.index.specs.Table.{places_limit}
-use Rattle.commands.specs.declared.plans.Answer.{Answer}
-use Rattle.commands.specs.declared.plans.Answer.TheVariants as answer
+use Rattle.state.specs.declared.refusal.Refusal.TheVariants as refusal
+use Rattle.commands.specs.Answers.{Answer}
+use Rattle.commands.specs.declared.plans.Done.TheVariants as answer
 use Rattle.unit.specs.Asks.{Ask, Asked}
 use Rattle.unit.specs.Cores.{Admitted}
 use Rattle.unit.specs.Steps.{Sound, Step, step_of}
@@ -39,10 +41,9 @@ looked_none p = absurd (let z : ◌≡◌ {A = ℕ} 0 1 = cc in omega arith)
 
 pub read_none : {P : Type 0} (a : Answer) → read_kind a ≡ stepped → P
 unfolding read_kind
-read_none (answer.Done i) k = looked_none k
-read_none answer.Idle k = looked_none k
-read_none (answer.Refused j) k = refused_none k
-read_none (answer.BadBlock why j) k = refused_none k
+read_none (Ok (answer.Step i)) k = looked_none k
+read_none (Ok answer.Idle) k = looked_none k
+read_none (Err j) k = refused_none k
 
 -- a step is what is answered "done"
 pub step_done : (c : Call) (a : Answer) → call_kind c a ≡ stepped → step_kind a ≡ stepped
@@ -53,7 +54,7 @@ step_done (read_register r) a k = read_none a k
 -- the checks
 module _ (n : ℕ) (w : World) where
   abbrev Checked : Type 0
-  Checked = checked (session_of w) (length w.core.memory) (length w.core.reel) n ≡ 0
+  Checked = checked (session_of w) (length w.core.memory) (length w.core.reel) n ≡ Ok tt
 
   pub let_through : Checked → (x : Answered) → guarded w n x ≡ x
   unfolding guarded
@@ -62,8 +63,7 @@ module _ (n : ℕ) (w : World) where
   pub sound_guarded : (x : Answered) → step_kind (guarded w n x).answer ≡ stepped → Checked
   unfolding guarded step_kind
   sound_guarded x k =
-      let c : ℕ = checked (session_of w) (length w.core.memory) (length w.core.reel) n in
-      by_test (eqb c 0) (λ t. eqb-true c 0 t) (λ t. let z : refused ≡ stepped = rw t at k in refused_none z)
+      by_check (checked (session_of w) (length w.core.memory) (length w.core.reel) n) (λ t. t) (λ r t. let z : refused ≡ stepped = rw t at k in refused_none z)
 
   pub sound_asked : (a : Ask) → step_kind (step_on w n a).answer ≡ stepped → Checked
   unfolding step_on
@@ -86,10 +86,9 @@ module _ (w : World) (x : Step) where
 
   pub took_by : (a : Answer) → step_kind (taken_by w x a).answer ≡ stepped → Took w (taken_by w x a).world x
   unfolding taken_by step_kind
-  took_by (answer.Done i) k = took_as (answer.Done i) k
-  took_by answer.Idle k = looked_none k
-  took_by (answer.Refused j) k = refused_none k
-  took_by (answer.BadBlock why j) k = refused_none k
+  took_by (Ok (answer.Step i)) k = took_as (Ok (answer.Step i)) k
+  took_by (Ok answer.Idle) k = looked_none k
+  took_by (Err j) k = refused_none k
 
 pub took_asked : (n : ℕ) (a : Ask) (w : World) → step_kind (step_on w n a).answer ≡ stepped → Took w (step_on w n a).world (step_of a w.core)
 unfolding step_on
@@ -148,7 +147,7 @@ module _ (n : ℕ) (w : World) (fit : Fit n w) where
 
     module _ (s : Sound w.core x) where
       -- the step back after a step gives the world before it
-      pub took_undone : back_on next n ≡ answered (answer.Done false) w
+      pub took_undone : back_on next n ≡ answered (Ok (answer.Step false)) w
       took_undone = rw t.is (taken_undone n w x fit s has_room t.places)
 
       pub took_fit : Fit n next
@@ -156,7 +155,7 @@ module _ (n : ℕ) (w : World) (fit : Fit n w) where
 
   module _ (c : Call) (k : call_kind c (on_call n c w).answer ≡ stepped) where
     -- the step back after a step gives the world before it
-    pub step_undone : back_on (on_call n c w).world n ≡ answered (answer.Done false) w
+    pub step_undone : back_on (on_call n c w).world n ≡ answered (Ok (answer.Step false)) w
     step_undone = took_undone (on_call n c w).world (doing c w.core) (took n c w k) (doing_sound c k)
 
     -- the places that are used after it can be counted in four bytes
@@ -170,21 +169,19 @@ module _ (n : ℕ) (w : World) where
   pub guarded_left : (x : Answered) → Left w x → Left w (guarded w n x)
   unfolding guarded
   guarded_left x f =
-      let k : ℕ = checked (session_of w) (length w.core.memory) (length w.core.reel) n in
-      either (Left w) (eqb k 0) x (refused_as k w) f (λ g. refl)
+      behind_told (Left w) (checked (session_of w) (length w.core.memory) (length w.core.reel) n) (λ r. refused_as r w) x (λ r t g. refl) (λ t. f)
 
-  as_left : (x : Step) (i : Bool) → Left w (taken_as w x (answer.Done i))
+  as_left : (x : Step) (i : Bool) → Left w (taken_as w x (Ok (answer.Step i)))
   unfolding taken_as step_kind
   as_left x i =
-      either (Left w) (absent_place w.core x) (refused_as 11 w) _ (λ g. refl)
-      (either (Left w) (too_full w.ledger (entry_for w.number w.core x)) (refused_as 9 w) _ (λ g. refl) (λ g. absurd (g refl)))
+      either (Left w) (absent_place w.core x) (refused_as refusal.Table w) _ (λ g. refl)
+      (either (Left w) (too_full w.ledger (entry_for w.number w.core x)) (refused_as refusal.Room w) _ (λ g. refl) (λ g. absurd (g refl)))
 
   pub by_left : (x : Step) (a : Answer) → Left w (taken_by w x a)
   unfolding taken_by
-  by_left x (answer.Done i) = as_left x i
-  by_left x answer.Idle = λ g. refl
-  by_left x (answer.Refused k) = λ g. refl
-  by_left x (answer.BadBlock why k) = λ g. refl
+  by_left x (Ok (answer.Step i)) = as_left x i
+  by_left x (Ok answer.Idle) = λ g. refl
+  by_left x (Err k) = λ g. refl
 
   pub step_left : (a : Ask) → Left w (step_on w n a)
   unfolding step_on

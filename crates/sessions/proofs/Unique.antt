@@ -1,11 +1,14 @@
 -- A call's contract permits one outcome: answer, session, memory, reel, table and used journal are those of its definition.
 use mathlib.Core.List.{List}
-use mathlib.Core.Path.{◌≡◌, ap, sym, ◌∙◌}
+use mathlib.Core.Path.{◌≡◌, refl, ap, sym, ◌∙◌}
+use Rattle.std.specs.Prelude.{Result, Ok, Err}
 use Prim.Native.Nat.{ℕ}
-use Rattle.commands.specs.declared.plans.Answer.{Answer}
-use Rattle.worlds.specs.Worlds.{Answered, Leaves, session_of, world_of}
+use Rattle.commands.specs.Answers.{Answer}
+use Rattle.state.specs.declared.refusal.Refusal.{Refusal}
+use Rattle.worlds.specs.Worlds.{Answered, Leaves, outcome_of, outcome_told, session_of, world_of}
 use Rattle.worlds.specs.declared.Session.{Session}
-use Rattle.worlds.specs.declared.Outcome.{Outcome}
+use Rattle.worlds.specs.declared.Stepped.{Stepped}
+use Rattle.worlds.specs.Worlds.{Outcome}
 
 same_outcome : (o p : Outcome) → o.answer ≡ p.answer → o.session ≡ p.session → o ≡ p
 same_outcome o p a s =
@@ -16,3 +19,28 @@ pub leaves_unique : {x : Answered} {k : List ℕ} {o o₂ : Outcome} {m r tb j m
 leaves_unique {o = o} {o₂ = o₂} p q =
     let same = p.world ∙ sym q.world in
     (same_outcome o o₂ (p.answer ∙ sym q.answer) (ap session_of same), same)
+
+-- and so one result of the code: those that have one outcome, over one session, are one
+unfoldable result_in : Answer → Session → Result Session Refusal
+result_in (Ok d) s = Ok s
+result_in (Err r) s = Err r
+
+result_back : (s : Session) (x : Result Session Refusal) → result_in (outcome_of s x).answer (outcome_of s x).session ≡ x
+unfolding result_in
+result_back s (Ok y) = refl
+result_back s (Err r) = refl
+
+pub one_result : (s : Session) {x y : Result Session Refusal} → outcome_of s x ≡ outcome_of s y → x ≡ y
+one_result s {x = x} {y = y} h = sym (result_back s x) ∙ ap (λ (o : Outcome). result_in o.answer o.session) h ∙ result_back s y
+
+unfoldable stepped_in : Answer → Session → Result Stepped Refusal
+stepped_in (Ok d) s = Ok (record { done = d; session = s })
+stepped_in (Err r) s = Err r
+
+stepped_back : (s : Session) (x : Result Stepped Refusal) → stepped_in (outcome_told s x).answer (outcome_told s x).session ≡ x
+unfolding stepped_in
+stepped_back s (Ok y) = refl
+stepped_back s (Err r) = refl
+
+pub one_stepped : (s : Session) {x y : Result Stepped Refusal} → outcome_told s x ≡ outcome_told s y → x ≡ y
+one_stepped s {x = x} {y = y} h = sym (stepped_back s x) ∙ ap (λ (o : Outcome). stepped_in o.answer o.session) h ∙ stepped_back s y

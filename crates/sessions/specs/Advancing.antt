@@ -1,12 +1,16 @@
 -- What a call of advance comes to, from every world and with every lent journal: refused with 1 to 4, idle, refused with 7, 11 or 9, or a step. A
 -- unit that refuses always or does nothing is none of these. (01, "Calls", and the table of refusals)
+use Rattle.std.specs.Prelude.{Result, Ok, Err, ⊤}
 use Rattle.std.specs.Prelude.{Bool, true, false, ◌&&◌, List, ◌≡◌, ℕ, ◌<◌, ◌-◌, ◌/◌, length}
 use Rattle.tape.specs.Numbers.{block_bytes}
 use Rattle.tape.specs.declared.BlockFault.{BlockFault}
 use Rattle.state.specs.declared.Unit.{Unit}
+use Rattle.state.specs.declared.refusal.Refusal.{Refusal}
+use Rattle.state.specs.declared.refusal.Refusal.TheVariants as refusal
+use Rattle.commands.specs.Answers.{bad_block}
 use Rattle.commands.specs.Answers.{is_step}
-use Rattle.commands.specs.declared.plans.Answer.{Answer}
-use Rattle.commands.specs.declared.plans.Answer.TheVariants as answer
+use Rattle.commands.specs.Answers.{Answer}
+use Rattle.commands.specs.declared.plans.Done.TheVariants as answer
 use Rattle.advance.specs.Rules.{reverse_first}
 use Rattle.demands.specs.Faults.{FirstFault}
 use Rattle.demands.specs.MustRead.{MustRead}
@@ -34,7 +38,7 @@ pub record FaultAhead (c : Core) (why : BlockFault) (k : ℕ) : Type 0 where
 
 -- the same for a mount of the reel r up to the end e, which answers a: it reads every block from 0 on
 abbrev pub Names : List ℕ → ℕ → Answer → Type 0
-Names r e a = (why : BlockFault) × (k : ℕ) × (a ≡ answer.BadBlock why k) × (k < length r / block_bytes) × FirstFault r e false 0 why k
+Names r e a = (why : BlockFault) × (k : ℕ) × (a ≡ bad_block why k) × (k < length r / block_bytes) × FirstFault r e false 0 why k
 
 -- the command comes to an end, or an attention goes out: nothing is left to ask but for places and room, and 7 is not due
 abbrev pub Ends : World → Type 0
@@ -48,15 +52,15 @@ Full w = w.ledger.length - w.ledger.used < entry_length (entry_at w.number (step
 abbrev pub Crowded : World → Type 0
 Crowded w = NoPlace w.core (step_of advance w.core)
 
--- the first of refusals 1 to 4 that holds, 0 where none does
-abbrev pub checked_with : ℕ → World → ℕ
+-- the first of refusals 1 to 4 that holds
+abbrev pub checked_with : ℕ → World → Result ⊤ Refusal
 checked_with n w = checked (session_of w) (length w.core.memory) (length w.core.reel) n
 
 -- the call comes to x
 pub data Comes (n : ℕ) (w : World) (x : Answered) : Type 0 where
-  refused : (checked_with n w ≡ 0 → ⊥) → x ≡ refused_as (checked_with n w) w → Comes n w x
-  idle : checked_with n w ≡ 0 → Idle w.core.unit → x ≡ answered answer.Idle w → Comes n w x
-  at_fault : {why : BlockFault} {k : ℕ} → checked_with n w ≡ 0 → (Idle w.core.unit → ⊥) → FaultAhead w.core why k → x ≡ answered (answer.BadBlock why k) w → Comes n w x
-  no_place : checked_with n w ≡ 0 → (Idle w.core.unit → ⊥) → Ends w → Crowded w → x ≡ refused_as 11 w → Comes n w x
-  no_room : checked_with n w ≡ 0 → (Idle w.core.unit → ⊥) → Ends w → (Crowded w → ⊥) → Full w → x ≡ refused_as 9 w → Comes n w x
-  a_step : {i : Bool} → checked_with n w ≡ 0 → (Idle w.core.unit → ⊥) → (Crowded w → ⊥) → (Full w → ⊥) → x.answer ≡ answer.Done i → Obeys w.core i x.world.core → Comes n w x
+  refused : {r : Refusal} → checked_with n w ≡ Err r → x ≡ refused_as r w → Comes n w x
+  idle : checked_with n w ≡ Ok tt → Idle w.core.unit → x ≡ answered (Ok answer.Idle) w → Comes n w x
+  at_fault : {why : BlockFault} {k : ℕ} → checked_with n w ≡ Ok tt → (Idle w.core.unit → ⊥) → FaultAhead w.core why k → x ≡ answered (bad_block why k) w → Comes n w x
+  no_place : checked_with n w ≡ Ok tt → (Idle w.core.unit → ⊥) → Ends w → Crowded w → x ≡ refused_as refusal.Table w → Comes n w x
+  no_room : checked_with n w ≡ Ok tt → (Idle w.core.unit → ⊥) → Ends w → (Crowded w → ⊥) → Full w → x ≡ refused_as refusal.Room w → Comes n w x
+  a_step : {i : Bool} → checked_with n w ≡ Ok tt → (Idle w.core.unit → ⊥) → (Crowded w → ⊥) → (Full w → ⊥) → x.answer ≡ Ok (answer.Step i) → Obeys w.core i x.world.core → Comes n w x

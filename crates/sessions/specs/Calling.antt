@@ -1,7 +1,8 @@
 -- The journal's calls as the steps of a session. (01, "Calls")
+use Rattle.std.specs.Prelude.{Ok, Err}
 use Rattle.std.specs.Prelude.{List, [], ◌∷◌, ◌++◌, ◌≡◌, false, ℕ, zero, suc, ◌+◌}
-use Rattle.commands.specs.declared.plans.Answer.{Answer}
-use Rattle.commands.specs.declared.plans.Answer.TheVariants as answer
+use Rattle.commands.specs.Answers.{Answer}
+use Rattle.commands.specs.declared.plans.Done.TheVariants as answer
 use Rattle.touched.specs.Touches.{none, saved_bytes}
 use Rattle.unit.specs.Asks.{Ask, Asked}
 use Rattle.unit.specs.Cores.{Core}
@@ -34,16 +35,14 @@ word_of (read_register r) w = (register_on (session_of w) r).word
 
 -- "Done" takes a step, "Idle" none; reading a register "adds none"
 unfoldable pub step_kind : Answer → Kind
-step_kind (answer.Done i) = stepped
-step_kind answer.Idle = looked
-step_kind (answer.Refused k) = refused
-step_kind (answer.BadBlock why k) = refused
+step_kind (Ok (answer.Step i)) = stepped
+step_kind (Ok answer.Idle) = looked
+step_kind (Err k) = refused
 
 unfoldable pub read_kind : Answer → Kind
-read_kind (answer.Done i) = looked
-read_kind answer.Idle = looked
-read_kind (answer.Refused k) = refused
-read_kind (answer.BadBlock why k) = refused
+read_kind (Ok (answer.Step i)) = looked
+read_kind (Ok answer.Idle) = looked
+read_kind (Err k) = refused
 
 unfoldable pub call_kind : Call → Answer → Kind
 call_kind (step b h) a = step_kind a
@@ -52,7 +51,7 @@ call_kind (read_register r) a = read_kind a
 -- what a call does to the core, if it takes a step
 unfoldable pub doing : Call → Core → Step
 doing (step a h) c = step_of a c
-doing (read_register r) c = record { answer = answer.Idle; touched = none; after = c }
+doing (read_register r) c = record { answer = (Ok answer.Idle); touched = none; after = c }
 
 -- its entry, as one of the transport with this number
 abbrev pub entry_at : ℕ → Call → Core → Entry

@@ -1,9 +1,11 @@
 -- What every moment of a session from a mount on has, and what a session begins with.
+use Rattle.std.specs.Prelude.{Ok, Err}
 use Rattle.std.specs.Prelude.{List, [], ◌∷◌, ◌⊎◌, ◌≡◌, Bool, ℕ, ◌+◌, ◌-◌, ◌*◌, ◌<◌, length}
 use Rattle.tape.specs.Afresh.{objects_in}
 use Rattle.index.specs.Table.{Indexed, place_length, places_in}
 use Rattle.kept.specs.Formed.{Formed}
-use Rattle.commands.specs.declared.plans.Answer.TheVariants as answer
+use Rattle.state.specs.declared.refusal.Refusal.TheVariants as refusal
+use Rattle.commands.specs.declared.plans.Done.TheVariants as answer
 use Rattle.unit.specs.Cores.{Core}
 use Rattle.unit.specs.Steps.{Step, step_of}
 use Rattle.unit.specs.Stores.{StepBytes, Stores, bytes_of, no_bytes}
@@ -72,7 +74,7 @@ mount_moment old m r tb journal e online locked =
 
 -- a call that is no reading, that neither 5 nor 7 refuses, and that is no idle advance
 abbrev pub Steppable : Call → Core → Type 0
-Steppable (step a h) c = (i : Bool) × ((step_of a c).answer ≡ answer.Done i)
+Steppable (step a h) c = (i : Bool) × ((step_of a c).answer ≡ Ok (answer.Step i))
 Steppable (read_register r) c = ⊥
 
 -- the free journal is less than the entry
@@ -86,7 +88,7 @@ NoPlace c x = (places_in (length c.table) < c.objects) ⊎ (places_in (length c.
 -- "a step is refused for room exactly when its entry doesn't fit", and then all is as it was; 11 comes before 9, and is given exactly when the table is too
 -- small
 pub record Exactly (w : World) (s : Step) (e : Entry) (x : Answered) : Type 0 where
-  pub nine : x.answer ≡ answer.Refused 9 → NoRoom w.ledger e
-  pub no_room : (NoPlace w.core s → ⊥) → NoRoom w.ledger e → x ≡ refused_as 9 w
-  pub eleven : x.answer ≡ answer.Refused 11 → NoPlace w.core s
-  pub no_place : NoPlace w.core s → x ≡ refused_as 11 w
+  pub nine : x.answer ≡ Err refusal.Room → NoRoom w.ledger e
+  pub no_room : (NoPlace w.core s → ⊥) → NoRoom w.ledger e → x ≡ refused_as refusal.Room w
+  pub eleven : x.answer ≡ Err refusal.Table → NoPlace w.core s
+  pub no_place : NoPlace w.core s → x ≡ refused_as refusal.Table w

@@ -2,7 +2,7 @@
 -- reverse and writing. Done plus residual equals the count asked. Memory outside the named bytes stays." Request [2] changes step 7: "Demand 2 then means
 -- this rule." What holds of an advance that is a step,
 -- between the state, memory, reel and table ([8]) that the call was handed and those that it left. No well formed reel is asked, but where objects are spoken of.
-use Rattle.std.specs.Prelude.{Bool, true, false, List, ◌⊎◌, ◌≡◌, ℕ, ◌+◌, ◌*◌, ◌<◌, ◌≤◌, eqb, ltb, get_or}
+use Rattle.std.specs.Prelude.{Bool, true, false, List, ◌⊎◌, ◌≡◌, ℕ, ◌+◌, ◌*◌, ◌<◌, ◌≤◌, eqb, ltb, get_or, Ok}
 use Rattle.tape.specs.Numbers.{block_bytes}
 use Rattle.tape.specs.Objects.{Holds, Object, blocks_in}
 use Rattle.index.specs.Table.{place_length}
@@ -12,7 +12,7 @@ use Rattle.moves.specs.Between.{Bound}
 use Rattle.moves.specs.Seeking.{sought}
 use Rattle.moves.specs.declared.seeking.Sought.TheVariants as sought-as
 use Rattle.motions.specs.Parts.{laid_blocks}
-use Rattle.commands.specs.declared.plans.Answer.TheVariants as answer
+use Rattle.commands.specs.declared.plans.Done.TheVariants as answer
 use Rattle.commands.specs.declared.plans.Plan.{Plan}
 use Rattle.storing.specs.Outside.{OffData, OffMessage}
 use Rattle.storing.specs.Stored.{memory_after, reel_after}
@@ -47,7 +47,7 @@ pub data Short (c : Core) (short : Bool) : Type 0 where
 module _ (c : Core) (interrupts : Bool) (c' : Core) where
   -- the step is what the plan q says, and nothing else: memory off q's data and message, the reel off the blocks that q lays, and the table off their places, stay
   pub record Follows (q : Plan) : Type 0 where
-    pub answer : q.answer ≡ answer.Done interrupts
+    pub answer : q.answer ≡ Ok (answer.Step interrupts)
     pub state : c'.unit ≡ q.unit
     pub memory : c'.memory ≡ memory_after q c.memory c.reel
     pub reel : c'.reel ≡ reel_after q c.memory c.reel
@@ -83,7 +83,7 @@ module _ (c : Core) (interrupts : Bool) (c' : Core) where
     pub told : WriteRuns c.unit c.memory c.reel → Short c false → WriteTold (object_in c) c'.unit c'.memory
     -- with none; and a retry that found nothing to go over
     pub no_room : WriteRuns c.unit c.memory c.reel → Short c true → NoRoom c.unit.tape c.reel c'.unit c'.memory c'.reel × Unfilled
-    pub none_found : WriteRuns c.unit c.memory c.reel → (header_in c).mode ≡ 2 → {at : ℕ} → sought c.reel true c.unit.tape.position c.unit.tape.end ≡ sought-as.Nothing at
+    pub none_found : WriteRuns c.unit c.memory c.reel → (header_in c).mode ≡ 2 → {at : ℕ} → sought c.reel true c.unit.tape.position c.unit.tape.end ≡ Ok (sought-as.Nothing at)
         → NoneFound c.unit.tape c.reel c'.unit c'.memory c'.reel × Unfilled
     -- nothing else writes
     pub unwritten : (WriteRuns c.unit c.memory c.reel → ⊥) → (c'.reel ≡ c.reel) × (c'.unit.tape.end ≡ c.unit.tape.end) × Unfilled

@@ -1,26 +1,27 @@
 -- A session and its block are one another's: the session comes back from its block, and a block's bytes are those of the session that it
 -- is read as.
 use mathlib.Core.Path.{◌≡◌, refl, sym, ap, ap₂, ◌∙◌}
-use mathlib.Core.Bool.{Bool, true, false, ◌&&◌, not, true≢false}
+use mathlib.Core.Bool.{Bool, true, ◌&&◌}
 use mathlib.Core.List.{List, [], ◌∷◌, ◌++◌}
 use Prim.Native.Nat.{ℕ, zero, suc, ◌+◌, ◌*◌, ◌/◌, ◌%◌, ◌<◌, ◌≤◌}
 use native.Mathlib.Omega.{arith}
-use borrow.Author.Tests.{eqb-true, ltb-true}
-use lib.Dec.{eqb, ltb}
+use borrow.Author.Tests.{eqb-true}
+use lib.Dec.{eqb}
 use lib.ListN.{drop, drop_of_length-le, get_or, length, length-drop}
 use lib.Seq.{drop_at, drop-cons, drop-drop, get_or-drop}
 use Rattle.lists.specs.Words.{Bytes, word_at}
 use Rattle.lists.specs.Fours.{number_at, number_bytes, number_limit}
 use Rattle.lists.proofs.Fours.{number_first}
 use Rattle.lists.proofs.Sums.{word_whole}
-use Rattle.entries.specs.Numbers.{Small, bit_of, entry_of, is_set, nth, numbers_of, touched_of, unit_of}
+use Rattle.entries.specs.Numbers.{Small, entry_of, flags_right, nth, numbers_of, state_numbers, touched_of, unit_in}
 use Rattle.entries.specs.Bytes.{numbers_bytes, head_count, head_length, head_numbers}
 use Rattle.entries.proofs.Back.{entry_back, length_numbers}
 use Rattle.entries.proofs.HeadBytes.{head_back}
 use Rattle.entries.proofs.Joined.{head_long}
+use Rattle.entries.proofs.Own.{all_elements, elements, flags_of as state_flags, number, state_own, three}
 use Rattle.entries.proofs.Turns.{length_read}
 use Rattle.worlds.specs.declared.Session.{Session}
-use Rattle.stateblock.specs.Block.{Block, state_block, entry_with, flags_right, is_block, rest_zero, session_in, session_with}
+use Rattle.stateblock.specs.Block.{Block, state_block, entry_with, is_block, rest_zero, session_in, session_with}
 use Rattle.stateblock.proofs.Written.{length_block}
 
 -- the numbers in a session's block
@@ -33,16 +34,12 @@ pub block_back : (s : Session) → Small (entry_with s) → session_in (state_bl
 unfolding session_in session_with entry_with
 block_back s h = rw (numbers_in s, entry_back (entry_with s) 0 h refl)
 
-a_flag : (b : Bool) → ltb (bit_of b) 2 ≡ true
-a_flag true = refl
-a_flag false = refl
-
 flags_of : (s : Session) → flags_right (numbers_of (entry_with s)) ≡ true
-unfolding flags_right numbers_of entry_with
-flags_of s = simp a_flag
+unfolding numbers_of entry_with
+flags_of s = state_flags s.unit _
 
 rest_of : (s : Session) → rest_zero (numbers_of (entry_with s)) ≡ true
-unfolding rest_zero numbers_of entry_with
+unfolding rest_zero numbers_of state_numbers entry_with
 rest_of s = refl
 
 last_of : (s : Session) → number_at (state_block s) head_length ≡ 0
@@ -73,7 +70,7 @@ read_small (suc k) b h zero = number_small b h
 read_small (suc k) b h (suc i) = read_small k (drop 4 b) (bytes_drop 4 b h) i
 
 pub small_entry : (b : List ℕ) (top : ℕ) → Bytes b → Small (entry_of (head_numbers head_count b) top)
-unfolding entry_of unit_of touched_of
+unfolding entry_of unit_in touched_of
 small_entry b top h =
     let s = read_small head_count b h in
     record {
@@ -144,61 +141,9 @@ bytes_back (suc k) b h l =
     ∙ ap (λ (x : List ℕ). get_or b 0 0 ∷ get_or b 1 0 ∷ get_or b 2 0 ∷ get_or b 3 0 ∷ x) rest
     ∙ four_first b (omega arith)
 
--- a list by its elements
-abbrev elements : (ℕ → ℕ) → ℕ → ℕ → List ℕ
-elements g i zero = []
-elements g i (suc k) = g i ∷ elements g (suc i) k
-
-shifted : (g : ℕ → ℕ) (i k : ℕ) → elements g (suc i) k ≡ elements (λ j. g (suc j)) i k
-shifted g i zero = refl
-shifted g i (suc k) = ap (λ (x : List ℕ). g (suc i) ∷ x) (shifted g (suc i) k)
-
-all_elements : (n : List ℕ) → elements (λ i. get_or n i 0) 0 (length n) ≡ n
-all_elements [] = refl
-all_elements (x ∷ n) = ap (λ (y : List ℕ). x ∷ y) (shifted (λ i. get_or (x ∷ n) i 0) 0 (length n) ∙ all_elements n)
-
 -- the tests of a block, each by itself
-both : (a b : Bool) → (a && b) ≡ true → (a ≡ true) × (b ≡ true)
-both true b h = (refl, h)
-both false b h = absurd (true≢false (sym h))
-
-three : (a b c : Bool) → (a && (b && c)) ≡ true → (a ≡ true) × (b ≡ true) × (c ≡ true)
-three a b c h =
-    let p = both a (b && c) h in
-    let q = both b c p.1 in
-    (p.0, q.0, q.1)
-
-abbrev Flag : List ℕ → ℕ → Type 0
-Flag n i = ltb (nth n i) 2 ≡ true
-
 abbrev Unused : List ℕ → ℕ → Type 0
 Unused n i = eqb (nth n i) 0 ≡ true
-
-record Flags (n : List ℕ) : Type 0 where
-  registers : Flag n 4 × Flag n 5 × Flag n 6 × Flag n 7
-  panel : Flag n 8 × Flag n 9 × Flag n 10
-  attention : Flag n 11 × Flag n 12 × Flag n 13
-  characteristics : Flag n 16 × Flag n 17 × Flag n 18
-
-flags_told : (n : List ℕ) → flags_right n ≡ true → Flags n
-unfolding flags_right
-flags_told n h =
-    let f : ℕ → Bool = λ i. ltb (nth n i) 2 in
-    let a : Bool = f 4 && (f 5 && (f 6 && f 7)) in
-    let b : Bool = f 8 && (f 9 && f 10) in
-    let c : Bool = f 11 && (f 12 && f 13) in
-    let d : Bool = f 16 && (f 17 && f 18) in
-    let p = both (a && b && c) d h in
-    let q = both (a && b) c p.0 in
-    let r = both a b q.0 in
-    let s = both (f 4) (f 5 && (f 6 && f 7)) r.0 in
-    let t = three (f 5) (f 6) (f 7) s.1 in
-    record {
-      registers = (s.0, t.0, t.1, t.2);
-      panel = three (f 8) (f 9) (f 10) r.1;
-      attention = three (f 11) (f 12) (f 13) q.1;
-      characteristics = three (f 16) (f 17) (f 18) p.1;
-    }
 
 record Rest (n : List ℕ) : Type 0 where
   swb : Unused n 23
@@ -216,37 +161,17 @@ rest_told n h =
     let r = three (f 27) (f 29) (f 30) q.2 in
     record { swb = p.0; message = (p.1, q.0); reel = (q.1, r.0); free = (r.1, r.2) }
 
--- a flag is 0 or 1, and a number with no use is 0
-flag_back : (n : ℕ) → ltb n 2 ≡ true → bit_of (not (eqb n 0)) ≡ n
-flag_back zero t = refl
-flag_back (suc zero) t = refl
-flag_back (suc (suc n)) t = absurd (omega (arith, ltb-true (suc (suc n)) 2 t))
-
-low : (x : ℕ) → x < number_limit → x % number_limit ≡ x
-low x h = omega arith
-
-module _ (n : List ℕ) (small : (i : ℕ) → get_or n i 0 < number_limit) (f : Flags n) (r : Rest n) where
-  number : (k : ℕ) → nth n k % number_limit ≡ nth n k
-  number k = low (nth n k) (small k)
-
-  flag : (k : ℕ) → Flag n k → bit_of (is_set n k) ≡ nth n k
-  flag k t = flag_back (nth n k) t
-
+module _ (n : List ℕ) (small : (i : ℕ) → get_or n i 0 < number_limit) (f : flags_right n ≡ true) (r : Rest n) where
   unused : (k : ℕ) → Unused n k → 0 ≡ nth n k
   unused k t = sym (eqb-true (nth n k) 0 t)
 
   each_own : numbers_of (entry_with (session_with (entry_of n 0))) ≡ elements (nth n) 0 head_count
-  unfolding numbers_of entry_with session_with entry_of unit_of touched_of
+  unfolding numbers_of entry_with session_with entry_of unit_in touched_of
   each_own =
-      let a = f.registers in
-      let b = f.panel in
-      let c = f.attention in
-      let d = f.characteristics in
-      λ i. number 0 i ∷ number 1 i ∷ number 2 i ∷ number 3 i ∷ flag 4 a.0 i ∷ flag 5 a.1 i ∷ flag 6 a.2 i ∷ flag 7 a.3 i
-      ∷ flag 8 b.0 i ∷ flag 9 b.1 i ∷ flag 10 b.2 i ∷ flag 11 c.0 i ∷ flag 12 c.1 i ∷ flag 13 c.2 i
-      ∷ nth n 14 ∷ nth n 15 ∷ flag 16 d.0 i ∷ flag 17 d.1 i ∷ flag 18 d.2 i ∷ number 19 i ∷ number 20 i ∷ number 21 i ∷ number 22 i
+      ap₂ (λ (x y : List ℕ). x ++ y) (state_own n small _ f)
+      (λ i. number n small 19 i ∷ number n small 20 i ∷ number n small 21 i ∷ number n small 22 i
       ∷ unused 23 r.swb i ∷ unused 24 r.message.0 i ∷ unused 25 r.message.1 i ∷ unused 26 r.reel.0 i ∷ unused 27 r.reel.1 i
-      ∷ number 28 i ∷ unused 29 r.free.0 i ∷ unused 30 r.free.1 i ∷ []
+      ∷ number n small 28 i ∷ unused 29 r.free.0 i ∷ unused 30 r.free.1 i ∷ [])
 
   numbers_own : length n ≡ head_count → numbers_of (entry_with (session_with (entry_of n 0))) ≡ n
   numbers_own long = each_own ∙ ap (elements (nth n) 0) (sym long) ∙ all_elements n
@@ -260,7 +185,7 @@ block_own b k =
     let t = three (flags_right n) (rest_zero n) (eqb (number_at b head_length) 0) k.right in
     let zero-last : 0 ≡ number_at last 0 = sym (number_first b head_length ∙ eqb-true (number_at b head_length) 0 t.2) in
     let tail : number_bytes 0 ≡ last = ap (λ (x : ℕ). number_bytes x) zero-last ∙ number_bytes_lem last (bytes_drop head_length b k.bytes) ∙ four_last last (length-drop head_length b ∙ omega (arith, k.long)) in
-    ap₂ (λ (x y : List ℕ). numbers_bytes x ++ y) (numbers_own n (read_small head_count b k.bytes) (flags_told n t.0) (rest_told n t.1) (length_read head_count b)) tail
+    ap₂ (λ (x y : List ℕ). numbers_bytes x ++ y) (numbers_own n (read_small head_count b k.bytes) t.0 (rest_told n t.1) (length_read head_count b)) tail
     ∙ bytes_back head_count b k.bytes (omega (arith, k.long))
 
 -- so two blocks that are read as one session are one

@@ -1,13 +1,14 @@
 -- The state's block: 32 numbers of four bytes, low byte first: the 31 of a journal entry's head, and a 0. The used journal and the mount's
 -- journal length stand where an entry has its data's place and length, and the numbers after them are 0, but for the used places of the table.
-use Rattle.std.specs.Prelude.{Bool, true, false, ◌&&◌, List, ◌++◌, ◌≡◌, ℕ, eqb, ltb, length}
+use Rattle.std.specs.Prelude.{Bool, true, false, ◌&&◌, List, ◌++◌, ◌≡◌, ℕ, eqb, length}
 use Rattle.lists.specs.Words.{Bytes}
-use Rattle.entries.specs.Numbers.{entry_of, nth, numbers_of}
+use Rattle.entries.specs.Numbers.{entry_of, flags_right, nth, numbers_of}
 use Rattle.lists.specs.Fours.{number_at, number_bytes}
 use Rattle.entries.specs.Bytes.{numbers_bytes, head_count, head_length, head_numbers}
 use Rattle.entries.specs.declared.Entry.{Entry}
-use Rattle.commands.specs.declared.plans.Answer.{Answer}
-use Rattle.commands.specs.declared.plans.Answer.TheVariants as answer
+use Rattle.std.specs.Prelude.{Ok, Err}
+use Rattle.commands.specs.Answers.{Answer}
+use Rattle.commands.specs.declared.plans.Done.TheVariants as answer
 use Rattle.worlds.specs.declared.Session.{Session}
 
 -- a session as an entry that keeps no bytes, and back
@@ -42,19 +43,9 @@ state_block s = numbers_bytes (numbers_of (entry_with s)) ++ number_bytes 0
 unfoldable pub session_in : List ℕ → Session
 session_in b = session_with (entry_of (head_numbers head_count b) 0)
 
--- number i is a flag's; number i is 0
-abbrev flag : List ℕ → ℕ → Bool
-flag n i = ltb (nth n i) 2
-
+-- number i is 0
 abbrev unused : List ℕ → ℕ → Bool
 unused n i = eqb (nth n i) 0
-
-unfoldable pub flags_right : List ℕ → Bool
-flags_right n =
-    flag n 4 && (flag n 5 && (flag n 6 && flag n 7))
-    && (flag n 8 && (flag n 9 && flag n 10))
-    && (flag n 11 && (flag n 12 && flag n 13))
-    && (flag n 16 && (flag n 17 && flag n 18))
 
 unfoldable pub rest_zero : List ℕ → Bool
 rest_zero n =
@@ -75,7 +66,6 @@ pub record Block (b : List ℕ) : Type 0 where
 
 -- the block after an answer: the new session's, or, idle or refused, the very bytes that it was
 unfoldable pub block_after : List ℕ → Answer → Session → List ℕ
-block_after b (answer.Done i) s = state_block s
-block_after b answer.Idle s = b
-block_after b (answer.Refused n) s = b
-block_after b (answer.BadBlock why k) s = b
+block_after b (Ok (answer.Step i)) s = state_block s
+block_after b (Ok answer.Idle) s = b
+block_after b (Err n) s = b

@@ -1,11 +1,10 @@
 // The state's block: the head of a journal entry and a 0, with the used journal and the mount's journal length where an entry has its data's
 // place and length. A session has one block, and a block that no session has is refused.
 ghost use Rattle.std.specs.Prelude.{◌≡◌};
-ghost use Rattle.stateblock.specs.Block.{entry_with, flags_right, is_block, rest_zero, session_in, session_with};
-ghost use Rattle.stateblock.specs.Block.{block_after};
+ghost use Rattle.stateblock.specs.Block.{entry_with, is_block, rest_zero, session_in, session_with};
+ghost use Rattle.stateblock.specs.Block.{state_block};
 
-use commands::Answer;
-use entries::{Entry, HEAD, entry_of, head_at, numbers_of, put_head};
+use entries::{Entry, HEAD, entry_of, flags_right, head_at, numbers_of, put_head};
 use lists::{number_at, put_number};
 use touched::Touched;
 use worlds::Session;
@@ -16,22 +15,14 @@ pub const STATE: usize = 128;
 fn entry_with(s: Session) -> Entry
     ensures { result ≡ entry_with s }
 {
-    let unit = s.unit;
-    let touched = Touched {
-        data_at: s.used,
-        data_length: s.journal,
-        swb: false,
-        message_at: 0,
-        message_length: 0,
-        reel_at: 0,
-        reel_blocks: 0,
-        place_at: 0,
-        places: 0,
-    };
     Entry {
-        unit,
+        unit: s.unit,
         objects: s.objects,
-        touched,
+        touched: Touched {
+            data_at: s.used,
+            data_length: s.journal,
+            ..Touched::default()
+        },
         transport: 0,
     }
 }
@@ -39,24 +30,12 @@ fn entry_with(s: Session) -> Entry
 fn session_with(e: Entry) -> Session
     ensures { result ≡ session_with e }
 {
-    let unit = e.unit;
     Session {
-        unit,
+        unit: e.unit,
         objects: e.objects,
         used: e.touched.data_at,
         journal: e.touched.data_length,
     }
-}
-
-// The flags are 0 or 1.
-fn flags_right(n: [u32; 31]) -> bool
-    ensures { result ≡ flags_right n }
-{
-    let registers = (n[4] < 2) & ((n[5] < 2) & ((n[6] < 2) & (n[7] < 2)));
-    let panel = (n[8] < 2) & ((n[9] < 2) & (n[10] < 2));
-    let attention = (n[11] < 2) & ((n[12] < 2) & (n[13] < 2));
-    let characteristics = (n[16] < 2) & ((n[17] < 2) & (n[18] < 2));
-    registers & panel & attention & characteristics
 }
 
 // The numbers that a session has no use for are 0.
@@ -82,18 +61,10 @@ pub fn session_in(b: &[u8; 128]) -> Session
     session_with(entry_of(head_at(b, 0), 0))
 }
 
-// The session after a step is written over the block; any other answer leaves the block alone. Its number is told elsewhere: a shorter `close` becomes part of
-// every call.
-pub fn close(b: &mut [u8; 128], a: Answer, s: Session)
-    ensures { b.new ≡ block_after b.old a s }
+// The session after a step is written over the block.
+pub fn close(b: &mut [u8; 128], s: Session)
+    ensures { b.new ≡ state_block s }
 {
-    match a {
-        Answer::Done(_) => {
-            put_head(b, 0, numbers_of(entry_with(s)));
-            put_number(b, HEAD, 0);
-        }
-        Answer::Idle => {}
-        Answer::Refused(_) => {}
-        Answer::BadBlock(_, _) => {}
-    }
+    put_head(b, 0, numbers_of(entry_with(s)));
+    put_number(b, HEAD, 0);
 }

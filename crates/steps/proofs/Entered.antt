@@ -15,8 +15,9 @@ use Rattle.index.specs.Table.{place_length, places_row, table_from}
 use Rattle.index.specs.declared.Cut.{Cut}
 use Rattle.state.specs.declared.Unit.{Unit}
 use Rattle.motions.specs.Parts.{laid_blocks, moved_length, object_blocks}
+use Rattle.std.specs.Prelude.{Ok}
 use Rattle.commands.specs.Ends.{still}
-use Rattle.commands.specs.declared.plans.Answer.TheVariants as answer
+use Rattle.commands.specs.declared.plans.Done.TheVariants as answer
 use Rattle.commands.specs.declared.plans.Plan.{Plan}
 use Rattle.storing.specs.Stored.{StoredPlan, laid_object, laid_objects, laid_on, memory_after, message_on, moved_on, reel_after}
 use Rattle.touched.specs.Touches.{none}
@@ -66,7 +67,7 @@ module _ (c : Core) where
 
   -- a host store that 5 does not refuse
   module _ (place : ℕ) (bytes : List ℕ) (right : store_wrong (length c.memory) place (length bytes) ≡ false) where
-    pub store_answer : (stored c place bytes).answer ≡ answer.Done false
+    pub store_answer : (stored c place bytes).answer ≡ Ok (answer.Step false)
     unfolding stored
     store_answer = rw right
 

@@ -1,9 +1,9 @@
 -- What each way out of a mount leaves is what the definitions say: its outcome, and its table.
-use mathlib.Core.Path.{◌≡◌, sym, ap, ◌∙◌}
+use mathlib.Core.Path.{◌≡◌, refl}
 use mathlib.Core.Bool.{Bool}
 use mathlib.Core.List.{List}
 use Prim.Native.Nat.{ℕ, ◌≤◌, ◌<◌}
-use borrow.Author.Tests.{eq-eqb, le-ltb, lt-ltb, ne_eqb}
+use borrow.Author.Tests.{le-ltb, lt-ltb}
 use lib.ListN.{length}
 use lib.Seq.{sets}
 use Rattle.lists.specs.Words.{Bytes}
@@ -13,61 +13,59 @@ use Rattle.tape.specs.Objects.{Holds, Object}
 use Rattle.tape.proofs.Afresh.{objects_held}
 use Rattle.index.specs.Table.{places_in, table_of}
 use Rattle.state.specs.declared.Unit.{Unit}
-use Rattle.commands.specs.declared.plans.Answer.{Answer}
-use Rattle.commands.specs.declared.plans.Answer.TheVariants as answer
+use Rattle.std.specs.Prelude.{Result, Ok, Err}
+use Rattle.state.specs.declared.refusal.Refusal.{Refusal}
+use Rattle.state.specs.declared.refusal.Refusal.TheVariants as refusal
 use Rattle.unit.specs.Mounts.{mount_call, mount_refusal}
-use Rattle.unit.specs.declared.mounting.Mounted.{Mounted}
 use Rattle.unit.proofs.Accepted.{end_low, mount_whole}
+use Rattle.worlds.specs.Worlds.{Outcome, answer_of, outcome_of}
 use Rattle.worlds.specs.Refusals.{journal_limit}
-use Rattle.worlds.specs.Calls.{mount_on, mounted_by, outcome, session, table_mounted}
+use Rattle.worlds.specs.Calls.{mount_on, mounted_by, session, table_mounted}
 use Rattle.worlds.specs.declared.Session.{Session}
-use Rattle.worlds.specs.declared.Outcome.{Outcome}
-use Rattle.steps.proofs.Outs.{same_outcome}
+
+-- what a mount hands back, whatever session it replaces, and the table that it leaves
+abbrev Mounts : List ℕ → List Object → (Session → Outcome) → Result Session Refusal → List ℕ → Type 0
+Mounts tb os f x tb' = ((old : Session) → outcome_of old x ≡ f old) × (tb' ≡ table_mounted tb os (answer_of x))
 
 -- the table of a whole reel's objects os, with places for n of them in k: refusal 11, or filled
-module _ (old : Session) (tb : List ℕ) (journal : ℕ) (os : List Object) (u : Unit) (i : Bool) where
-  abbrev pub Tabled : Outcome → List ℕ → Type 0
-  Tabled o tb' = (o ≡ mounted_by old (length tb) journal os u (answer.Done i)) × (tb' ≡ table_mounted tb os o.answer)
+module _ (tb : List ℕ) (journal : ℕ) (os : List Object) (u : Unit) where
+  abbrev pub Tabled : Result Session Refusal → List ℕ → Type 0
+  Tabled x tb' = Mounts tb os (λ old. mounted_by old (length tb) journal os (Ok u)) x tb'
 
   module _ (n k : ℕ) (dn : n ≡ length os) (dk : k ≡ places_in (length tb)) where
-    pub table_lacks : (o : Outcome) → k < n → o.answer ≡ answer.Refused 11 → o.session ≡ old → Tabled o tb
+    pub table_lacks : k < n → Tabled (Err refusal.Table) tb
     unfolding mounted_by table_mounted
-    table_lacks o h p q = (rw (← dn, ← dk, lt-ltb k n h) (same_outcome (answer.Refused 11) old o p q), rw p)
+    table_lacks h = (λ old. rw (← dn, ← dk, lt-ltb k n h), refl)
 
-    pub table_filled : (tb' : List ℕ) → n ≤ k → tb' ≡ sets tb 0 (table_of os) → Tabled (outcome (answer.Done i) (session u n 0 journal)) tb'
+    pub table_filled : (tb' : List ℕ) → n ≤ k → tb' ≡ sets tb 0 (table_of os) → Tabled (Ok (session u n 0 journal)) tb'
     unfolding mounted_by table_mounted
-    table_filled tb' h e = (rw (← dn, ← dk, le-ltb k n h), e)
+    table_filled tb' h e = (λ old. rw (← dn, ← dk, le-ltb k n h), e)
 
--- a mount, of which n is the refusal among 2 and 3
-module _ (old : Session) (memory : ℕ) (r tb : List ℕ) (journal e : ℕ) (online locked : Bool) (n : ℕ) (dn : n ≡ mount_refusal memory (length r) e) where
-  abbrev pub Mounts : Outcome → List ℕ → Type 0
-  Mounts o tb' = (o ≡ mount_on old memory r (length tb) journal e online locked) × (tb' ≡ table_mounted tb (objects_in r e) o.answer)
+module _ (memory : ℕ) (r tb : List ℕ) (journal e : ℕ) (online locked : Bool) where
+  abbrev pub MountsAll : Result Session Refusal → List ℕ → Type 0
+  MountsAll x tb' = Mounts tb (objects_in r e) (λ old. mount_on old memory r (length tb) journal e online locked) x tb'
 
-  pub mount_stops : (o : Outcome) → (n ≡ 0 → ⊥) → o.answer ≡ answer.Refused n → o.session ≡ old → Mounts o tb
+  -- 2 or 3
+  pub mount_stops : (n : Refusal) → mount_refusal memory (length r) e ≡ Err n → MountsAll (Err n) tb
   unfolding mount_on table_mounted
-  mount_stops o h p q = (rw (← dn, ne_eqb n 0 h) (same_outcome (answer.Refused n) old o p q), rw p)
+  mount_stops n h = (λ old. rw h, refl)
 
-  pub mount_long : (o : Outcome) → n ≡ 0 → journal_limit < journal → o.answer ≡ answer.Refused 4 → o.session ≡ old → Mounts o tb
-  unfolding mount_on table_mounted
-  mount_long o h l p q = (rw (← dn, eq-eqb n 0 h, lt-ltb journal_limit journal l) (same_outcome (answer.Refused 4) old o p q), rw p)
+  module _ (h : mount_refusal memory (length r) e ≡ Ok tt) where
+    pub mount_long : journal_limit < journal → MountsAll (Err refusal.Journal) tb
+    unfolding mount_on table_mounted
+    mount_long l = (λ old. rw (h, lt-ltb journal_limit journal l), refl)
 
-  -- past them, by the answer a of the unit's mount x
-  module _ (h : n ≡ 0) (l : journal ≤ journal_limit) (x : Mounted) (dx : x ≡ mount_call old.unit memory r e online locked) where
-    by_answer : (a : Answer) (o : Outcome) → x.answer ≡ a → o ≡ mounted_by old (length tb) journal (objects_in r e) x.unit a → o ≡ mount_on old memory r (length tb) journal e online locked
-    unfolding mount_on
-    by_answer a o t q = rw (← dn, eq-eqb n 0 h, le-ltb journal_limit journal l, ← dx, t) q
+    -- past them, by what the unit's mount comes to
+    module _ (l : journal ≤ journal_limit) where
+      pub mount_rests : (n : Refusal) → mount_call memory r e online locked ≡ Err n → MountsAll (Err n) tb
+      unfolding mount_on mounted_by table_mounted
+      mount_rests n t = (λ old. rw (h, le-ltb journal_limit journal l, t), refl)
 
-    -- 7: nothing changes
-    pub mount_rests : (a : Answer) → x.answer ≡ a → mounted_by old (length tb) journal (objects_in r e) x.unit a ≡ outcome a old → table_mounted tb (objects_in r e) a ≡ tb → Mounts (outcome x.answer old) tb
-    mount_rests a t p q =
-        (by_answer a (outcome x.answer old) t (ap (λ (b : Answer). outcome b old) t ∙ sym p), sym (ap (table_mounted tb (objects_in r e)) t ∙ q))
+      module _ (u : Unit) (t : mount_call memory r e online locked ≡ Ok u) where
+        pub mount_tables : (x : Result Session Refusal) (tb' : List ℕ) → Tabled tb journal (objects_in r e) u x tb' → MountsAll x tb'
+        unfolding mount_on
+        mount_tables x tb' p = (λ old. rw (h, le-ltb journal_limit journal l, t) (p.0 old), p.1)
 
-    pub mount_tables : (i : Bool) (o : Outcome) (tb' : List ℕ) → x.answer ≡ answer.Done i → Tabled old tb journal (objects_in r e) x.unit i o tb' → Mounts o tb'
-    mount_tables i o tb' t p = (by_answer (answer.Done i) o t p.0, p.1)
-
-    -- a mount that is done has found its reel whole
-    pub mount_holds : (i : Bool) → Bytes r → x.answer ≡ answer.Done i → Holds r e (objects_in r e) × (e ≤ capacity_limit)
-    mount_holds i b t =
-        let right : mount_refusal memory (length r) e ≡ 0 = sym dn ∙ h in
-        let whole = mount_whole old.unit memory r e online locked right i (ap (λ (y : Mounted). y.answer) (sym dx) ∙ t) in
-        (objects_held b whole, end_low memory (length r) e right)
+        -- a mount that is done has found its reel whole
+        pub mount_holds : Bytes r → Holds r e (objects_in r e) × (e ≤ capacity_limit)
+        mount_holds b = (objects_held b (mount_whole memory r e online locked u h t), end_low memory (length r) e h)

@@ -1,5 +1,5 @@
 -- Where the checks let pass, what a step touches lies inside memory and reel, and what an advance planned can be carried out.
-use mathlib.Core.Path.{◌≡◌, sym, ap, subst, ◌∙◌}
+use mathlib.Core.Path.{◌≡◌, sym, subst, ◌∙◌}
 use mathlib.Core.Bool.{Bool, false}
 use mathlib.Core.List.{List}
 use Prim.Native.Nat.{ℕ, ◌+◌, ◌*◌, ◌≤◌}
@@ -11,8 +11,7 @@ use Rattle.state.proofs.Tests.{neither}
 use Rattle.index.specs.Table.{place_length, places_limit}
 use Rattle.index.specs.declared.Cut.{Cut}
 use Rattle.motions.specs.declared.parts.Laid.{Laid}
-use Rattle.commands.specs.Answers.{is_step}
-use Rattle.commands.specs.declared.plans.Answer.TheVariants as answer
+use Rattle.std.specs.Prelude.{Ok}
 use Rattle.commands.specs.declared.plans.Plan.{Plan}
 use Rattle.storing.specs.Stored.{Storable}
 use Rattle.advance.specs.Steps.{advanced}
@@ -41,23 +40,20 @@ module _ (s : Session) (m r : List ℕ) (journal : ℕ) (k : Unrefused s (length
   store_in place bytes t h i =
       subst (λ (x : Touched). TouchedIn x (length m) (length r)) (sym h) (host_in m r place bytes sound_sizes i)
 
-pub advance_ready : (s : Session) (p : Plan) (m r : List ℕ) (journal n : ℕ) → n ≡ checked s (length m) (length r) journal → n ≡ 0 → p ≡ advanced s.unit m r → (i : Bool) → p.answer ≡ answer.Done i → Ready s p (length m) (length r) journal
-unfolding is_step
-advance_ready s p m r journal n e f q i d =
-    let right = sym e ∙ f in
+pub advance_ready : (s : Session) (p : Plan) (m r : List ℕ) (journal : ℕ) → checked s (length m) (length r) journal ≡ Ok tt → p ≡ advanced s.unit m r → Ready s p (length m) (length r) journal
+advance_ready s p m r journal right q =
     let a = core_accepted (world_of 0 s m r m m) journal (passed s (length m) (length r) journal right) in
     record {
       sound = record { right = right };
       storable = subst (λ (x : Plan). Storable x (length m) (length r)) (sym q) (advanced_fits (world_of 0 s m r m m).core a);
-      done = ap is_step d;
     }
 
-pub host_ready : (s : Session) (memory reel journal place n k : ℕ) (t : Bool) → k ≡ checked s memory reel journal → k ≡ 0 → t ≡ store_wrong memory place n → t ≡ false → HostReady s memory reel journal place n
+pub host_ready : (s : Session) (memory reel journal place n : ℕ) (t : Bool) → checked s memory reel journal ≡ Ok tt → t ≡ store_wrong memory place n → t ≡ false → HostReady s memory reel journal place n
 unfolding store_wrong
-host_ready s memory reel journal place n k t e f dt h =
+host_ready s memory reel journal place n t e dt h =
     let q = neither (ltb host_limit n) (ltb memory (place + n)) (sym dt ∙ h) in
     record {
-      sound = record { right = sym e ∙ f };
+      sound = record { right = e };
       short = ltb-false host_limit n q.0;
       inside = ltb-false memory (place + n) q.1;
     }

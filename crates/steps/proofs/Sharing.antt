@@ -9,8 +9,10 @@ use borrow.Author.Tests.{not-false, not-true}
 use lib.ListN.{length}
 use lib.Seq.{sets}
 use Rattle.state.specs.declared.Lengths.{Lengths}
+use Rattle.std.specs.Prelude.{Ok, Err}
+use Rattle.state.specs.declared.refusal.Refusal.TheVariants as refusal
 use Rattle.commands.specs.Answers.{is_step}
-use Rattle.commands.specs.declared.plans.Answer.TheVariants as answer
+use Rattle.commands.specs.declared.plans.Done.TheVariants as answer
 use Rattle.touched.specs.Touches.{PlacesIn, Restored, Sizes}
 use Rattle.touched.specs.declared.Touched.{Touched}
 use Rattle.unit.specs.Cores.{Core}
@@ -24,23 +26,17 @@ use Rattle.entries.proofs.Joined.{run_whole}
 use Rattle.entries.proofs.Used.{newest_inside, used_less}
 use Rattle.worlds.specs.Worlds.{Leaves}
 use Rattle.worlds.specs.Calls.{outcome, taken_as, without}
-use Rattle.worlds.specs.Coupled.{undo_none, undo_none_by, undone_none, world_of_none}
+use Rattle.worlds.specs.Coupled.{shared_outcome, undo_none, undo_none_by, undone_none, world_of_none}
 use Rattle.worlds.specs.Rows.{coupler_checked, no_transport, session_over}
 use Rattle.worlds.specs.declared.Coupler.{Coupler}
-use Rattle.worlds.specs.declared.Outcome.{Outcome}
 use Rattle.worlds.specs.declared.Session.{Session}
-use Rattle.worlds.specs.declared.Shared.{Shared}
 use Rattle.worlds.specs.declared.Transport.{Transport}
 use Rattle.worlds.proofs.Coupling.{coupler_passed}
 use Rattle.steps.specs.Readiness.{NoneUndoable, StoreReady}
 use Rattle.steps.proofs.Outs.{left_alone, taken_goes, taken_stops}
 use Rattle.steps.proofs.Entered.{store_after, store_entry, store_right}
 
--- what a call of no transport hands back, as an outcome in the world of none
-abbrev pub handed : Shared → Outcome
-handed r = outcome r.answer (session_over r.coupler no_transport)
-
-pub none_sizes : (c : Coupler) (memory journal : ℕ) → coupler_checked c memory journal ≡ 0 → Sizes memory 0
+pub none_sizes : (c : Coupler) (memory journal : ℕ) → coupler_checked c memory journal ≡ Ok tt → Sizes memory 0
 none_sizes c memory journal h =
     let p = coupler_passed c memory journal h in
     record { even = rw p.memory_is p.even; even_reel = refl; memory_small = omega (arith, p.memory_is, p.memory_most); reel_small = omega arith }
@@ -69,11 +65,10 @@ module _ (c : Coupler) (m j : List ℕ) (place : ℕ) (bytes : List ℕ) (k : St
   unfolding too_small
   none_small = refl
 
-  pub store_full : (r : Shared) → c.journal - c.used < n → r.answer ≡ answer.Refused 9 → r.coupler ≡ c → Leaves (taken_as (world_of_none c m j) step (answer.Done false)) j (handed r) m [] [] j
-  store_full r h p q =
+  pub store_full : c.journal - c.used < n → Leaves (taken_as (world_of_none c m j) step (Ok (answer.Step false))) j (shared_outcome c (Err refusal.Room)) m [] [] j
+  store_full h =
       let t : Touched = host_touched place (length bytes) in
-      taken_stops transports (session_over c no_transport) m [] [] j step (entry_on t) n 0 (store_entry core place bytes right transports t refl) (long t refl) no_objects none_small (answer.Done false) (handed r) h p
-      (ap (λ (d : Coupler). session_over d no_transport) q)
+      taken_stops transports (session_over c no_transport) m [] [] j step (entry_on t) n 0 (store_entry core place bytes right transports t refl) (long t refl) no_objects none_small (Ok (answer.Step false)) (shared_outcome c (Err refusal.Room)) h refl refl
 
   -- what the entry needs, and that it fits the lent journal
   pub store_room : n ≤ c.journal - c.used → c.used + entry_bare + length bytes ≤ length j
@@ -86,13 +81,13 @@ module _ (c : Coupler) (m j : List ℕ) (place : ℕ) (bytes : List ℕ) (k : St
     pub store_goes : (x : Touched) (m' j' : List ℕ) → x ≡ host_touched place (length bytes) → n ≤ c.journal - c.used
         → j' ≡ sets j c.used (entry_bytes (record { unit = s.unit; objects = s.objects; touched = x; transport = transports }) m [] [])
         → m' ≡ sets m place bytes
-        → Leaves (taken_as (world_of_none c m j) step (answer.Done false)) j (outcome (answer.Done false) (session_over (record { used = c.used + n; memory = c.memory; journal = c.journal }) no_transport)) m' [] [] j'
+        → Leaves (taken_as (world_of_none c m j) step (Ok (answer.Step false))) j (outcome (Ok (answer.Step false)) (session_over (record { used = c.used + n; memory = c.memory; journal = c.journal }) no_transport)) m' [] [] j'
     unfolding is_step
     store_goes x m' j' dx h pj pm =
         let same : s ≡ session_over c no_transport = ds ∙ ap (session_over c) dt in
         let entered : j' ≡ sets j c.used (entry_bytes (entry_on x) m [] []) = pj ∙ ap (λ (y : Session). sets j c.used (entry_bytes (record { unit = y.unit; objects = y.objects; touched = x; transport = transports }) m [] [])) same in
         let whole = long x dx in
-        taken_goes transports (session_over c no_transport) m [] [] j step (entry_on x) n 0 (store_entry core place bytes right transports x dx) whole no_objects none_small (answer.Done false) core.unit m' [] [] j' refl h
+        taken_goes transports (session_over c no_transport) m [] [] j step (entry_on x) n 0 (store_entry core place bytes right transports x dx) whole no_objects none_small (Ok (answer.Step false)) core.unit m' [] [] j' refl h
         (omega (arith, whole, dn, store_room h))
         entered
         (store_after core place bytes right m' pm)
@@ -111,14 +106,14 @@ module _ (c : Coupler) (m j : List ℕ) (k : NoneUndoable c (length m) (length j
       let top = (none_fits t).filled in
       rw de (newest_inside 0 0 (used_in c.used j) (rw de at top) (omega arith))
 
-  pub none_stops : (r : Shared) → not f ≡ true → r.answer ≡ answer.Refused 8 → r.coupler ≡ c → Leaves (undo_none (world_of_none c m j)) j (handed r) m [] [] j
+  pub none_stops : not f ≡ true → Leaves (undo_none (world_of_none c m j)) j (shared_outcome c (Err refusal.Entry)) m [] [] j
   unfolding undo_none undo_none_by
-  none_stops r t p q =
+  none_stops t =
       rw (← de, ← df, not-true f t)
-      (left_alone transports (session_over c no_transport) m [] [] j (answer.Refused 8) (handed r) p (ap (λ (d : Coupler). session_over d no_transport) q))
+      (left_alone transports (session_over c no_transport) m [] [] j (Err refusal.Entry) (shared_outcome c (Err refusal.Entry)) refl refl)
 
   pub none_goes : (n : ℕ) (m' r tb r' tb' : List ℕ) → not f ≡ false → n ≡ entry_length e → Restored e.touched (saved_in e (used_in c.used j)) m r tb m' r' tb'
-      → Leaves (undo_none (world_of_none c m j)) j (outcome (answer.Done false) (session_over (record { used = c.used - n; memory = c.memory; journal = c.journal }) no_transport)) m' [] [] j
+      → Leaves (undo_none (world_of_none c m j)) j (outcome (Ok (answer.Step false)) (session_over (record { used = c.used - n; memory = c.memory; journal = c.journal }) no_transport)) m' [] [] j
   unfolding undo_none undo_none_by undone_none without
   none_goes n m' r tb r' tb' t dn b =
       let less : used_in (c.used - n) (used_in c.used j) ≡ used_in (c.used - n) j = used_less (c.used - n) c.used j (omega arith) in

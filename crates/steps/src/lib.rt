@@ -6,5 +6,5 @@ mod shared;
 mod steps;
 
 pub use mounts::mount_table;
-pub use shared::{refused_shared, store_step, undo_none};
-pub use steps::{change, change_refusal, host_step, refused, step, undo};
+pub use shared::{store_step, undo_none};
+pub use steps::{change, check_change, host_step, step, undo};

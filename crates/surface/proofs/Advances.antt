@@ -5,14 +5,18 @@ use mathlib.Core.Path.{◌≡◌, refl, sym, ap, subst, ◌∙◌}
 use Prim.Native.Nat.{ℕ, ◌/◌, ◌<◌, ◌≤◌}
 use native.Mathlib.Omega.{arith}
 use lib.ListN.{length}
+use Rattle.std.specs.Prelude.{Ok, Err}
 use Rattle.lists.specs.Words.{Bytes}
 use Rattle.lists.proofs.Cases.{by_test}
 use Rattle.tape.specs.Letters.{letter_of}
 use Rattle.tape.specs.Numbers.{block_bytes}
 use Rattle.tape.specs.declared.BlockFault.{BlockFault}
+use Rattle.state.specs.declared.refusal.Refusal.TheVariants as refusal
+use Rattle.state.specs.Refusals.{block_of, fault_of, refusal_number}
+use Rattle.state.proofs.Behind.{few_block, few_fault, refusal_some}
 use Rattle.commands.specs.Answers.{block_in, fault_in, interrupt_in, is_step, number_of}
-use Rattle.commands.specs.declared.plans.Answer.{Answer}
-use Rattle.commands.specs.declared.plans.Answer.TheVariants as answer
+use Rattle.commands.specs.Answers.{Answer}
+use Rattle.commands.specs.declared.plans.Done.TheVariants as answer
 use Rattle.demands.specs.Faults.{FirstFault}
 use Rattle.unit.specs.Asks.{advance}
 use Rattle.worlds.specs.Worlds.{Answered, World, session_of}
@@ -20,7 +24,7 @@ use Rattle.worlds.specs.Calls.{mount_on, step_on}
 use Rattle.sessions.specs.Advancing.{Comes, FaultAhead, a_step, at_fault, idle, no_place, no_room, refused}
 use Rattle.sessions.specs.Calling.{Call, on_call, step}
 use Rattle.sessions.specs.Rules.{Obeys}
-use Rattle.sessions.proofs.Advances.{advance_comes, checked_few, mount_names}
+use Rattle.sessions.proofs.Advances.{Few, advance_comes, checked_few, mount_names}
 use Rattle.stateblock.specs.Block.{Block, is_block, session_in, state_length}
 use Rattle.ts11.specs.Given.{Host, Mounts, Tells, opened, world_in}
 use Rattle.surface.specs.Hosting.{HostComes, Returned, given}
@@ -69,11 +73,11 @@ module _ (h : Host) (long : length h.block ≡ state_length) (bytes : Bytes h.bl
     numbered e = g.gives.answer ∙ ap number_of e
 
     comes_as : Comes (length h.journal) (world_in h) does → Here
-    unfolding is_step number_of block_in fault_in interrupt_in on_call
-    comes_as (refused n e) =
+    unfolding is_step number_of block_in fault_in interrupt_in on_call refusal_number block_of fault_of
+    comes_as (refused {r} c e) =
         let y = reads_as e in
-        let few = checked_few (session_of (world_in h)) (length h.memory) (length h.reel) (length h.journal) in
-        refused_first (λ z. n (sym (numbered y) ∙ z)) (subst (λ (k : ℕ). k ≤ 4) (sym (numbered y)) few) (numbered y) (nothing y refl).0 (unsaid y) (blocked y) (faulted y) (nothing y refl).1
+        let few : Few (Err r) = subst Few c (checked_few (session_of (world_in h)) (length h.memory) (length h.reel) (length h.journal)) in
+        refused_first (λ z. refusal_some r (sym (numbered y) ∙ z)) (subst (λ (k : ℕ). k ≤ 4) (sym (numbered y)) few) c (numbered y) (nothing y refl).0 (unsaid y) (blocked y ∙ few_block r few) (faulted y ∙ few_fault r few) (nothing y refl).1
     comes_as (idle c i e) = let y = reads_as e in host-idle i (numbered y) (nothing y refl).0 (unsaid y) (blocked y) (faulted y) (nothing y refl).1
     comes_as (at_fault c busy f e) =
         let y = reads_as e in
@@ -81,23 +85,23 @@ module _ (h : Host) (long : length h.block ≡ state_length) (bytes : Bytes h.bl
     comes_as (no_place c busy ends f e) = let y = reads_as e in host-crowded busy ends f (numbered y) (nothing y refl).0 (unsaid y) (blocked y) (faulted y) (nothing y refl).1
     comes_as (no_room c busy ends places f e) = let y = reads_as e in host-full busy ends places f (numbered y) (nothing y refl).0 (unsaid y) (blocked y) (faulted y) (nothing y refl).1
     comes_as (a_step {i} c busy places room e o) =
-        let y : (given call h).answer ≡ answer.Done i = ap (λ (x : Answered). x.answer) is ∙ e in
+        let y : (given call h).answer ≡ Ok (answer.Step i) = ap (λ (x : Answered). x.answer) is ∙ e in
         let after = subst (λ (w : World). Obeys (world_in h).core i w.core) (sym (runs_as call h b g).1) o in
         host-step busy places room (numbered y) (t.stepped ∙ ap is_step y) (blocked y) (faulted y) (subst (λ (i : Bool). Obeys (world_in h).core i (world_in h').core) (sym (t.interrupt ∙ ap interrupt_in y)) after)
 
   -- demand 2 of every exported advance
   pub host_comes : Here
-  unfolding given opened is_step number_of block_in fault_in interrupt_in
+  unfolding given opened is_step number_of block_in fault_in interrupt_in refusal_number block_of fault_of
   host_comes =
       by_test (is_block h.block)
       (λ r. comes_as (record { long = long; bytes = bytes; right = r }) (advance_comes (length h.journal) (world_in h)))
-      (λ r. let y : (given call h).answer ≡ answer.Refused 1 = rw r in no_state r (g.gives.answer ∙ ap number_of y) (nothing y refl).0 (unsaid y) (blocked y) (faulted y) (nothing y refl).1)
+      (λ r. let y : (given call h).answer ≡ Err refusal.State = rw r in no_state r (g.gives.answer ∙ ap number_of y) (nothing y refl).0 (unsaid y) (blocked y) (faulted y) (nothing y refl).1)
 
 -- a mount that returns 7 names the first block at fault from block 0 on, and tells what is wrong with it
 pub host_mount_names : {b b' t t' : List ℕ} {number block fault : ℕ} (memory : ℕ) (r : List ℕ) (table journal e : ℕ) (online locked : Bool)
     → Mounts b (mount_on (session_in b) memory r table journal e online locked) t number b' t' block fault → number ≡ 7
     → (why : BlockFault) × (fault ≡ letter_of why) × (block < length r / block_bytes) × FirstFault r e false 0 why block
-unfolding block_in fault_in
+unfolding block_in fault_in block_of fault_of
 host_mount_names {b} memory r table journal e online locked g z =
     let n = mount_names (session_in b) memory r table journal e online locked (sym g.answer ∙ z) in
     let is = g.block ∙ ap block_in n.2 in

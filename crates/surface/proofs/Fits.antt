@@ -3,6 +3,7 @@ use mathlib.Core.Path.{◌≡◌}
 use Prim.Native.Nat.{ℕ, ◌≤◌}
 use native.Mathlib.Omega.{arith}
 use lib.ListN.{length}
+use Rattle.std.specs.Prelude.{Ok}
 use Rattle.index.specs.Table.{places_limit}
 use Rattle.state.specs.Legal.{Legal}
 use Rattle.entries.specs.Numbers.{Small}
@@ -16,7 +17,7 @@ use Rattle.stateblock.specs.Block.{entry_with, session_in}
 use Rattle.ts11.specs.Given.{Host, world_in}
 
 -- a block's world that the checks let pass
-pub fit_in : (h : Host) → checked (session_in h.block) (length h.memory) (length h.reel) (length h.journal) ≡ 0 → Fit (length h.journal) (world_in h)
+pub fit_in : (h : Host) → checked (session_in h.block) (length h.memory) (length h.reel) (length h.journal) ≡ Ok tt → Fit (length h.journal) (world_in h)
 fit_in h sound =
     let s : Session = session_in h.block in
     let p = passed s (length h.memory) (length h.reel) (length h.journal) sound in

@@ -6,7 +6,10 @@ use Prim.Native.Nat.{ℕ, ◌*◌, ◌≤◌}
 use native.Mathlib.Omega.{arith}
 use borrow.Author.Tests.{le-ltb}
 use lib.ListN.{length, length-take}
+use Rattle.std.specs.Prelude.{Ok, Err}
 use Rattle.lists.proofs.Cases.{past}
+use Rattle.std.specs.Prelude.{Option, Some, None}
+use Rattle.std.specs.Option.{is_some, unwrap_or}
 use Rattle.tape.specs.Afresh.{objects_in}
 use Rattle.tape.specs.Objects.{Holds, Object, blocks_of}
 use Rattle.tape.proofs.Afresh.{objects_are}
@@ -14,21 +17,21 @@ use Rattle.tape.proofs.Fronts.{objects_few}
 use Rattle.index.specs.Finding.{HoldsBlock, block_found, file_found}
 use Rattle.index.specs.Finding.{FileBegins}
 use Rattle.index.specs.Table.{place_length, places_in, places_limit, used_places}
-use Rattle.index.specs.declared.Found.{Found}
-use Rattle.index.specs.declared.Found.TheVariants as found
 use Rattle.index.proofs.Cuts.{worked}
 use Rattle.index.proofs.Tables.{Worked, length_table}
 use Rattle.index.proofs.Founds.{block_found_lem, block_holds, file_begins, file_found_lem}
+use Rattle.state.specs.declared.refusal.Refusal.TheVariants as refusal
+use Rattle.state.proofs.Behind.{never}
 use Rattle.commands.specs.Answers.{number_of}
-use Rattle.commands.specs.declared.plans.Answer.TheVariants as answer
-use Rattle.worlds.specs.Calls.{block_on, file_on, find_refusal, finding_of}
+use Rattle.commands.specs.declared.plans.Done.TheVariants as answer
+use Rattle.worlds.specs.Calls.{block_on, file_on, find_refusal}
 use Rattle.worlds.specs.Refusals.{checked, session_wrong}
-use Rattle.worlds.specs.declared.Finding.{Finding}
+use Rattle.worlds.specs.Calls.{Finding}
 use Rattle.worlds.specs.declared.Session.{Session}
 use Rattle.worlds.proofs.Passing.{passed}
 use Rattle.stateblock.specs.Block.{Block, session_in}
 use Rattle.ts11.specs.Given.{Host}
-use Rattle.ts11.specs.Finds.{Finds, block_given, file_given, is_found, place_found}
+use Rattle.ts11.specs.Finds.{Finds, block_given, file_given}
 use Rattle.surface.specs.Hosting.{Begins, GoodHost, Hosted, Line, Locates}
 use Rattle.surface.proofs.Always.{host_good}
 use Rattle.surface.proofs.Hosts.{host_ran}
@@ -37,25 +40,24 @@ pub finds_unique : {x : Finding} {n₁ n₂ i₁ i₂ : ℕ} {f₁ f₂ : Bool} 
 finds_unique p q = (p.answer ∙ sym q.answer, p.found ∙ sym q.found, p.place ∙ sym q.place)
 
 -- a look-up that was not refused, and found y
-abbrev unrefused : Found → Finding
-unrefused y = record { answer = answer.Done false; found = y }
+abbrev unrefused : Option ℕ → Finding
+unrefused y = record { answer = Ok (answer.Step false); found = y }
 
-told_at : (y : Found) → is_found y ≡ true → y ≡ found.At (place_found y)
-unfolding is_found place_found
-told_at (found.At i) t = refl
-told_at found.Nowhere t = absurd (true≢false (sym t))
+told_at : (y : Option ℕ) → is_some y ≡ true → y ≡ Some (unwrap_or y 0)
+told_at (Some i) t = refl
+told_at None t = absurd (true≢false (sym t))
 
 -- what is told of it, if y is place i exactly where P i
-located : (P : ℕ → Type 0) (y : Found) {x : Finding} {number place : ℕ} {told : Bool} → x ≡ unrefused y → ((i : ℕ) → P i → y ≡ found.At i) → ((i : ℕ) → y ≡ found.At i → P i)
+located : (P : ℕ → Type 0) (y : Option ℕ) {x : Finding} {number place : ℕ} {told : Bool} → x ≡ unrefused y → ((i : ℕ) → P i → y ≡ Some i) → ((i : ℕ) → y ≡ Some i → P i)
     → Finds x number told place → Locates P number told place
-unfolding number_of is_found place_found
+unfolding number_of
 located P y is all right g =
-    let f = g.found ∙ ap (λ (z : Finding). is_found z.found) is in
-    let p = g.place ∙ ap (λ (z : Finding). place_found z.found) is in
+    let f = g.found ∙ ap (λ (z : Finding). is_some z.found) is in
+    let p = g.place ∙ ap (λ (z : Finding). unwrap_or z.found 0) is in
     record {
       answered = g.answer ∙ ap (λ (z : Finding). number_of z.answer) is;
-      right = λ t. rw p (right (place_found y) (told_at y (sym f ∙ t)));
-      all = λ i h. (f ∙ ap is_found (all i h), p ∙ ap place_found (all i h));
+      right = λ t. rw p (right (unwrap_or y 0) (told_at y (sym f ∙ t)));
+      all = λ i h. (f ∙ ap is_some (all i h), p ∙ ap (λ (z : Option ℕ). unwrap_or z 0) (all i h));
     }
 
 module _ {h : Host} (k : Block h.block) (g : GoodHost h) where
@@ -82,16 +84,16 @@ module _ {h : Host} (k : Block h.block) (g : GoodHost h) where
       let l = (passed s (length h.memory) (length h.reel) (length h.journal) g.fit.sound).legal in
       omega (arith, afresh.count, objects_few held.allowed, held.ends, l.capacity, l.blocks_most)
 
-  asks_nothing : find_refusal s (length h.table) ≡ 0
+  asks_nothing : find_refusal s (length h.table) ≡ Ok tt
   unfolding find_refusal checked
-  asks_nothing = rw ((past (session_wrong s) 1 _ 0 (λ e. omega arith) g.fit.sound).0, le-ltb (places_in (length h.table)) s.objects (omega (arith, room, few)))
+  asks_nothing = rw ((past (session_wrong s) (Err refusal.State) _ (Ok tt) (never _) g.fit.sound).0, le-ltb (places_in (length h.table)) s.objects (omega (arith, room, few)))
 
   file_is : (f : ℕ) → file_given h.block h.table f ≡ unrefused (file_found h.table s.objects f)
-  unfolding file_given file_on finding_of
+  unfolding file_given file_on
   file_is f = rw (k.right, asks_nothing)
 
   block_is : (b : ℕ) → block_given h.block h.table b ≡ unrefused (block_found h.table s.objects s.unit.tape.end b)
-  unfolding block_given block_on finding_of
+  unfolding block_given block_on
   block_is b = rw (k.right, asks_nothing)
 
   module _ {number place : ℕ} {told : Bool} where

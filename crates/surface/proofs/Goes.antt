@@ -2,9 +2,10 @@
 use mathlib.Core.List.{List}
 use mathlib.Core.Path.{◌≡◌, refl, sym, ap, subst, ◌∙◌}
 use Prim.Native.Nat.{ℕ}
+use Rattle.std.specs.Prelude.{Ok, Err}
 use Rattle.lists.specs.Words.{Bytes}
-use Rattle.commands.specs.declared.plans.Answer.{Answer}
-use Rattle.commands.specs.declared.plans.Answer.TheVariants as answer
+use Rattle.commands.specs.Answers.{Answer}
+use Rattle.commands.specs.declared.plans.Done.TheVariants as answer
 use Rattle.entries.specs.Entries.{used_in}
 use Rattle.entries.specs.Numbers.{Small}
 use Rattle.worlds.specs.declared.Session.{Session}
@@ -25,17 +26,15 @@ opens h x k = rw k.right
 -- the block after an answer: that of the new session after a step, and the same where the session is the same
 pub block_stepped : (b : List ℕ) (a : Answer) (s : Session) → step_kind a ≡ stepped → block_after b a s ≡ state_block s
 unfolding block_after step_kind
-block_stepped b (answer.Done i) s k = refl
-block_stepped b answer.Idle s k = looked_none k
-block_stepped b (answer.Refused n) s k = refused_none k
-block_stepped b (answer.BadBlock why n) s k = refused_none k
+block_stepped b (Ok (answer.Step i)) s k = refl
+block_stepped b (Ok answer.Idle) s k = looked_none k
+block_stepped b (Err n) s k = refused_none k
 
 pub block_same : (b : List ℕ) (a : Answer) → Block b → block_after b a (session_in b) ≡ b
 unfolding block_after
-block_same b (answer.Done i) k = block_own b k
-block_same b answer.Idle k = refl
-block_same b (answer.Refused n) k = refl
-block_same b (answer.BadBlock why n) k = refl
+block_same b (Ok (answer.Step i)) k = block_own b k
+block_same b (Ok answer.Idle) k = refl
+block_same b (Err n) k = refl
 
 -- a call took a step, to a session whose numbers have four bytes, or it left the world w
 pub data Went (w : World) (x : Answered) : Type 0 where

@@ -3,6 +3,7 @@ use mathlib.Core.List.{List, [], ◌∷◌}
 use mathlib.Core.Path.{◌≡◌, refl, sym, ap, ◌∙◌}
 use Prim.Native.Nat.{ℕ}
 use lib.ListN.{length}
+use Rattle.state.specs.Refusals.{refusal_number}
 use Rattle.commands.specs.Answers.{number_of}
 use Rattle.worlds.specs.Worlds.{Answered, World}
 use Rattle.worlds.specs.Calls.{back_on}
@@ -71,7 +72,7 @@ module _ {n : ℕ} {s₀ : Here} {d : List Line} {h : Host} (f : Follows n s₀ 
 
     -- and where no entry stands it is refused with 6
     pub back_empty : f.moment.entries ≡ [] → (k ≡ 6) × AtMoment n f.moment h'
-    unfolding number_of
+    unfolding number_of refusal_number
     back_empty q = back_at _ _ (back_none n fresh f.ran q) refl
 
     unfoldable pub back_by : (es : List Noted) → f.moment.entries ≡ es → Follows n s₀ (back k ∷ d) h'

@@ -4,22 +4,23 @@ use mathlib.Core.List.{List, []}
 use mathlib.Core.Path.{◌≡◌, refl, sym, ap, subst, ◌∙◌}
 use Prim.Native.Nat.{ℕ}
 use native.Mathlib.Omega.{arith}
-use borrow.Author.Tests.{eqb-false}
-use lib.Dec.{eqb, ltb}
+use lib.Dec.{ltb}
 use lib.ListN.{length}
+use Rattle.std.specs.Prelude.{Ok}
 use Rattle.lists.specs.Words.{Bytes}
 use Rattle.lists.proofs.Cases.{by_test}
 use Rattle.tape.specs.Afresh.{objects_in}
 use Rattle.tape.specs.Sweep.{swept_below}
-use Rattle.tape.specs.declared.Swept.{Swept}
-use Rattle.tape.specs.declared.Swept.TheVariants as swept
+use Rattle.tape.specs.Sweep.{Swept}
 use Rattle.index.specs.Table.{places_in}
 use Rattle.state.specs.declared.Unit.{Unit}
+use Rattle.state.specs.Refusals.{refusal_number}
+use Rattle.state.proofs.Behind.{by_check, refusal_some}
 use Rattle.commands.specs.Answers.{number_of}
-use Rattle.commands.specs.declared.plans.Answer.TheVariants as answer
+use Rattle.commands.specs.declared.plans.Done.TheVariants as answer
 use Rattle.unit.specs.Mounts.{mount_call_under, mount_refusal, mount_swept}
 use Rattle.entries.specs.Entries.{used_in}
-use Rattle.worlds.specs.declared.Outcome.{Outcome}
+use Rattle.worlds.specs.Worlds.{Outcome}
 use Rattle.worlds.specs.declared.Session.{Session}
 use Rattle.worlds.specs.Worlds.{session_of}
 use Rattle.worlds.specs.Refusals.{journal_limit}
@@ -33,30 +34,30 @@ use Rattle.stateblock.proofs.Blocks.{block_back, block_is}
 use Rattle.surface.specs.Hosting.{Begins, first, mount_given, table_given}
 use Rattle.surface.proofs.Fits.{small_fit}
 use Rattle.surface.proofs.Goes.{block_stepped}
+use Rattle.std.specs.Prelude.{Ok, Err}
 
 module _ (old : Session) (memory : ℕ) (r : List ℕ) (table journal e : ℕ) (online locked : Bool) where
   -- by what the sweep found
   abbrev by : Unit → Swept → Outcome
-  by new x = mounted_by old table journal (objects_in r e) (mount_swept old.unit new x).unit (mount_swept old.unit new x).answer
+  by new x = mounted_by old table journal (objects_in r e) (mount_swept new x)
 
-  swept_zero : (new : Unit) (x : Swept) → number_of (by new x).answer ≡ 0 → (by new x).answer ≡ answer.Done false
-  unfolding mount_swept mounted_by number_of
-  swept_zero new swept.Whole h =
+  swept_zero : (new : Unit) (x : Swept) → number_of (by new x).answer ≡ 0 → (by new x).answer ≡ Ok (answer.Step false)
+  unfolding mount_swept mounted_by number_of refusal_number
+  swept_zero new (Ok u) h =
       by_test (ltb (places_in table) (length (objects_in r e)))
       (λ t. let z : ◌≡◌ {A = ℕ} 11 0 = rw t at h in absurd (omega arith))
       (λ t. rw t)
-  swept_zero new (swept.Bad why k) h = absurd (omega arith)
+  swept_zero new (Err d) h = absurd (omega arith)
 
   -- of a mount's answers only "done" has the number 0
-  mount_zero : number_of (mount_on old memory r table journal e online locked).answer ≡ 0 → (mount_on old memory r table journal e online locked).answer ≡ answer.Done false
-  unfolding mount_on mount_call_under number_of
+  mount_zero : number_of (mount_on old memory r table journal e online locked).answer ≡ 0 → (mount_on old memory r table journal e online locked).answer ≡ Ok (answer.Step false)
+  unfolding mount_on mount_call_under number_of refusal_number
   mount_zero h =
-      let n : ℕ = mount_refusal memory (length r) e in
-      by_test (eqb n 0)
+      by_check (mount_refusal memory (length r) e)
       (λ t. by_test (ltb journal_limit journal)
       (λ v. let z : ◌≡◌ {A = ℕ} 4 0 = rw (t, v) at h in absurd (omega arith))
       (λ v. rw (t, v) (swept_zero _ (swept_below r e) (rw (t, v) at h))))
-      (λ t. let z : n ≡ 0 = rw t at h in absurd (eqb-false n 0 t z))
+      (λ x t. let z : refusal_number x ≡ 0 = rw t at h in absurd (refusal_some x z))
 
 module _ (h : Host) (e : ℕ) (online locked : Bool) {b' tb' : List ℕ} {k f : ℕ} (all : Bytes h.reel)
     (g : Mounts h.block (mount_given h (length h.memory) (length h.journal) e online locked) (table_given h (length h.memory) (length h.journal) e online locked) 0 b' tb' k f) where
@@ -75,7 +76,7 @@ module _ (h : Host) (e : ℕ) (online locked : Bool) {b' tb' : List ℕ} {k f : 
   abbrev moment : Here
   moment = mount_moment old h.memory h.reel h.table n e online locked
 
-  done : o.answer ≡ answer.Done false
+  done : o.answer ≡ Ok (answer.Step false)
   done = mount_zero old (length h.memory) h.reel (length h.table) n e online locked (sym g.answer)
 
   its_block : b' ≡ state_block o.session

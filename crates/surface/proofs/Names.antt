@@ -5,7 +5,7 @@ use Prim.Native.Nat.{ℕ}
 use Rattle.commands.specs.Answers.{number_of}
 use Rattle.unit.specs.Asks.{Ask, Asked}
 use Rattle.worlds.specs.Calls.{register_on}
-use Rattle.worlds.specs.declared.RegisterRead.{RegisterRead}
+use Rattle.worlds.specs.Calls.{RegisterRead}
 use Rattle.sessions.specs.Calling.{on_call, read_register, step, word_of}
 use Rattle.stateblock.specs.Block.{Block, session_in}
 use Rattle.ts11.specs.Given.{Gives, Host, Reads, opened, register_given, register_of, step_given, world_in}

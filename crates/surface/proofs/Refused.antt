@@ -5,14 +5,16 @@ use mathlib.Core.List.{List}
 use mathlib.Core.Path.{◌≡◌, refl, ap, ◌∙◌}
 use Prim.Native.Nat.{ℕ}
 use lib.ListN.{length}
+use Rattle.std.specs.Prelude.{Ok, Err}
 use Rattle.tape.specs.Afresh.{objects_in}
 use Rattle.tape.specs.Objects.{Object}
 use Rattle.state.proofs.Tests.{either}
+use Rattle.state.specs.declared.refusal.Refusal.TheVariants as refusal
 use Rattle.commands.specs.Answers.{is_step, number_of}
-use Rattle.commands.specs.declared.plans.Answer.{Answer}
-use Rattle.commands.specs.declared.plans.Answer.TheVariants as answer
+use Rattle.commands.specs.Answers.{Answer}
+use Rattle.commands.specs.declared.plans.Done.TheVariants as answer
 use Rattle.worlds.specs.declared.Session.{Session}
-use Rattle.worlds.specs.declared.Outcome.{Outcome}
+use Rattle.worlds.specs.Worlds.{Outcome}
 use Rattle.worlds.specs.Worlds.{Answered, World, session_of}
 use Rattle.worlds.specs.Calls.{back_on, refused_as, table_mounted}
 use Rattle.sessions.specs.Session.{stepped}
@@ -25,37 +27,33 @@ use Rattle.surface.specs.Hosting.{Exported, a_call, a_mount, a_step_back, given,
 
 opened_left : (h : Host) (x : Answered) → Left (world_in h) x → Left (world_in h) (opened h x)
 unfolding opened
-opened_left h x f = either (Left (world_in h)) (is_block h.block) x (refused_as 1 (world_in h)) f (λ g. refl)
+opened_left h x f = either (Left (world_in h)) (is_block h.block) x (refused_as refusal.State (world_in h)) f (λ g. refl)
 
 -- "done" has the number 0
 refused_step : (a : Answer) → (number_of a ≡ 0 → ⊥) → is_step a ≡ false
 unfolding number_of is_step
-refused_step (answer.Done i) h = absurd (h refl)
-refused_step answer.Idle h = refl
-refused_step (answer.Refused n) h = refl
-refused_step (answer.BadBlock why n) h = refl
+refused_step (Ok (answer.Step i)) h = absurd (h refl)
+refused_step (Ok answer.Idle) h = refl
+refused_step (Err n) h = refl
 
 not_step : (a : Answer) → is_step a ≡ false → step_kind a ≡ stepped → ⊥
 unfolding is_step step_kind
-not_step (answer.Done i) h k = true≢false h
-not_step answer.Idle h k = looked_none k
-not_step (answer.Refused n) h k = refused_none k
-not_step (answer.BadBlock why n) h k = refused_none k
+not_step (Ok (answer.Step i)) h k = true≢false h
+not_step (Ok answer.Idle) h k = looked_none k
+not_step (Err n) h k = refused_none k
 
 block_left : (b : List ℕ) (a : Answer) (s : Session) → is_step a ≡ false → block_after b a s ≡ b
 unfolding is_step block_after
-block_left b (answer.Done i) s h = absurd (true≢false h)
-block_left b answer.Idle s h = refl
-block_left b (answer.Refused n) s h = refl
-block_left b (answer.BadBlock why n) s h = refl
+block_left b (Ok (answer.Step i)) s h = absurd (true≢false h)
+block_left b (Ok answer.Idle) s h = refl
+block_left b (Err n) s h = refl
 
 -- "A refused call leaves the table alone": a mount
 table_left : (tb : List ℕ) (os : List Object) (a : Answer) → is_step a ≡ false → table_mounted tb os a ≡ tb
 unfolding is_step table_mounted
-table_left tb os (answer.Done i) h = absurd (true≢false h)
-table_left tb os answer.Idle h = refl
-table_left tb os (answer.Refused n) h = refl
-table_left tb os (answer.BadBlock why n) h = refl
+table_left tb os (Ok (answer.Step i)) h = absurd (true≢false h)
+table_left tb os (Ok answer.Idle) h = refl
+table_left tb os (Err n) h = refl
 
 -- a host is its block and its four buffers
 same_host : {h h' : Host} → h'.block ≡ h.block → h'.memory ≡ h.memory → h'.reel ≡ h.reel → h'.table ≡ h.table → h'.journal ≡ h.journal → h' ≡ h

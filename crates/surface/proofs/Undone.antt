@@ -3,8 +3,9 @@ use mathlib.Core.Bool.{false}
 use mathlib.Core.Path.{◌≡◌, refl, sym, ap, subst, ◌∙◌}
 use Prim.Native.Nat.{ℕ}
 use lib.ListN.{length}
+use Rattle.std.specs.Prelude.{Ok}
 use Rattle.commands.specs.Answers.{number_of}
-use Rattle.commands.specs.declared.plans.Answer.TheVariants as answer
+use Rattle.commands.specs.declared.plans.Done.TheVariants as answer
 use Rattle.worlds.specs.Worlds.{Answered, World, answered}
 use Rattle.worlds.specs.Calls.{back_on}
 use Rattle.sessions.specs.Session.{stepped}
@@ -27,7 +28,7 @@ module _ (c : Call) (h : Host) (k : Block h.block) (t : call_kind c (given c h).
 
   -- a step back from the world that the step left
   module _ {h' h'' : Host} {i : ℕ} (b : Block h'.block) (long : length h'.journal ≡ n) (there : world_in h' ≡ (on_call n c (world_in h)).world) (g : Returned h' (back_given h') i h'') where
-    back_gives : back_given h' ≡ answered (answer.Done false) (world_in h)
+    back_gives : back_given h' ≡ answered (Ok (answer.Step false)) (world_in h)
     back_gives =
         back_is h' b
         ∙ ap (back_on (world_in h')) long
@@ -37,7 +38,7 @@ module _ (c : Call) (h : Host) (k : Block h.block) (t : call_kind c (given c h).
     pub world_undone : (i ≡ 0) × Block h''.block × (world_in h'' ≡ world_in h)
     unfolding number_of step_kind
     world_undone =
-        let brought : Gives h' (answered (answer.Done false) (world_in h)) i h'' = subst (λ (x : Answered). Gives h' x i h'') back_gives g.gives in
+        let brought : Gives h' (answered (Ok (answer.Step false)) (world_in h)) i h'' = subst (λ (x : Answered). Gives h' x i h'') back_gives g.gives in
         let z = leaves b brought g.bytes (went refl (small_in h.block k.bytes) refl) in
         (brought.answer, z.0, z.1)
 

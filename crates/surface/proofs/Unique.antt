@@ -4,8 +4,8 @@ use mathlib.Core.List.{List}
 use mathlib.Core.Path.{◌≡◌, sym, ◌∙◌}
 use Prim.Native.Nat.{ℕ}
 use Rattle.worlds.specs.Worlds.{Answered}
-use Rattle.worlds.specs.declared.Outcome.{Outcome}
-use Rattle.worlds.specs.declared.RegisterRead.{RegisterRead}
+use Rattle.worlds.specs.Worlds.{Outcome}
+use Rattle.worlds.specs.Calls.{RegisterRead}
 use Rattle.ts11.specs.Given.{Gives, Host, Mounts, Reads, Tells}
 use Rattle.surface.specs.Hosting.{Alike}
 

@@ -1,4 +1,5 @@
 -- A host of the exported calls: it holds the state's block and four buffers, and hands them to one call after another.
+use Rattle.std.specs.Prelude.{Err}
 use Rattle.std.specs.Prelude.{List, [], ◌∷◌, map, Bool, true, false, ◌≡◌, ℕ, suc, ◌≤◌, drop, length}
 use Rattle.lists.specs.Words.{Bytes}
 use Rattle.tape.specs.Afresh.{objects_in}
@@ -6,9 +7,11 @@ use Rattle.tape.specs.Letters.{letter_of}
 use Rattle.index.specs.Table.{Indexed}
 use Rattle.tape.specs.declared.BlockFault.{BlockFault}
 use Rattle.entries.specs.Entries.{used_in}
+use Rattle.state.specs.declared.refusal.Refusal.{Refusal}
+use Rattle.state.specs.Refusals.{refusal_number}
 use Rattle.worlds.specs.Worlds.{Answered}
 use Rattle.worlds.specs.Calls.{mount_on, table_mounted}
-use Rattle.worlds.specs.declared.Outcome.{Outcome}
+use Rattle.worlds.specs.Worlds.{Outcome}
 use Rattle.worlds.specs.Passes.{Fit}
 use Rattle.sessions.specs.Session.{Kind, Standing, entry_of, looked, refused, stepped}
 use Rattle.sessions.specs.Calling.{Call, Here, Noted, call_kind, calls, journal_of, length_of, on_call, world_from}
@@ -126,7 +129,7 @@ pub record Entries (h : Host) (n : ℕ) (steps : List (Standing (calls n))) : Ty
 -- fault's letter, 11, 9, or a step
 pub data HostComes (h : Host) (number : ℕ) (steps interrupts : Bool) (block fault : ℕ) (h' : Host) : Type 0 where
   no_state : is_block h.block ≡ false → number ≡ 1 → steps ≡ false → interrupts ≡ false → block ≡ 0 → fault ≡ 0 → h' ≡ h → HostComes h number steps interrupts block fault h'
-  refused_first : (number ≡ 0 → ⊥) → number ≤ 4 → number ≡ checked_with (length h.journal) (world_in h) → steps ≡ false → interrupts ≡ false → block ≡ 0 → fault ≡ 0 → h' ≡ h → HostComes h number steps interrupts block fault h'
+  refused_first : {r : Refusal} → (number ≡ 0 → ⊥) → number ≤ 4 → checked_with (length h.journal) (world_in h) ≡ Err r → number ≡ refusal_number r → steps ≡ false → interrupts ≡ false → block ≡ 0 → fault ≡ 0 → h' ≡ h → HostComes h number steps interrupts block fault h'
   idle : Idle (world_in h).core.unit → number ≡ 0 → steps ≡ false → interrupts ≡ false → block ≡ 0 → fault ≡ 0 → h' ≡ h → HostComes h number steps interrupts block fault h'
   at_fault : {why : BlockFault} → (Idle (world_in h).core.unit → ⊥) → FaultAhead (world_in h).core why block → fault ≡ letter_of why → number ≡ 7 → steps ≡ false → interrupts ≡ false → h' ≡ h → HostComes h number steps interrupts block fault h'
   no_place : (Idle (world_in h).core.unit → ⊥) → Ends (world_in h) → Crowded (world_in h) → number ≡ 11 → steps ≡ false → interrupts ≡ false → block ≡ 0 → fault ≡ 0 → h' ≡ h → HostComes h number steps interrupts block fault h'

@@ -1,5 +1,5 @@
 -- "Proved together, as one table" (01): P1 to P7 of the unit, P8 to P11 of the reel, P12 of the journal.
-use Rattle.std.specs.Prelude.{◌≡◌, Bool, true, false, List, [], ◌∷◌, ℕ, ◌+◌, ◌*◌, ◌%◌, ◌<◌, ◌≤◌, get_or, length}
+use Rattle.std.specs.Prelude.{◌≡◌, Bool, true, false, List, [], ◌∷◌, ℕ, ◌+◌, ◌*◌, ◌%◌, ◌<◌, ◌≤◌, get_or, length, Ok}
 use Rattle.std.proofs.lemmas.List.Edits.{sets}
 use Rattle.lists.specs.Places.{place, placed}
 use Rattle.lists.specs.Words.{word_at}
@@ -26,7 +26,7 @@ use Rattle.worlds.specs.Calls.{entry_for}
 -- "count 10, record 7": a Read of 10 bytes that meets a record of 7, beyond which the position is q
 pub record ShortRead (u : Unit) (s : List ℕ) (p : Packet) (reverse : Bool) (q : ℕ) : Type 0 where
   pub asked : p.count ≡ 10
-  pub met : sought s reverse u.tape.position u.tape.end ≡ sought-as.Record 7 q
+  pub met : sought s reverse u.tape.position u.tape.end ≡ Ok (sought-as.Record 7 q)
 
 -- what a Read next, or previous, is about to do
 abbrev pub read_plan : Unit → List ℕ → Header → Packet → Bool → Plan

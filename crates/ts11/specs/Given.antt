@@ -1,18 +1,16 @@
 -- What an exported call gives: the journal's answer as numbers, and what the host holds after it.
-use Rattle.std.specs.Prelude.{Bool, true, false, List, ◌≡◌, ℕ, length}
+use Rattle.std.specs.Prelude.{Bool, Err, true, false, List, ◌≡◌, ℕ, length}
 use Rattle.lists.specs.Pick.{pick}
 use Rattle.state.specs.declared.act.Act.{Act}
 use Rattle.state.specs.declared.act.Act.TheVariants as act
+use Rattle.state.specs.declared.refusal.Refusal.TheVariants as refusal
 use Rattle.commands.specs.Answers.{block_in, fault_in, interrupt_in, is_step, number_of}
-use Rattle.commands.specs.declared.plans.Answer.TheVariants as answer
 use Rattle.unit.specs.Asks.{Ask}
 use Rattle.unit.specs.declared.registers.Register.{Register}
 use Rattle.unit.specs.declared.registers.Register.TheVariants as register
 use Rattle.entries.specs.Entries.{used_in}
-use Rattle.worlds.specs.Worlds.{Answered, World, session_of, world_of}
-use Rattle.worlds.specs.Calls.{back_on, refused_as, register_on, step_on}
-use Rattle.worlds.specs.declared.Outcome.{Outcome}
-use Rattle.worlds.specs.declared.RegisterRead.{RegisterRead}
+use Rattle.worlds.specs.Worlds.{Answered, Outcome, World, session_of, world_of}
+use Rattle.worlds.specs.Calls.{RegisterRead, back_on, read_of, refused_as, register_on, step_on}
 use Rattle.stateblock.specs.Block.{block_after, is_block, session_in}
 
 -- all that a host holds and hands to a call: the state's block and four buffers
@@ -32,7 +30,7 @@ world_in h = world_of 0 (session_in h.block) h.memory h.reel h.table h.journal
 
 -- bytes that are no session's block are refused with 1, as a state out of range is
 unfoldable pub opened : Host → Answered → Answered
-opened h x = pick (is_block h.block) x (refused_as 1 (world_in h))
+opened h x = pick (is_block h.block) x (refused_as refusal.State (world_in h))
 
 -- a TSDB or TSSR write, operator act, host store or advance
 unfoldable pub step_given : Ask → Host → Answered
@@ -54,8 +52,7 @@ register_of true = register.Tssr
 
 -- "Reading a register gives 0 and its word, or refusal 1 and word 0"
 unfoldable pub register_given : List ℕ → Bool → RegisterRead
-register_given b tssr =
-    pick (is_block b) (register_on (session_in b) (register_of tssr)) (record { answer = answer.Refused 1; word = 0 })
+register_given b tssr = pick (is_block b) (register_on (session_in b) (register_of tssr)) (read_of (Err refusal.State))
 
 -- what a call returns, and what the host h holds after it, is the definition's answer and world
 pub record Gives (h : Host) (x : Answered) (number : ℕ) (h' : Host) : Type 0 where

@@ -1,62 +1,37 @@
 // The exported calls. A buffer is a pointer and a length; buffers do not overlap.
+// Kept: each call looks at its Result itself. Handed on to one function, or behind a `?`, the session is copied, and a TSDB write costs 302 or 410 instructions in place of 219.
+// Kept: their parameters come one by one, as C hands them; journal's and steps' calls are lent them as they come, the table some for reading alone.
 ghost use Rattle.std.specs.Prelude.{◌≡◌, length};
-ghost use Rattle.commands.specs.Answers.{block_in, fault_in, interrupt_in, is_step, number_of};
+ghost use Rattle.state.specs.Refusals.{block_of, fault_of};
 ghost use Rattle.unit.specs.Asks.{Ask};
 ghost use Rattle.tape.specs.Afresh.{objects_in};
 ghost use Rattle.worlds.specs.Calls.{mount_on, table_mounted};
 ghost use Rattle.stateblock.specs.Block.{session_in};
 ghost use Rattle.ts11.specs.Given.{Gives, Mounts, Reads, Tells, act_of, back_given, holding, register_given, register_of, step_given};
 
-use crate::finds::number_in;
-use commands::Answer;
-use state::Act;
+use commands::Done;
+use state::{Act, Refusal};
 use stateblock::{block_right, close, session_in};
 use unit::Register;
 
-// The block at fault, with refusal 7, else 0.
-fn block_in(a: Answer) -> usize
-    ensures { result ≡ block_in a }
+// The block at fault, with refusal 7, else 0; and the letter of what is wrong with it.
+fn block_in(r: Refusal) -> usize
+    ensures { result ≡ block_of r }
 {
-    match a {
-        Answer::BadBlock(_, k) => k,
-        Answer::Refused(_) => 0,
-        Answer::Idle => 0,
-        Answer::Done(_) => 0,
+    if let Refusal::BadBlock(damage) = r {
+        damage.block
+    } else {
+        0
     }
 }
 
-// The letter of what is wrong with it, with refusal 7, else 0.
-fn fault_in(a: Answer) -> u8
-    ensures { result ≡ fault_in a }
+fn fault_in(r: Refusal) -> u8
+    ensures { result ≡ fault_of r }
 {
-    match a {
-        Answer::BadBlock(fault, _) => tape::letter(fault),
-        Answer::Refused(_) => 0,
-        Answer::Idle => 0,
-        Answer::Done(_) => 0,
-    }
-}
-
-// Whether a step was taken.
-fn is_step(a: Answer) -> bool
-    ensures { result ≡ is_step a }
-{
-    match a {
-        Answer::Done(_) => true,
-        Answer::Idle => false,
-        Answer::Refused(_) => false,
-        Answer::BadBlock(_, _) => false,
-    }
-}
-
-fn interrupts(a: Answer) -> bool
-    ensures { result ≡ interrupt_in a }
-{
-    match a {
-        Answer::Done(i) => i,
-        Answer::Idle => false,
-        Answer::Refused(_) => false,
-        Answer::BadBlock(_, _) => false,
+    if let Refusal::BadBlock(damage) = r {
+        tape::letter(damage.fault)
+    } else {
+        0
     }
 }
 
@@ -75,9 +50,9 @@ pub extern "C" fn ts11_mount(
 ) -> usize
     ensures { Mounts state.old (mount_on (session_in state.old) memory_length reel.now (length table.old) journal_length end online locked) (table_mounted table.old (objects_in reel.now end) (mount_on (session_in state.old) memory_length reel.now (length table.old) journal_length end online locked).answer) result state.new table.new block.new fault.new }
 {
-    let session = session_in(state);
-    let o = journal::mount(
-        session,
+    *block = 0;
+    *fault = 0;
+    match journal::mount(
         memory_length,
         reel,
         table,
@@ -85,12 +60,17 @@ pub extern "C" fn ts11_mount(
         end,
         online,
         locked,
-    );
-    let answer = o.answer;
-    *block = block_in(answer);
-    *fault = fault_in(answer);
-    close(state, answer, o.session);
-    number_in(answer)
+    ) {
+        Ok(session) => {
+            close(state, session);
+            0
+        }
+        Err(refusal) => {
+            *block = block_in(refusal);
+            *fault = fault_in(refusal);
+            refusal.number()
+        }
+    }
 }
 
 #[unsafe(no_mangle)]
@@ -105,12 +85,15 @@ pub extern "C" fn ts11_write_tsdb(
     ensures { Gives (holding state.old memory.old reel.old table.now journal.old) (step_given (Ask.write_tsdb word) (holding state.old memory.old reel.old table.now journal.old)) result (holding state.new memory.new reel.new table.now journal.new) }
 {
     if !block_right(state) {
-        return 1;
+        return Refusal::State.number();
     }
-    let o = journal::write_tsdb(session_in(state), 0, memory, reel, table, journal, word);
-    let answer = o.answer;
-    close(state, answer, o.session);
-    number_in(answer)
+    match journal::write_tsdb(session_in(state), 0, memory, reel, table, journal, word) {
+        Ok(session) => {
+            close(state, session);
+            0
+        }
+        Err(refusal) => refusal.number(),
+    }
 }
 
 #[unsafe(no_mangle)]
@@ -125,12 +108,15 @@ pub extern "C" fn ts11_write_tssr(
     ensures { Gives (holding state.old memory.old reel.old table.now journal.old) (step_given Ask.write_tssr (holding state.old memory.old reel.old table.now journal.old)) result (holding state.new memory.new reel.new table.now journal.new) }
 {
     if !block_right(state) {
-        return 1;
+        return Refusal::State.number();
     }
-    let o = journal::write_tssr(session_in(state), 0, memory, reel, table, journal);
-    let answer = o.answer;
-    close(state, answer, o.session);
-    number_in(answer)
+    match journal::write_tssr(session_in(state), 0, memory, reel, table, journal) {
+        Ok(session) => {
+            close(state, session);
+            0
+        }
+        Err(refusal) => refusal.number(),
+    }
 }
 
 fn act_of(write_lock: bool, on: bool) -> Act
@@ -156,9 +142,9 @@ pub extern "C" fn ts11_operate(
     ensures { Gives (holding state.old memory.old reel.old table.now journal.old) (step_given (Ask.operate (act_of write_lock on)) (holding state.old memory.old reel.old table.now journal.old)) result (holding state.new memory.new reel.new table.now journal.new) }
 {
     if !block_right(state) {
-        return 1;
+        return Refusal::State.number();
     }
-    let o = journal::operate(
+    match journal::operate(
         session_in(state),
         0,
         memory,
@@ -166,10 +152,13 @@ pub extern "C" fn ts11_operate(
         table,
         journal,
         act_of(write_lock, on),
-    );
-    let answer = o.answer;
-    close(state, answer, o.session);
-    number_in(answer)
+    ) {
+        Ok(session) => {
+            close(state, session);
+            0
+        }
+        Err(refusal) => refusal.number(),
+    }
 }
 
 fn register_of(tssr: bool) -> Register
@@ -182,15 +171,17 @@ fn register_of(tssr: bool) -> Register
 pub extern "C" fn ts11_read_register(state: &[u8; 128], tssr: bool, word: &mut u16) -> usize
     ensures { Reads (register_given state.now tssr) result word.new }
 {
+    *word = 0;
     if !block_right(state) {
-        *word = 0;
-        return 1;
+        return Refusal::State.number();
     }
-    let session = session_in(state);
-    let r = journal::read_register(session, register_of(tssr));
-    let answer = r.answer;
-    *word = r.word;
-    number_in(answer)
+    match journal::read_register(session_in(state), register_of(tssr)) {
+        Ok(w) => {
+            *word = w;
+            0
+        }
+        Err(refusal) => refusal.number(),
+    }
 }
 
 #[unsafe(no_mangle)]
@@ -206,9 +197,9 @@ pub extern "C" fn ts11_host_store(
     ensures { Gives (holding state.old memory.old reel.now table.now journal.old) (step_given (Ask.host_store place bytes.now) (holding state.old memory.old reel.now table.now journal.old)) result (holding state.new memory.new reel.now table.now journal.new) }
 {
     if !block_right(state) {
-        return 1;
+        return Refusal::State.number();
     }
-    let o = journal::host_store(
+    match journal::host_store(
         session_in(state),
         memory,
         reel,
@@ -216,10 +207,13 @@ pub extern "C" fn ts11_host_store(
         journal,
         place,
         bytes,
-    );
-    let answer = o.answer;
-    close(state, answer, o.session);
-    number_in(answer)
+    ) {
+        Ok(session) => {
+            close(state, session);
+            0
+        }
+        Err(refusal) => refusal.number(),
+    }
 }
 
 #[unsafe(no_mangle)]
@@ -237,22 +231,40 @@ pub extern "C" fn ts11_advance(
     ensures gives { Gives (holding state.old memory.old reel.old table.old journal.old) (step_given Ask.advance (holding state.old memory.old reel.old table.old journal.old)) result (holding state.new memory.new reel.new table.new journal.new) }
     ensures tells { Tells (step_given Ask.advance (holding state.old memory.old reel.old table.old journal.old)) stepped.new interrupt.new block.new fault.new }
 {
+    // Kept: each way out tells all four. Set before the call, a Write costs 18 instructions more, and 512 bytes of it 1.20 of plain C.
     if !block_right(state) {
         *stepped = false;
-        *interrupt = false;
+        *interrupt = false; // bytes of no session
         *block = 0;
         *fault = 0;
-        return 1;
+        return Refusal::State.number();
     }
-    let session = session_in(state);
-    let o = journal::advance(session, 0, memory, reel, table, journal);
-    let answer = o.answer;
-    *stepped = is_step(answer);
-    *interrupt = interrupts(answer);
-    *block = block_in(answer);
-    *fault = fault_in(answer);
-    close(state, answer, o.session);
-    number_in(answer)
+    match journal::advance(session_in(state), 0, memory, reel, table, journal) {
+        Ok(x) => match x.done {
+            Done::Step(interrupts) => {
+                *stepped = true;
+                *interrupt = interrupts;
+                *block = 0;
+                *fault = 0;
+                close(state, x.session);
+                0
+            }
+            Done::Idle => {
+                *stepped = false;
+                *interrupt = false;
+                *block = 0;
+                *fault = 0;
+                0
+            }
+        },
+        Err(refusal) => {
+            *stepped = false;
+            *interrupt = false;
+            *block = block_in(refusal);
+            *fault = fault_in(refusal);
+            refusal.number()
+        }
+    }
 }
 
 #[unsafe(no_mangle)]
@@ -266,10 +278,13 @@ pub extern "C" fn ts11_step_back(
     ensures { Gives (holding state.old memory.old reel.old table.old journal.now) (back_given (holding state.old memory.old reel.old table.old journal.now)) result (holding state.new memory.new reel.new table.new journal.now) }
 {
     if !block_right(state) {
-        return 1;
+        return Refusal::State.number();
     }
-    let o = journal::step_back(session_in(state), memory, reel, table, journal);
-    let answer = o.answer;
-    close(state, answer, o.session);
-    number_in(answer)
+    match journal::step_back(session_in(state), memory, reel, table, journal) {
+        Ok(session) => {
+            close(state, session);
+            0
+        }
+        Err(refusal) => refusal.number(),
+    }
 }

@@ -12,11 +12,15 @@ use Rattle.lists.specs.Pick.{pick}
 use Rattle.lists.proofs.Cases.{past, pick_told}
 use Rattle.tape.specs.Numbers.{block_bytes}
 use Rattle.tape.proofs.Accepted.{clash}
+use Rattle.std.specs.Prelude.{Result, Ok, Err, ⊤}
+use Rattle.state.specs.declared.refusal.Refusal.{Refusal}
+use Rattle.state.specs.declared.refusal.Refusal.TheVariants as refusal
+use Rattle.state.proofs.Behind.{never}
 use Rattle.state.specs.Checks.{memory_limit, memory_right, state_wrong}
 use Rattle.state.proofs.Legal.{legal, memory_fit, right}
 use Rattle.state.proofs.Tests.{neither}
-use Rattle.commands.specs.declared.plans.Answer.{Answer}
-use Rattle.commands.specs.declared.plans.Answer.TheVariants as answer
+use Rattle.commands.specs.Answers.{Answer}
+use Rattle.commands.specs.declared.plans.Done.TheVariants as answer
 use Rattle.touched.specs.Touches.{Sizes, place_below, saved_bytes}
 use Rattle.touched.proofs.PutBack.{memory_put_back}
 use Rattle.unit.specs.Asks.{host_store}
@@ -32,7 +36,8 @@ use Rattle.worlds.specs.Calls.{entry_for, absent_place, noted, taken_as, taken_b
 use Rattle.worlds.specs.Worlds.{Answered, World, answered}
 use Rattle.worlds.specs.Passes.{Passed}
 use Rattle.worlds.specs.Refusals.{checked, journal_limit}
-use Rattle.worlds.specs.Rows.{absent_in, any_of, coupler_checked, coupler_wrong, is_mounted, no_seat, reel_seat_wrong, row_checked, session_over, standing_in, state_seat_wrong, unit_over}
+use Rattle.std.specs.List.{list_any}
+use Rattle.worlds.specs.Rows.{absent_in, coupler_checked, coupler_wrong, is_mounted, no_seat, reel_seat_wrong, row_checked, session_over, standing_in, state_seat_wrong, unit_over}
 use Rattle.worlds.specs.Coupled.{Coupled, Rig, coupler_in, core_of, core_of_none, deck_at, deck_of, lifted, lifted_none, no_deck, told, undo_none, undo_none_by, undone_none, view_of, view_of_none, with_core}
 use Rattle.worlds.specs.declared.Coupler.{Coupler}
 use Rattle.worlds.specs.declared.Seat.{Seat}
@@ -84,7 +89,7 @@ pub record CouplerPassed (c : Coupler) (memory journal : ℕ) : Type 0 where
 
 -- seat k passes as a session of its own
 abbrev pub SeatPassed : Coupler → List Seat → ℕ → ℕ → ℕ → Type 0
-SeatPassed c row memory journal k = checked (session_over c (get_or row k no_seat).transport) memory (get_or row k no_seat).reel journal ≡ 0
+SeatPassed c row memory journal k = checked (session_over c (get_or row k no_seat).transport) memory (get_or row k no_seat).reel journal ≡ Ok tt
 
 -- what a step back knows that 1 to 4 let pass: so does every transport that stands in the row
 pub record RowPassed (c : Coupler) (row : List Seat) (memory journal : ℕ) : Type 0 where
@@ -120,30 +125,28 @@ module _ (c : Coupler) (memory journal : ℕ) where
         le-ltb journal_limit c.journal p.limit,
       )
 
-  pub coupler_passed : coupler_checked c memory journal ≡ 0 → CouplerPassed c memory journal
+  pub coupler_passed : coupler_checked c memory journal ≡ Ok tt → CouplerPassed c memory journal
   unfolding coupler_checked
   coupler_passed h =
-      let fourth : ℕ = pick (not (eqb journal c.journal)) 4 0 in
-      let second : ℕ = pick (not (eqb memory c.memory)) 2 fourth in
-      let p = past (coupler_wrong c) 1 second 0 (λ e. omega arith) h in
-      let q = past (not (eqb memory c.memory)) 2 fourth 0 (λ e. omega arith) p.1 in
-      let r = past (not (eqb journal c.journal)) 4 0 0 (λ e. omega arith) q.1 in
+      let fourth : Result ⊤ Refusal = pick (not (eqb journal c.journal)) (Err refusal.Journal) (Ok tt) in
+      let second : Result ⊤ Refusal = pick (not (eqb memory c.memory)) (Err refusal.Memory) fourth in
+      let p = past (coupler_wrong c) (Err refusal.State) second (Ok tt) (never _) h in
+      let q = past (not (eqb memory c.memory)) (Err refusal.Memory) fourth (Ok tt) (never _) p.1 in
+      let r = past (not (eqb journal c.journal)) (Err refusal.Journal) (Ok tt) (Ok tt) (never _) q.1 in
       shared_right p.0 q.0 r.0
 
-  pub coupler_passes : CouplerPassed c memory journal → coupler_checked c memory journal ≡ 0
+  pub coupler_passes : CouplerPassed c memory journal → coupler_checked c memory journal ≡ Ok tt
   unfolding coupler_checked
   coupler_passes p = rw (shared_passes p, eq-eqb memory c.memory p.memory_is, eq-eqb journal c.journal p.journal_is)
 
 -- what is so of none in the list is not so of the one at k
-none_of : (p : Seat → Bool) (row : List Seat) (k : ℕ) → any_of p row ≡ false → k < length row → p (get_or row k no_seat) ≡ false
-unfolding any_of
+none_of : (p : Seat → Bool) (row : List Seat) (k : ℕ) → list_any p row ≡ false → k < length row → p (get_or row k no_seat) ≡ false
 none_of p [] k h b = absurd (omega arith)
-none_of p (s ∷ row) zero h b = (neither (p s) (any_of p row) h).0
-none_of p (s ∷ row) (suc k) h b = none_of p row k (neither (p s) (any_of p row) h).1 (omega arith)
+none_of p (s ∷ row) zero h b = (neither (p s) (list_any p row) h).0
+none_of p (s ∷ row) (suc k) h b = none_of p row k (neither (p s) (list_any p row) h).1 (omega arith)
 
 -- and back
-of_none : (p : Seat → Bool) (row : List Seat) → ((k : ℕ) → k < length row → p (get_or row k no_seat) ≡ false) → any_of p row ≡ false
-unfolding any_of
+of_none : (p : Seat → Bool) (row : List Seat) → ((k : ℕ) → k < length row → p (get_or row k no_seat) ≡ false) → list_any p row ≡ false
 of_none p [] f = refl
 of_none p (s ∷ row) f = rw (f 0 (omega arith)) (of_none p row (λ k h. f (suc k) (omega arith)))
 
@@ -172,7 +175,7 @@ module _ (row : List Seat) (k : ℕ) where
 module _ (c : Coupler) (row : List Seat) (memory journal : ℕ) where
   -- a mounted seat at which neither 1 nor 3 finds anything is a session that passes
   seat_passes : (s : Seat) → CouplerPassed c memory journal → is_mounted s.transport ≡ true → state_seat_wrong c.memory s ≡ false → reel_seat_wrong s ≡ false
-      → checked (session_over c s.transport) memory s.reel journal ≡ 0
+      → checked (session_over c s.transport) memory s.reel journal ≡ Ok tt
   unfolding state_seat_wrong reel_seat_wrong
   seat_passes s p m f g =
       let whole : Bool = eqb s.reel (block_bytes * s.transport.blocks) in
@@ -189,7 +192,7 @@ module _ (c : Coupler) (row : List Seat) (memory journal : ℕ) where
       })
 
   -- and back, for any seat
-  seat_right : (s : Seat) → (is_mounted s.transport ≡ true → checked (session_over c s.transport) memory s.reel journal ≡ 0) → (state_seat_wrong c.memory s ≡ false) × (reel_seat_wrong s ≡ false)
+  seat_right : (s : Seat) → (is_mounted s.transport ≡ true → checked (session_over c s.transport) memory s.reel journal ≡ Ok tt) → (state_seat_wrong c.memory s ≡ false) × (reel_seat_wrong s ≡ false)
   unfolding state_seat_wrong reel_seat_wrong
   seat_right s f =
       let fact : is_mounted s.transport ≡ true → Passed (session_over c s.transport) memory s.reel journal = λ m. passed (session_over c s.transport) memory s.reel journal (f m) in (
@@ -197,17 +200,17 @@ module _ (c : Coupler) (row : List Seat) (memory journal : ℕ) where
         counts_not (is_mounted s.transport) (not (eqb s.reel (block_bytes * s.transport.blocks))) (λ m. ap not (eq-eqb s.reel (block_bytes * s.transport.blocks) (fact m).reel_is)),
       )
 
-  pub row_passed : row_checked c row memory journal ≡ 0 → RowPassed c row memory journal
+  pub row_passed : row_checked c row memory journal ≡ Ok tt → RowPassed c row memory journal
   unfolding row_checked
   row_passed h =
-      let fourth : ℕ = pick (not (eqb journal c.journal)) 4 0 in
-      let third : ℕ = pick (any_of reel_seat_wrong row) 3 fourth in
-      let second : ℕ = pick (not (eqb memory c.memory)) 2 third in
-      let p = past (coupler_wrong c || any_of (state_seat_wrong c.memory) row) 1 second 0 (λ e. omega arith) h in
-      let q = past (not (eqb memory c.memory)) 2 third 0 (λ e. omega arith) p.1 in
-      let r = past (any_of reel_seat_wrong row) 3 fourth 0 (λ e. omega arith) q.1 in
-      let t = past (not (eqb journal c.journal)) 4 0 0 (λ e. omega arith) r.1 in
-      let n = neither (coupler_wrong c) (any_of (state_seat_wrong c.memory) row) p.0 in
+      let fourth : Result ⊤ Refusal = pick (not (eqb journal c.journal)) (Err refusal.Journal) (Ok tt) in
+      let third : Result ⊤ Refusal = pick (list_any reel_seat_wrong row) (Err refusal.Reel) fourth in
+      let second : Result ⊤ Refusal = pick (not (eqb memory c.memory)) (Err refusal.Memory) third in
+      let p = past (coupler_wrong c || list_any (state_seat_wrong c.memory) row) (Err refusal.State) second (Ok tt) (never _) h in
+      let q = past (not (eqb memory c.memory)) (Err refusal.Memory) third (Ok tt) (never _) p.1 in
+      let r = past (list_any reel_seat_wrong row) (Err refusal.Reel) fourth (Ok tt) (never _) q.1 in
+      let t = past (not (eqb journal c.journal)) (Err refusal.Journal) (Ok tt) (Ok tt) (never _) r.1 in
+      let n = neither (coupler_wrong c) (list_any (state_seat_wrong c.memory) row) p.0 in
       let all = shared_right c memory journal n.0 q.0 t.0 in
       record {
         shared = all;
@@ -217,7 +220,7 @@ module _ (c : Coupler) (row : List Seat) (memory journal : ℕ) where
       }
 
   -- the converse: every seat of the row that is mounted passes, whether it is one of the first four or not
-  pub all_passed : CouplerPassed c memory journal → ((k : ℕ) → k < length row → is_mounted (get_or row k no_seat).transport ≡ true → SeatPassed c row memory journal k) → row_checked c row memory journal ≡ 0
+  pub all_passed : CouplerPassed c memory journal → ((k : ℕ) → k < length row → is_mounted (get_or row k no_seat).transport ≡ true → SeatPassed c row memory journal k) → row_checked c row memory journal ≡ Ok tt
   unfolding row_checked
   all_passed p f =
       let seat : (k : ℕ) → k < length row → (state_seat_wrong c.memory (get_or row k no_seat) ≡ false) × (reel_seat_wrong (get_or row k no_seat) ≡ false) = λ k b. seat_right (get_or row k no_seat) (f k b) in
@@ -230,7 +233,7 @@ module _ (c : Coupler) (row : List Seat) (memory journal : ℕ) where
       )
 
   -- of a row of at most four that is the converse of `row_passed` itself
-  pub row_passes : length row ≤ transports → RowPassed c row memory journal → row_checked c row memory journal ≡ 0
+  pub row_passes : length row ≤ transports → RowPassed c row memory journal → row_checked c row memory journal ≡ Ok tt
   row_passes l p = all_passed p.shared (λ k b m. p.seats k (is_standing row k b (omega arith) m))
 
 -- a host store of bytes that lie inside memory, in the world of none, whose coupler passes: its entry brings memory back, and no state
@@ -242,7 +245,7 @@ module _ (n place : ℕ) (bytes : List ℕ) (v : Coupled) (p : CouplerPassed (co
   abbrev store : Step
   store =
       record {
-        answer = answer.Done false;
+        answer = Ok (answer.Step false);
         touched = host_touched place (length bytes);
         after =
             record {
@@ -310,7 +313,7 @@ module _ (n place : ℕ) (bytes : List ℕ) (v : Coupled) (p : CouplerPassed (co
     core_back =
         rw (memory_put_back (host_touched place (length bytes)) before.core.memory before.core.reel before.core.table store.after.memory before.core.reel before.core.table (host_only before.core.memory before.core.reel place bytes before.core.table))
 
-    stored_undone : length v.ledger.bytes ≡ v.ledger.used → undo_none behind ≡ answered (answer.Done false) before
+    stored_undone : length v.ledger.bytes ≡ v.ledger.used → undo_none behind ≡ answered (Ok (answer.Step false)) before
     unfolding undo_none undo_none_by
     stored_undone whole =
         rw (
@@ -323,11 +326,11 @@ module _ (n place : ℕ) (bytes : List ℕ) (v : Coupled) (p : CouplerPassed (co
 
   -- an answer is either no step, or undone
   abbrev Undone : Bool → Answered → Type 0
-  Undone i y = y.answer ≡ answer.Done i → undo_none y.world ≡ answered (answer.Done false) before
+  Undone i y = y.answer ≡ Ok (answer.Step i) → undo_none y.world ≡ answered (Ok (answer.Step false)) before
 
   -- a host store that is taken is undone. That its entry has room in the journal is what the answer says.
-  pub host_taken_undone : (i : Bool) → length v.ledger.bytes ≡ v.ledger.used → (taken_by before (step_of (host_store place bytes) before.core) (step_of (host_store place bytes) before.core).answer).answer ≡ answer.Done i
-      → undo_none (taken_by before (step_of (host_store place bytes) before.core) (step_of (host_store place bytes) before.core).answer).world ≡ answered (answer.Done false) before
+  pub host_taken_undone : (i : Bool) → length v.ledger.bytes ≡ v.ledger.used → (taken_by before (step_of (host_store place bytes) before.core) (step_of (host_store place bytes) before.core).answer).answer ≡ Ok (answer.Step i)
+      → undo_none (taken_by before (step_of (host_store place bytes) before.core) (step_of (host_store place bytes) before.core).answer).world ≡ answered (Ok (answer.Step false)) before
   unfolding step_of stored store_wrong taken_by taken_as core_of_none
   host_taken_undone i whole =
       let long : Bool = ltb host_limit (length bytes) in

@@ -1,5 +1,4 @@
 -- Laws of the calls' meaning.
 pub mod Coupling
 pub mod Passing
-pub mod Seating
 pub mod Undoing

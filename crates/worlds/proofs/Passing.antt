@@ -3,13 +3,18 @@ use mathlib.Core.Path.{◌≡◌}
 use mathlib.Core.Bool.{◌||◌, not}
 use Prim.Native.Nat.{ℕ, ◌+◌, ◌-◌, ◌*◌, ◌≤◌, ◌<◌}
 use native.Mathlib.Omega.{arith}
-use borrow.Author.Tests.{eq-eqb, eqb-false, eqb-true, le-ltb, ltb-false, not-false}
+use borrow.Author.Tests.{eq-eqb, eqb-true, le-ltb, ltb-false, not-false}
 use lib.Dec.{eqb, ltb}
 use lib.ListN.{length}
 use Rattle.lists.specs.Pick.{pick}
-use Rattle.lists.proofs.Cases.{by_test, past}
+use Rattle.lists.proofs.Cases.{past}
 use Rattle.tape.specs.Numbers.{block_bytes, capacity_limit}
 use Rattle.signals.specs.Numbers.{pointer_limit}
+use Rattle.state.specs.Refusals.{behind}
+use Rattle.std.specs.Prelude.{Result, Ok, Err, ⊤}
+use Rattle.state.specs.declared.refusal.Refusal.{Refusal}
+use Rattle.state.specs.declared.refusal.Refusal.TheVariants as refusal
+use Rattle.state.proofs.Behind.{both_pass, never}
 use Rattle.state.specs.Checks.{refusal_of, state_wrong}
 use Rattle.state.proofs.Legal.{accepted, right}
 use Rattle.state.proofs.Tests.{neither}
@@ -23,22 +28,15 @@ use Rattle.worlds.specs.Passes.{Passed}
 use Rattle.worlds.specs.Refusals.{checked, journal_limit, session_wrong}
 use Rattle.worlds.specs.declared.Session.{Session}
 
--- a number that is handed on where it is not 0
-none_first : (n o : ℕ) → pick (not (eqb n 0)) n o ≡ 0 → (n ≡ 0) × (o ≡ 0)
-none_first n o h =
-    by_test (eqb n 0)
-    (λ t. let q : o ≡ 0 = rw t at h in (eqb-true n 0 t, q))
-    (λ t. let q : n ≡ 0 = rw t at h in absurd (eqb-false n 0 t q))
-
-pub passed : (s : Session) (memory reel journal : ℕ) → checked s memory reel journal ≡ 0 → Passed s memory reel journal
+pub passed : (s : Session) (memory reel journal : ℕ) → checked s memory reel journal ≡ Ok tt → Passed s memory reel journal
 unfolding checked session_wrong
 passed s memory reel journal h =
-    let fourth : ℕ = pick (not (eqb journal s.journal)) 4 0 in
-    let second : ℕ = pick (not (eqb (refusal_of s.unit memory reel) 0)) (refusal_of s.unit memory reel) fourth in
+    let fourth : Result ⊤ Refusal = pick (not (eqb journal s.journal)) (Err refusal.Journal) (Ok tt) in
+    let second : Result ⊤ Refusal = behind (refusal_of s.unit memory reel) (λ r. Err r) fourth in
     let numbers = ltb s.journal s.used || ltb journal_limit s.journal in
-    let p = past (state_wrong s.unit || numbers) 1 second 0 (λ e. omega arith) h in
-    let q = none_first (refusal_of s.unit memory reel) fourth p.1 in
-    let r = past (not (eqb journal s.journal)) 4 0 0 (λ e. omega arith) q.1 in
+    let p = past (state_wrong s.unit || numbers) (Err refusal.State) second (Ok tt) (never _) h in
+    let q = both_pass (refusal_of s.unit memory reel) fourth p.1 in
+    let r = past (not (eqb journal s.journal)) (Err refusal.Journal) (Ok tt) (Ok tt) (never _) q.1 in
     let t = neither (ltb s.journal s.used) (ltb journal_limit s.journal) (neither (state_wrong s.unit) numbers p.0).1 in
     let a = accepted s.unit memory reel q.0 in
     record {
@@ -50,7 +48,7 @@ passed s memory reel journal h =
       limit = ltb-false journal_limit s.journal t.1;
     }
 
-pub let_pass : (s : Session) (memory reel journal : ℕ) → Passed s memory reel journal → checked s memory reel journal ≡ 0
+pub let_pass : (s : Session) (memory reel journal : ℕ) → Passed s memory reel journal → checked s memory reel journal ≡ Ok tt
 unfolding checked session_wrong refusal_of
 let_pass s memory reel journal p =
     rw (

@@ -8,8 +8,10 @@ use borrow.Author.Tests.{ne_eqb, le-ltb}
 use lib.ListN.{length, length-append}
 use Rattle.state.specs.Checks.{state_wrong}
 use Rattle.state.proofs.Legal.{right}
-use Rattle.commands.specs.declared.plans.Answer.{Answer}
-use Rattle.commands.specs.declared.plans.Answer.TheVariants as answer
+use Rattle.std.specs.Prelude.{Ok, Err}
+use Rattle.state.specs.declared.refusal.Refusal.TheVariants as refusal
+use Rattle.commands.specs.Answers.{Answer}
+use Rattle.commands.specs.declared.plans.Done.TheVariants as answer
 use Rattle.touched.specs.Touches.{TouchedIn, place_below, saved_bytes}
 use Rattle.touched.proofs.PutBack.{memory_put_back, reel_put_back, table_put_back}
 use Rattle.unit.specs.Cores.{Core}
@@ -109,7 +111,7 @@ module _ (n : ℕ) (w : World) (x : Step) (fit : Fit n w) (s : Sound w.core x) w
           journal_is = rw (noted_length w.ledger entry w.core) was.journal_is;
         }
 
-    pub passes_after : checked (session_of next) (length x.after.memory) (length x.after.reel) n ≡ 0
+    pub passes_after : checked (session_of next) (length x.after.memory) (length x.after.reel) n ≡ Ok tt
     passes_after = let_pass (session_of next) (length x.after.memory) (length x.after.reel) n next_passes
 
     pub fit_after : Fit n next
@@ -158,11 +160,11 @@ module _ (n : ℕ) (w : World) (x : Step) (fit : Fit n w) (s : Sound w.core x) w
             objects = omega (arith, (enough_before (length w.core.table) w.core.objects x.after.objects large).few);
           }
 
-      undone_by : undo_by next entry ≡ answered (answer.Done false) w
+      undone_by : undo_by next entry ≡ answered (Ok (answer.Step false)) w
       unfolding undo_by entry_for
       undone_by = rw (right_entry, large_back, noted_saved w.ledger entry w.core, core_undone w.number w.core x s, noted_gone w.ledger entry w.core fit.whole)
 
-      pub taken_undone : back_on next n ≡ answered (answer.Done false) w
+      pub taken_undone : back_on next n ≡ answered (Ok (answer.Step false)) w
       unfolding back_on guarded undo_on
       taken_undone =
           rw (
@@ -174,16 +176,16 @@ module _ (n : ℕ) (w : World) (x : Step) (fit : Fit n w) (s : Sound w.core x) w
           )
 
 -- a step refused for the table changes nothing, nor does one refused for room
-pub refused_eleven : (w : World) (x : Step) (a : Answer) → absent_place w.core x ≡ true → taken_as w x a ≡ answered (answer.Refused 11) w
+pub refused_eleven : (w : World) (x : Step) (a : Answer) → absent_place w.core x ≡ true → taken_as w x a ≡ answered (Err refusal.Table) w
 unfolding taken_as
 refused_eleven w x a t = rw t
 
-pub refused_nine : (w : World) (x : Step) (a : Answer) → absent_place w.core x ≡ false → too_full w.ledger (entry_for w.number w.core x) ≡ true → taken_as w x a ≡ answered (answer.Refused 9) w
+pub refused_nine : (w : World) (x : Step) (a : Answer) → absent_place w.core x ≡ false → too_full w.ledger (entry_for w.number w.core x) ≡ true → taken_as w x a ≡ answered (Err refusal.Room) w
 unfolding taken_as
 refused_nine w x a large t = rw (large, t)
 
 -- and one that is taken is undone by the step back
 pub step_back_undoes : (n : ℕ) (w : World) (x : Step) (a : Answer) → Fit n w → Sound w.core x → absent_place w.core x ≡ false → w.ledger.used + entry_length (entry_for w.number w.core x) ≤ w.ledger.length → too_full w.ledger (entry_for w.number w.core x) ≡ false
-    → back_on (taken_as w x a).world n ≡ answered (answer.Done false) w
+    → back_on (taken_as w x a).world n ≡ answered (Ok (answer.Step false)) w
 unfolding taken_as
 step_back_undoes n w x a fit s large room t = rw (large, t) (taken_undone n w x fit s room large)

@@ -1,5 +1,5 @@
 -- What a call knows that refusals 1 to 4 let pass.
-use Rattle.std.specs.Prelude.{◌≡◌, ℕ, ◌*◌, ◌≤◌, length}
+use Rattle.std.specs.Prelude.{Ok, ◌≡◌, ℕ, ◌*◌, ◌≤◌, length}
 use Rattle.tape.specs.Numbers.{block_bytes}
 use Rattle.state.specs.Legal.{Legal}
 use Rattle.entries.specs.Entries.{transports}
@@ -17,6 +17,6 @@ pub record Passed (s : Session) (memory reel journal : ℕ) : Type 0 where
 
 -- a world that refusals 1 to 4 let pass, for a journal of n bytes; its ledger's bytes are as many as are used, and an entry can name it
 pub record Fit (n : ℕ) (w : World) : Type 0 where
-  pub sound : checked (session_of w) (length w.core.memory) (length w.core.reel) n ≡ 0
+  pub sound : checked (session_of w) (length w.core.memory) (length w.core.reel) n ≡ Ok tt
   pub whole : length w.ledger.bytes ≡ w.ledger.used
   pub named : w.number ≤ transports

@@ -1,9 +1,13 @@
 -- A row of transports over one coupler: their records, what they share, and the refusals of calls over them. (02, [9])
-use Rattle.std.specs.Prelude.{Bool, false, ◌&&◌, ◌||◌, not, List, [], ◌∷◌, ℕ, ◌*◌, eqb, leb, ltb, get_or, length, take}
+use Rattle.std.specs.Prelude.{Bool, false, Result, Ok, Err, ⊤, ◌&&◌, ◌||◌, not, List, ℕ, ◌*◌, eqb, leb, ltb, get_or, length}
+use Rattle.std.specs.List.{list_any}
 use Rattle.lists.specs.Pick.{pick}
 use Rattle.tape.specs.Numbers.{block_bytes}
 use Rattle.state.specs.Checks.{memory_right, state_wrong}
 use Rattle.state.specs.declared.Unit.{Unit}
+use Rattle.state.specs.Refusals.{behind}
+use Rattle.state.specs.declared.refusal.Refusal.{Refusal}
+use Rattle.state.specs.declared.refusal.Refusal.TheVariants as refusal
 use Rattle.entries.specs.Entries.{entry_bare, transports}
 use Rattle.worlds.specs.Refusals.{journal_limit}
 use Rattle.worlds.specs.declared.Coupler.{Coupler}
@@ -67,11 +71,11 @@ unfoldable pub coupler_wrong : Coupler → Bool
 coupler_wrong c = not (memory_right c.memory) || (ltb c.journal c.used || ltb journal_limit c.journal)
 
 -- refusals 1, 2 and 4, for lengths in bytes: "Host stores belong to no unit", so no record of the row and no reel is asked
-unfoldable pub coupler_checked : Coupler → ℕ → ℕ → ℕ
+unfoldable pub coupler_checked : Coupler → ℕ → ℕ → Result ⊤ Refusal
 coupler_checked c memory journal =
-    pick (coupler_wrong c) 1
-    (pick (not (eqb memory c.memory)) 2
-    (pick (not (eqb journal c.journal)) 4 0))
+    pick (coupler_wrong c) (Err refusal.State)
+    (pick (not (eqb memory c.memory)) (Err refusal.Memory)
+    (pick (not (eqb journal c.journal)) (Err refusal.Journal) (Ok tt)))
 
 -- a transport that is mounted and whose state 1 refuses, or whose reel is not of the mount's length
 unfoldable pub state_seat_wrong : ℕ → Seat → Bool
@@ -80,22 +84,13 @@ state_seat_wrong memory s = is_mounted s.transport && state_wrong (unit_over mem
 unfoldable pub reel_seat_wrong : Seat → Bool
 reel_seat_wrong s = is_mounted s.transport && not (eqb s.reel (block_bytes * s.transport.blocks))
 
--- it is so of one in the list
-unfoldable pub any_of : (Seat → Bool) → List Seat → Bool
-any_of p [] = false
-any_of p (s ∷ l) = p s || any_of p l
-
--- the first n of four
-abbrev pub row_of : ℕ → Seat → Seat → Seat → Seat → List Seat
-row_of n s0 s1 s2 s3 = take n (s0 ∷ s1 ∷ s2 ∷ s3 ∷ [])
-
 -- refusals 1 to 4 of a step back, which is lent every reel: 1 and 3 for every transport of the row that is mounted
-unfoldable pub row_checked : Coupler → List Seat → ℕ → ℕ → ℕ
+unfoldable pub row_checked : Coupler → List Seat → ℕ → ℕ → Result ⊤ Refusal
 row_checked c row memory journal =
-    pick (coupler_wrong c || any_of (state_seat_wrong c.memory) row) 1
-    (pick (not (eqb memory c.memory)) 2
-    (pick (any_of reel_seat_wrong row) 3
-    (pick (not (eqb journal c.journal)) 4 0)))
+    pick (coupler_wrong c || list_any (state_seat_wrong c.memory) row) (Err refusal.State)
+    (pick (not (eqb memory c.memory)) (Err refusal.Memory)
+    (pick (list_any reel_seat_wrong row) (Err refusal.Reel)
+    (pick (not (eqb journal c.journal)) (Err refusal.Journal) (Ok tt))))
 
 abbrev pub no_seat : Seat
 no_seat = record { transport = no_transport; reel = 0 }
@@ -106,8 +101,8 @@ standing_in row k = not (absent_in (length row) k) && is_mounted (get_or row k n
 
 -- refusals 1 to 4, then 6 and 8 of a step back whose newest entry names k: 8 where the used journal is too short for an entry, or where its transport is not present
 -- or not mounted, so that the entry doesn't fit
-unfoldable pub back_refusal : Coupler → List Seat → ℕ → ℕ → ℕ → ℕ
+unfoldable pub back_refusal : Coupler → List Seat → ℕ → ℕ → ℕ → Result ⊤ Refusal
 back_refusal c row memory journal k =
-    pick (not (eqb (row_checked c row memory journal) 0)) (row_checked c row memory journal)
-    (pick (eqb c.used 0) 6
-    (pick (ltb c.used entry_bare || not (eqb k transports || standing_in row k)) 8 0))
+    behind (row_checked c row memory journal) (λ r. Err r)
+    (pick (eqb c.used 0) (Err refusal.Empty)
+    (pick (ltb c.used entry_bare || not (eqb k transports || standing_in row k)) (Err refusal.Entry) (Ok tt)))

@@ -1,11 +1,13 @@
 -- All that a call can change, in two parts: the core that steps change and steps back bring back, and the ledger of the steps that stand.
-use Rattle.std.specs.Prelude.{false, ◌≡◌, List, ℕ}
+use Rattle.std.specs.Prelude.{false, Result, Ok, Err, ◌≡◌, List, ℕ}
 use Rattle.commands.specs.Answers.{is_step}
-use Rattle.commands.specs.declared.plans.Answer.{Answer}
+use Rattle.commands.specs.Answers.{Answer}
+use Rattle.state.specs.declared.refusal.Refusal.{Refusal}
+use Rattle.commands.specs.declared.plans.Done.TheVariants as answer
 use Rattle.unit.specs.Cores.{Core}
 use Rattle.entries.specs.Entries.{used_in}
 use Rattle.worlds.specs.declared.Session.{Session}
-use Rattle.worlds.specs.declared.Outcome.{Outcome}
+use Rattle.worlds.specs.declared.Stepped.{Stepped}
 
 -- the used journal: how many bytes, of how many at the mount, and which
 pub record Ledger : Type 0 where
@@ -39,6 +41,35 @@ world_of k s m r tb j =
 -- the numbers of a world that a call is handed and hands back
 abbrev pub session_of : World → Session
 session_of w = record { unit = w.core.unit; objects = w.core.objects; used = w.ledger.used; journal = w.ledger.length }
+
+-- an answer, and the session that a call hands back
+pub record Outcome : Type 0 where
+  pub answer : Answer
+  pub session : Session
+
+-- "Each returns its number and changes nothing": of a call that is handed the session s, and is refused, or a step that interrupts nothing
+abbrev pub answer_of : Result Session Refusal → Answer
+answer_of (Ok x) = Ok (answer.Step false)
+answer_of (Err r) = Err r
+
+abbrev pub session_left : Session → Result Session Refusal → Session
+session_left s (Ok x) = x
+session_left s (Err r) = s
+
+abbrev pub outcome_of : Session → Result Session Refusal → Outcome
+outcome_of s x = record { answer = answer_of x; session = session_left s x }
+
+-- and of an advance, which tells what it did
+abbrev pub answer_told : Result Stepped Refusal → Answer
+answer_told (Ok x) = Ok x.done
+answer_told (Err r) = Err r
+
+abbrev pub session_told : Session → Result Stepped Refusal → Session
+session_told s (Ok x) = x.session
+session_told s (Err r) = s
+
+abbrev pub outcome_told : Session → Result Stepped Refusal → Outcome
+outcome_told s x = record { answer = answer_told x; session = session_told s x }
 
 -- what a call that was lent the journal j hands back and leaves in the slices is the definition's answer and world; and where it takes no step,
 -- it leaves every byte of the journal, the unused ones too

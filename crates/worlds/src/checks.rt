@@ -3,6 +3,7 @@ ghost use Rattle.std.specs.Prelude.{◌≡◌};
 ghost use Rattle.worlds.specs.Refusals.{checked, session_wrong};
 
 use crate::{JOURNAL_LIMIT, Session};
+use state::Refusal;
 
 // Refusal 1: the state's own numbers, the used journal and the mounted lengths.
 pub fn session_wrong(s: Session) -> bool
@@ -12,20 +13,16 @@ pub fn session_wrong(s: Session) -> bool
     state::state_wrong(u) | ((s.journal < s.used) | (JOURNAL_LIMIT < s.journal))
 }
 
-// The first of refusals 1 to 4 that holds, or 0. The lengths are in bytes.
-pub fn check(s: Session, memory: usize, reel: usize, journal: usize) -> usize
+// The first of refusals 1 to 4 that holds. The lengths are in bytes.
+pub fn check(s: Session, memory: usize, reel: usize, journal: usize) -> Result<(), Refusal>
     ensures { result ≡ checked s memory reel journal }
 {
     if session_wrong(s) {
-        return 1;
+        return Err(Refusal::State);
     }
-    let u = s.unit;
-    let n = state::refusal(u, memory, reel);
-    if n != 0 {
-        return n;
-    }
+    state::unit_check(s.unit, memory, reel)?;
     if journal != s.journal {
-        return 4;
+        return Err(Refusal::Journal);
     }
-    0
+    Ok(())
 }

@@ -6,8 +6,7 @@ mod checks;
 mod rows;
 
 pub use checks::{check, session_wrong};
-use commands::Answer;
-use index::Found;
+use commands::Done;
 pub use rows::{
     absent, coupler_check, coupler_of, no_transport, row_check, session_over, standing,
     transport_of,
@@ -15,7 +14,7 @@ pub use rows::{
 use state::{Attention, Characteristics, Panel, Registers, Tape, Unit};
 
 // The unit's state, the used places of the table, and the used journal and the mount's journal length, in bytes.
-#[derive(Clone, Copy)]
+#[derive(Clone, Copy, Default)]
 pub struct Session {
     pub unit: Unit,
     pub objects: usize,
@@ -26,7 +25,7 @@ pub struct Session {
 pub const JOURNAL_LIMIT: usize = 16777216;
 
 // A unit's record in the row: its state, the mount's reel length in blocks, and the used places of its table. Memory's length is the coupler's.
-#[derive(Clone, Copy)]
+#[derive(Clone, Copy, Default)]
 pub struct Transport {
     pub tape: Tape,
     pub registers: Registers,
@@ -38,7 +37,7 @@ pub struct Transport {
 }
 
 // What the transports share: the used journal, and the last mount's lengths of memory and journal, in bytes.
-#[derive(Clone, Copy)]
+#[derive(Clone, Copy, Default)]
 pub struct Coupler {
     pub used: usize,
     pub memory: usize,
@@ -52,30 +51,9 @@ pub struct Seat {
     pub reel: usize,
 }
 
-// What a call hands back.
+// What an advance that is not refused hands back. Every other call that is done is a step, or takes one back, and hands back the session alone.
 #[derive(Clone, Copy)]
-pub struct Outcome {
-    pub answer: Answer,
+pub struct Stepped {
+    pub done: Done,
     pub session: Session,
-}
-
-// What a call of no transport hands back.
-#[derive(Clone, Copy)]
-pub struct Shared {
-    pub answer: Answer,
-    pub coupler: Coupler,
-}
-
-// What reading a register hands back.
-#[derive(Clone, Copy)]
-pub struct RegisterRead {
-    pub answer: Answer,
-    pub word: u16,
-}
-
-// What a look-up in the table hands back.
-#[derive(Clone, Copy)]
-pub struct Finding {
-    pub answer: Answer,
-    pub found: Found,
 }

@@ -1,10 +1,11 @@
 // A row of transports over one coupler: a record taken out of it as a session and put back, and the refusals that a call over the row makes first.
 ghost use Rattle.std.specs.Prelude.{◌≡◌};
-ghost use Rattle.worlds.specs.Rows.{absent_in, coupler_checked, coupler_of, coupler_wrong, no_transport, reel_seat_wrong, row_checked, row_of, session_over, state_seat_wrong, standing_in, transport_of, unit_over};
+ghost use Rattle.std.specs.List.{list_any};
+ghost use Rattle.worlds.specs.Rows.{absent_in, coupler_checked, coupler_of, coupler_wrong, no_transport, reel_seat_wrong, row_checked, session_over, state_seat_wrong, standing_in, transport_of, unit_over};
 
 use crate::{Coupler, JOURNAL_LIMIT, Seat, Session, Transport};
 use entries::TRANSPORTS;
-use state::{Attention, Characteristics, Lengths, Panel, Registers, Tape, Unit};
+use state::{Lengths, Refusal, Unit};
 use tape::Geometry;
 
 // 12: "a unit not present".
@@ -17,22 +18,16 @@ pub fn absent(n: usize, k: usize) -> bool
 fn unit_over(t: Transport, memory: usize) -> Unit
     ensures { result ≡ unit_over memory t }
 {
-    let tape = t.tape;
-    let registers = t.registers;
-    let panel = t.panel;
-    let attention = t.attention;
-    let characteristics = t.characteristics;
-    let lengths = Lengths {
-        memory,
-        blocks: t.blocks,
-    };
     Unit {
-        tape,
-        registers,
-        panel,
-        attention,
-        characteristics,
-        lengths,
+        tape: t.tape,
+        registers: t.registers,
+        panel: t.panel,
+        attention: t.attention,
+        characteristics: t.characteristics,
+        lengths: Lengths {
+            memory,
+            blocks: t.blocks,
+        },
     }
 }
 
@@ -40,9 +35,8 @@ fn unit_over(t: Transport, memory: usize) -> Unit
 pub fn session_over(t: Transport, c: Coupler) -> Session
     ensures { result ≡ session_over c t }
 {
-    let unit = unit_over(t, c.memory);
     Session {
-        unit,
+        unit: unit_over(t, c.memory),
         objects: t.objects,
         used: c.used,
         journal: c.journal,
@@ -50,21 +44,17 @@ pub fn session_over(t: Transport, c: Coupler) -> Session
 }
 
 // What is put back: the record, and what it shares.
+// Kept: no `From`, since each is a part of a session, and `session_over` takes both.
 pub fn transport_of(s: Session) -> Transport
     ensures { result ≡ transport_of s }
 {
     let u = s.unit;
-    let tape = u.tape;
-    let registers = u.registers;
-    let panel = u.panel;
-    let attention = u.attention;
-    let characteristics = u.characteristics;
     Transport {
-        tape,
-        registers,
-        panel,
-        attention,
-        characteristics,
+        tape: u.tape,
+        registers: u.registers,
+        panel: u.panel,
+        attention: u.attention,
+        characteristics: u.characteristics,
         blocks: u.lengths.blocks,
         objects: s.objects,
     }
@@ -84,44 +74,7 @@ pub fn coupler_of(s: Session) -> Coupler
 pub fn no_transport() -> Transport
     ensures { result ≡ no_transport }
 {
-    let tape = Tape {
-        position: 0,
-        end: 0,
-    };
-    let registers = Registers {
-        pointer: 0,
-        class: 0,
-        rmr: false,
-        nxm: false,
-        nba: false,
-        ssr: false,
-    };
-    let panel = Panel {
-        online: false,
-        locked: false,
-        vck: false,
-    };
-    let attention = Attention {
-        unit_owns: false,
-        pending: false,
-        release_ie: false,
-    };
-    let characteristics = Characteristics {
-        address: 0,
-        length: 0,
-        eai: false,
-        ess: false,
-        enb: false,
-    };
-    Transport {
-        tape,
-        registers,
-        panel,
-        attention,
-        characteristics,
-        blocks: 0,
-        objects: 0,
-    }
+    Transport::default()
 }
 
 // Refusal 1 of what is shared.
@@ -131,20 +84,20 @@ fn coupler_wrong(c: Coupler) -> bool
     (!state::memory_right(c.memory)) | ((c.journal < c.used) | (JOURNAL_LIMIT < c.journal))
 }
 
-// Refusals 1, 2 and 4 of a call of no transport, or 0.
-pub fn coupler_check(c: Coupler, memory: usize, journal: usize) -> usize
+// Refusals 1, 2 and 4 of a call of no transport.
+pub fn coupler_check(c: Coupler, memory: usize, journal: usize) -> Result<(), Refusal>
     ensures { result ≡ coupler_checked c memory journal }
 {
     if coupler_wrong(c) {
-        return 1;
+        return Err(Refusal::State);
     }
     if memory != c.memory {
-        return 2;
+        return Err(Refusal::Memory);
     }
     if journal != c.journal {
-        return 4;
+        return Err(Refusal::Journal);
     }
-    0
+    Ok(())
 }
 
 // Of a transport that is mounted, refusal 1, and 3; one that is not is passed over.
@@ -163,47 +116,40 @@ fn reel_seat_wrong(s: Seat) -> bool
     (t.blocks != 0) & !whole
 }
 
-// Refusals 1 to 4 of a step back over the first n of these four.
-pub fn row_check(
-    c: Coupler,
-    n: usize,
-    s0: Seat,
-    s1: Seat,
-    s2: Seat,
-    s3: Seat,
-    memory: usize,
-    journal: usize,
-) -> usize
-    ensures { result ≡ row_checked c (row_of n s0 s1 s2 s3) memory journal }
+fn states_wrong(seats: &[Seat], memory: usize) -> bool
+    ensures { result ≡ list_any (state_seat_wrong memory) seats.now }
 {
-    let m = c.memory;
-    let first = ((0 < n) & state_seat_wrong(s0, m)) | ((1 < n) & state_seat_wrong(s1, m));
-    let last = ((2 < n) & state_seat_wrong(s2, m)) | ((3 < n) & state_seat_wrong(s3, m));
-    if coupler_wrong(c) | (first | last) {
-        return 1;
-    }
-    if memory != m {
-        return 2;
-    }
-    let lower = ((0 < n) & reel_seat_wrong(s0)) | ((1 < n) & reel_seat_wrong(s1));
-    let upper = ((2 < n) & reel_seat_wrong(s2)) | ((3 < n) & reel_seat_wrong(s3));
-    if lower | upper {
-        return 3;
-    }
-    if journal != c.journal {
-        return 4;
-    }
-    0
+    seats.iter().any(|s| state_seat_wrong(*s, memory))
 }
 
-// Is the transport with number k present among the first n of these, and mounted?
-pub fn standing(n: usize, k: usize, s0: Seat, s1: Seat, s2: Seat, s3: Seat) -> bool
-    ensures { result ≡ standing_in (row_of n s0 s1 s2 s3) k }
+fn reels_wrong(seats: &[Seat]) -> bool
+    ensures { result ≡ list_any reel_seat_wrong seats.now }
 {
-    if absent(n, k) {
-        return false;
+    seats.iter().any(|s| reel_seat_wrong(*s))
+}
+
+// Refusals 1 to 4 of a step back over a row.
+pub fn row_check(c: Coupler, seats: &[Seat], memory: usize, journal: usize) -> Result<(), Refusal>
+    ensures { result ≡ row_checked c seats.now memory journal }
+{
+    if coupler_wrong(c) | states_wrong(seats, c.memory) {
+        return Err(Refusal::State);
     }
-    let low = ((k == 0) & (s0.transport.blocks != 0)) | ((k == 1) & (s1.transport.blocks != 0));
-    let high = ((k == 2) & (s2.transport.blocks != 0)) | ((k == 3) & (s3.transport.blocks != 0));
-    low | high
+    if memory != c.memory {
+        return Err(Refusal::Memory);
+    }
+    if reels_wrong(seats) {
+        return Err(Refusal::Reel);
+    }
+    if journal != c.journal {
+        return Err(Refusal::Journal);
+    }
+    Ok(())
+}
+
+// Is transport k present in the row, and mounted?
+pub fn standing(seats: &[Seat], k: usize) -> bool
+    ensures { result ≡ standing_in seats.now k }
+{
+    !absent(seats.len(), k) && seats[k].transport.blocks != 0
 }

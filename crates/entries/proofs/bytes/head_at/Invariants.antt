@@ -7,7 +7,4 @@ use Rattle.entries.specs.Bytes.{head_numbers}
 use Rattle.entries.proofs.bytes.head_at.Given as goal
 
 abbrev pub invariant-loop-i : goal.invariant-loop-i
-invariant-loop-i l = (l.i ≤ 31) × (length l.n ≡ 31) × (sets l.n l.i (head_numbers (31 - l.i) (drop (l.at + 4 * l.i) l.b)) ≡ head_numbers 31 (drop l.at l.b))
-
-abbrev pub decreases-loop-i : goal.decreases-loop-i
-decreases-loop-i l = 31 - l.i
+invariant-loop-i l = (l.i ≤ 31) × (length l.x-items ≡ 31) × (sets l.x-items l.i (head_numbers (31 - l.i) (drop (l.at + 4 * l.i) l.b)) ≡ head_numbers 31 (drop l.at l.b))

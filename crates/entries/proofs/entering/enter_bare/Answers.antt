@@ -1,6 +1,7 @@
--- `enter_bare` meets its contract: the length and the head join.
+-- `enter_bare` meets its contract: nothing is saved in the frame.
+use mathlib.Core.Path.{◌∙◌}
 use Rattle.entries.proofs.Joined.{bare_entered}
 use Rattle.entries.proofs.entering.enter_bare.Goals as goal
 
 pub returns : goal.returns
-returns c = bare_entered c.args.e c.args.jrnl.now _ _ _ c.args.used c.requires.1 c.put_number.ensures c.numbers_of.ensures c.put_head.ensures
+returns c = c.frame.ensures ∙ bare_entered c.args.e c.args.jrnl.now c.args.used c.requires.1

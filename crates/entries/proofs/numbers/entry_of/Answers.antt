@@ -4,4 +4,4 @@ use Rattle.entries.proofs.numbers.entry_of.Goals as goal
 
 pub returns : goal.returns
 unfolding entry_of
-returns c = rw (c.unit_of-unit.ensures, c.touched_of-touched.ensures)
+returns c = rw (c.unit_in.ensures, c.touched_of.ensures)

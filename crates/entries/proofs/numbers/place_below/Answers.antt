@@ -1,12 +1,9 @@
--- `place_below`: a difference, with a test before it.
-use Rattle.touched.proofs.Fits.{below_none, below_some}
+-- `place_below` is its definition.
+use borrow.Author.Tests.{ne_eqb}
 use Rattle.entries.proofs.numbers.place_below.Goals as goal
 
-pub returns-then-k-top : goal.returns-then-k-top
-returns-then-k-top c = below_none c.args.top c.args.f c.if-k-top.true
+pub returns-then-f-eq0 : goal.returns-then-f-eq0
+returns-then-f-eq0 c = rw c.if-f-eq0.true
 
-pub overflow_sub-result : goal.overflow_sub-result
-overflow_sub-result c = (below_some c.args.top c.args.f c.if-k-top.false).0
-
-pub returns : goal.returns
-returns c = (below_some c.args.top c.args.f c.if-k-top.false).1
+pub returns-else-f-eq0 : goal.returns-else-f-eq0
+returns-else-f-eq0 c = rw (c.saturating_sub.ensures, ne_eqb c.args.f 0 c.if-f-eq0.false)

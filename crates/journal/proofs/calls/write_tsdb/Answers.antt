@@ -1,13 +1,18 @@
 -- `write_tsdb` meets its contract: its refusals, else the change.
+use mathlib.Core.Path.{sym}
+use Rattle.std.proofs.lemmas.Result.{err_from_is_err_and}
 use Rattle.steps.proofs.Changing.{change_goes, change_stops}
 use Rattle.unit.specs.Steps.{step_of}
 use Rattle.worlds.specs.Calls.{step_on}
 use Rattle.journal.proofs.calls.write_tsdb.Goals as goal
 
-pub returns-then-n-ne0 : goal.returns-then-n-ne0
+pub returns-in_err-check_change : goal.returns-in_err-check_change
 unfolding step_on step_of
-returns-then-n-ne0 c = change_stops _ _ _ _ _ _ _ _ c.refused.ensures.1 _ c.change_refusal-n.ensures c.if-n-ne0.true c.refused.ensures.0
+returns-in_err-check_change c = let p = err_from_is_err_and c.from_residual.result c.from_residual.ensures.1 in rw (p.1, p.2) (change_stops _ _ _ _ _ _ _ _ (sym c.in_err-check_change.ensures))
+
+pub change-requires : goal.change-requires
+change-requires c = sym c.in_ok-check_change.ensures
 
 pub returns : goal.returns
 unfolding step_on step_of
-returns c = change_goes _ _ _ _ _ _ _ _ _ _ _ _ _ _ c.change_refusal-n.ensures c.if-n-ne0.false c.write_tsdb.ensures c.change.ensures
+returns c = change_goes _ _ _ _ _ _ _ _ _ _ _ _ _ (sym c.in_ok-check_change.ensures) c.write_tsdb.ensures c.change.ensures

@@ -1,15 +1,15 @@
--- `record_of` meets its contract, number by number.
+-- `record_of` meets its contract: the state's numbers, and the two behind them.
+use mathlib.Core.Path.{◌≡◌, refl, ◌∙◌}
 use mathlib.Core.List.{[], ◌∷◌}
+use Rattle.entries.specs.Numbers.{state_numbers}
+use Rattle.entries.proofs.Halves.{halves}
+use Rattle.worlds.specs.Rows.{unit_over}
 use Rattle.records.specs.Records.{numbers_of}
 use Rattle.records.proofs.records.record_of.Goals as goal
 
 pub returns : goal.returns
-unfolding numbers_of
+unfolding numbers_of state_numbers
 returns c =
-    λ i.
-    c.low.ensures i ∷ c.low-2.ensures i ∷ c.low-3.ensures i ∷ c.low-4.ensures i
-    ∷ c.bit_of.ensures i ∷ c.bit_of-2.ensures i ∷ c.bit_of-3.ensures i ∷ c.bit_of-4.ensures i
-    ∷ c.bit_of-5.ensures i ∷ c.bit_of-6.ensures i ∷ c.bit_of-7.ensures i ∷ c.bit_of-8.ensures i
-    ∷ c.bit_of-9.ensures i ∷ c.bit_of-10.ensures i ∷ c.args.t.characteristics.address ∷ c.args.t.characteristics.length
-    ∷ c.bit_of-11.ensures i ∷ c.bit_of-12.ensures i ∷ c.bit_of-13.ensures i ∷ c.low-5.ensures i
-    ∷ c.low-6.ensures i ∷ []
+    let alike : state_numbers c.session_over.result.unit ≡ state_numbers (unit_over 0 c.args.t) = rw c.session_over.ensures in
+    halves 19 2 _ _ _ _ _ c.copy_from_slice.ensures.len refl refl (c.copy_from_slice.ensures.after ∙ c.state_numbers.ensures ∙ alike)
+    (c.copy_from_slice-2.ensures.after ∙ (λ i. c.low.ensures i ∷ c.low-2.ensures i ∷ []))

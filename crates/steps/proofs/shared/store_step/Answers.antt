@@ -13,7 +13,7 @@ pub overflow_sub-c : goal.overflow_sub-c
 overflow_sub-c c = omega (arith, (coupler_passed _ _ _ c.requires.right).used)
 
 pub returns-then-c-n : goal.returns-then-c-n
-returns-then-c-n c = store_full _ c.args.mem.now c.args.jrnl.now _ c.args.bytes.now c.requires _ refl _ c.if-c-n.true c.refused_shared.ensures.0 c.refused_shared.ensures.1
+returns-then-c-n c = store_full _ c.args.mem.now c.args.jrnl.now _ c.args.bytes.now c.requires _ refl c.if-c-n.true
 
 pub enter_run-requires : goal.enter_run-requires
 enter_run-requires c =

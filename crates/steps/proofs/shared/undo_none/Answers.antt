@@ -15,7 +15,7 @@ pub entry_fits-requires : goal.entry_fits-requires
 entry_fits-requires c = none_sizes _ _ _ c.requires.right
 
 pub returns-then-not-entry_fits : goal.returns-then-not-entry_fits
-returns-then-not-entry_fits c = none_stops _ c.args.mem.now c.args.jrnl.now c.requires _ _ c.newest_entry-e.ensures c.entry_fits.ensures _ (ap not c.if-not-entry_fits.true) c.refused_shared.ensures.0 c.refused_shared.ensures.1
+returns-then-not-entry_fits c = none_stops _ c.args.mem.now c.args.jrnl.now c.requires _ _ c.newest_entry-e.ensures c.entry_fits.ensures (ap not c.if-not-entry_fits.true)
 
 pub entry_length-n-requires : goal.entry_length-n-requires
 entry_length-n-requires c = (none_fits _ c.args.mem.now c.args.jrnl.now c.requires _ _ c.newest_entry-e.ensures c.entry_fits.ensures (ap not c.if-not-entry_fits.false)).places

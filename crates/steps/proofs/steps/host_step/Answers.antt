@@ -15,7 +15,7 @@ use native.Mathlib.Omega.{arith}
 use Rattle.steps.proofs.steps.host_step.Goals as goal
 
 pub returns-then-too_small : goal.returns-then-too_small
-returns-then-too_small c = small_stops _ _ _ _ _ _ _ _ _ (small_now _ _ _ (sym c.too_small.ensures ∙ c.if-too_small.true)) c.refused.ensures.0 c.refused.ensures.1
+returns-then-too_small c = small_stops _ _ _ _ _ _ _ _ _ (small_now _ _ _ (sym c.too_small.ensures ∙ c.if-too_small.true)) refl refl
 
 pub entry_length-n-requires : goal.entry_length-n-requires
 entry_length-n-requires c = store_in c.args.s c.args.mem.now c.args.reel.now _ c.requires.sound _ c.args.bytes.now _ c.host_touched-touched.ensures c.requires.inside
@@ -27,7 +27,7 @@ pub returns-then-s-n : goal.returns-then-s-n
 returns-then-s-n c =
     let w = world_of 0 c.args.s c.args.mem.now c.args.reel.now c.args.table.now c.args.jrnl.now in
     let right = store_right _ _ _ c.requires.short c.requires.inside in
-    taken_stops _ _ _ _ _ _ _ _ _ _ (store_entry w.core _ _ right _ _ c.host_touched-touched.ensures) c.entry_length-n.ensures (ap (λ (d : Core). d.objects) (store_after w.core _ c.args.bytes.now right _ refl)) (sym c.too_small.ensures ∙ c.if-too_small.false) _ _ c.if-s-n.true c.refused-then-s-n.ensures.0 c.refused-then-s-n.ensures.1
+    taken_stops _ _ _ _ _ _ _ _ _ _ (store_entry w.core _ _ right _ _ c.host_touched-touched.ensures) c.entry_length-n.ensures (ap (λ (d : Core). d.objects) (store_after w.core _ c.args.bytes.now right _ refl)) (sym c.too_small.ensures ∙ c.if-too_small.false) _ _ c.if-s-n.true refl refl
 
 pub enter_run-requires : goal.enter_run-requires
 enter_run-requires c =

@@ -1,4 +1,6 @@
 -- `take_step` meets its contract: refusal 9, or the entry first and then the stores, the table's behind the reel's.
+use mathlib.Core.Path.{refl}
+use Rattle.commands.specs.Answers.{is_step}
 use Rattle.steps.proofs.Outs.{taken_goes, taken_stops}
 use Rattle.steps.proofs.Entered.{step_after, step_entry, step_objects}
 use Rattle.steps.proofs.Readies.{filled_in, fills, sound_sizes, step_in}
@@ -16,7 +18,7 @@ overflow_sub-s c = omega (arith, (passed _ _ _ _ c.requires.ready.sound.right).u
 pub returns-then-s-n : goal.returns-then-s-n
 returns-then-s-n c =
     let w = world_of c.args.k c.args.s c.args.mem.now c.args.reel.now c.args.table.now c.args.jrnl.now in
-    taken_stops _ _ _ _ _ _ _ _ _ _ (step_entry w.core c.args.p _ c.requires.cut _ _ c.touched_by-touched.ensures) c.entry_length-n.ensures (step_objects w.core c.args.p _ c.requires.cut _ c.requires.after) c.requires.large _ _ c.if-s-n.true c.refused.ensures.0 c.refused.ensures.1
+    taken_stops _ _ _ _ _ _ _ _ _ _ (step_entry w.core c.args.p _ c.requires.cut _ _ c.touched_by-touched.ensures) c.entry_length-n.ensures (step_objects w.core c.args.p _ c.requires.cut _ c.requires.after) c.requires.large _ _ c.if-s-n.true refl refl
 
 pub enter-requires : goal.enter-requires
 enter-requires c =
@@ -37,8 +39,9 @@ fill_places-requires c =
     (fills _ _ _ _ c.args.reel.now c.args.table.now _ _ c.requires, omega (arith, c.requires.ready.storable.laid.room, sizes.reel_small))
 
 pub returns : goal.returns
+unfolding is_step
 returns c =
     let w = world_of c.args.k c.args.s c.args.mem.now c.args.reel.now c.args.table.now c.args.jrnl.now in
     let long = c.entry_length-n.ensures in
     let fits = c.if-s-n.false in
-    taken_goes _ _ _ _ _ _ _ _ _ _ (step_entry w.core c.args.p _ c.requires.cut _ _ c.touched_by-touched.ensures) long (step_objects w.core c.args.p _ c.requires.cut _ c.requires.after) c.requires.large _ _ _ _ _ _ c.requires.ready.done fits (room w _ (passed _ _ _ _ c.requires.ready.sound.right) _ _ long fits) c.enter.ensures (step_after w.core c.args.p _ c.requires.cut _ _ _ _ c.requires.after c.store.ensures c.fill_places.ensures)
+    taken_goes _ _ _ _ _ _ _ _ _ _ (step_entry w.core c.args.p _ c.requires.cut _ _ c.touched_by-touched.ensures) long (step_objects w.core c.args.p _ c.requires.cut _ c.requires.after) c.requires.large _ _ _ _ _ _ refl fits (room w _ (passed _ _ _ _ c.requires.ready.sound.right) _ _ long fits) c.enter.ensures (step_after w.core c.args.p _ c.requires.cut _ _ _ _ c.requires.after c.store.ensures c.fill_places.ensures)

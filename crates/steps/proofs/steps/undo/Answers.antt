@@ -1,6 +1,6 @@
 -- `undo` meets its contract: refusal 8 or 11, or the newest entry brought back.
 use mathlib.Core.Bool.{not}
-use mathlib.Core.Path.{ap}
+use mathlib.Core.Path.{ap, refl}
 use Rattle.steps.proofs.Backs.{undo_fits, undo_goes, undo_lacks, undo_places, undo_stops}
 use Rattle.steps.proofs.Readies.{sound_sizes}
 use Rattle.worlds.proofs.Passing.{passed}
@@ -16,10 +16,10 @@ pub entry_fits-requires : goal.entry_fits-requires
 entry_fits-requires c = sound_sizes c.args.s c.args.mem.now c.args.reel.now _ c.requires.sound
 
 pub returns-then-not-entry_fits-state_wrong : goal.returns-then-not-entry_fits-state_wrong
-returns-then-not-entry_fits-state_wrong c = λ k. undo_stops _ _ _ _ _ _ _ _ c.newest_entry-e.ensures c.entry_fits.ensures c.state_wrong.ensures k _ (ap not c.if-not-entry_fits-state_wrong.true) c.refused.ensures.0 c.refused.ensures.1
+returns-then-not-entry_fits-state_wrong c = λ k. undo_stops _ _ _ _ _ _ _ _ c.newest_entry-e.ensures c.entry_fits.ensures c.state_wrong.ensures k _ (ap not c.if-not-entry_fits-state_wrong.true) refl refl
 
 pub returns-then-too_small : goal.returns-then-too_small
-returns-then-too_small c = λ k. undo_lacks _ _ _ _ _ _ _ _ c.newest_entry-e.ensures c.entry_fits.ensures c.state_wrong.ensures (ap not c.if-not-entry_fits-state_wrong.false) _ c.too_small.ensures k _ c.if-too_small.true c.refused-then-too_small.ensures.0 c.refused-then-too_small.ensures.1
+returns-then-too_small c = λ k. undo_lacks _ _ _ _ _ _ _ _ c.newest_entry-e.ensures c.entry_fits.ensures c.state_wrong.ensures (ap not c.if-not-entry_fits-state_wrong.false) _ c.too_small.ensures k _ c.if-too_small.true refl refl
 
 pub entry_length-n-requires : goal.entry_length-n-requires
 entry_length-n-requires c =

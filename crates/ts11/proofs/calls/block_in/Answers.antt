@@ -1,20 +1,12 @@
--- `block_in` meets its contract, answer by answer.
-use Rattle.commands.specs.Answers.{block_in}
-use borrow.Author.Rules.{rules}
+-- `block_in` is its definition.
+use Rattle.state.specs.Refusals.{block_of}
+use Rattle.state.proofs.Behind.{by_other}
 use Rattle.ts11.proofs.calls.block_in.Goals as goal
 
 pub returns-in-BadBlock : goal.returns-in-BadBlock
-unfolding block_in
-returns-in-BadBlock c = search rules
+unfolding block_of
+returns-in-BadBlock c = rw c.in-BadBlock.is
 
-pub returns-in-Refused : goal.returns-in-Refused
-unfolding block_in
-returns-in-Refused c = search rules
-
-pub returns-in-Idle : goal.returns-in-Idle
-unfolding block_in
-returns-in-Idle c = search rules
-
-pub returns-in-Done : goal.returns-in-Done
-unfolding block_in
-returns-in-Done c = search rules
+pub returns-in_default : goal.returns-in_default
+unfolding block_of
+returns-in_default c = by_other (λ why k. k) 0 _ c.in_default.not-BadBlock

@@ -1,9 +1,12 @@
 -- `ts11_step_back` meets its contract: refused with 1 where the bytes are no session's block, else what the journal's call leaves.
-use Rattle.ts11.proofs.Ways.{back_goes, back_stops}
+use Rattle.ts11.proofs.Ways.{left, refused_number, back_goes, back_stops, wrote, zero}
 use Rattle.ts11.proofs.calls.ts11_step_back.Goals as goal
 
 pub returns-then-not-block_right : goal.returns-then-not-block_right
-returns-then-not-block_right c = back_stops _ _ c.block_right.ensures c.if-not-block_right.true
+returns-then-not-block_right c = back_stops _ _ c.block_right.ensures c.if-not-block_right.true c.number.ensures
 
-pub returns : goal.returns
-returns c = back_goes _ _ c.block_right.ensures _ _ _ _ _ _ c.if-not-block_right.false c.session_in.ensures c.step_back-o.ensures c.number_in.ensures c.close.ensures
+pub returns-in-Ok : goal.returns-in-Ok
+returns-in-Ok c = back_goes _ _ c.block_right.ensures _ _ _ _ _ _ c.if-not-block_right.false c.session_in.ensures c.step_back.ensures (zero c.in-Ok.is) (wrote _ _ c.in-Ok.is c.close.ensures)
+
+pub returns-in-Err : goal.returns-in-Err
+returns-in-Err c = back_goes _ _ c.block_right.ensures _ _ _ _ _ _ c.if-not-block_right.false c.session_in.ensures c.step_back.ensures (refused_number c.in-Err.is c.number-in-Err.ensures) (left _ _ c.in-Err.is)

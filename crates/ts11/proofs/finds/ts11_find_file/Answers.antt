@@ -1,6 +1,18 @@
 -- `ts11_find_file` meets its contract: what was found is told as number, flag and place.
-use Rattle.ts11.proofs.Ways.{finds}
+use Rattle.worlds.specs.Calls.{file_on}
+use Rattle.worlds.specs.declared.Session.{Session}
+use Rattle.ts11.proofs.Ways.{finds, finds_none, not_looked, was_looked}
+use Rattle.ts11.specs.Finds.{file_given}
 use Rattle.ts11.proofs.finds.ts11_find_file.Goals as goal
 
-pub returns : goal.returns
-returns c = finds c.file_given-r.ensures c.number_in.ensures c.is_found.ensures c.place_found.ensures
+pub returns-then-not-block_right : goal.returns-then-not-block_right
+unfolding file_given
+returns-then-not-block_right c = not_looked _ _ _ c.block_right.ensures c.if-not-block_right.true c.number.ensures
+
+pub returns-in-Ok : goal.returns-in-Ok
+unfolding file_given
+returns-in-Ok c = was_looked (λ (s : Session). file_on s c.args.table.now c.args.file) _ _ _ _ c.block_right.ensures c.if-not-block_right.false c.session_in.ensures c.file_place.ensures (finds c.in-Ok.is c.is_some.ensures c.unwrap_or.ensures)
+
+pub returns-in-Err : goal.returns-in-Err
+unfolding file_given
+returns-in-Err c = was_looked (λ (s : Session). file_on s c.args.table.now c.args.file) _ _ _ _ c.block_right.ensures c.if-not-block_right.false c.session_in.ensures c.file_place.ensures (finds_none c.in-Err.is c.number-in-Err.ensures)

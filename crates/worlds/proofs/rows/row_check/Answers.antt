@@ -1,31 +1,24 @@
--- `row_check` meets its contract: a law of the row for each answer, in number order.
-use Rattle.worlds.proofs.Seating.{row_four, row_none, row_one, row_three, row_two}
+-- `row_check` is its definition.
+use borrow.Author.Tests.{eq-eqb, ne_eqb}
+use Rattle.worlds.specs.Rows.{row_checked}
 use Rattle.worlds.proofs.rows.row_check.Goals as goal
 
-pub returns-then-coupler_wrong-first : goal.returns-then-coupler_wrong-first
-returns-then-coupler_wrong-first c =
-    row_one c.args.c c.args.n c.args.s0 c.args.s1 c.args.s2 c.args.s3 c.args.memory c.args.journal _ _ _ _ _ c.coupler_wrong.ensures c.state_seat_wrong.ensures c.state_seat_wrong-2.ensures c.state_seat_wrong-3.ensures c.state_seat_wrong-4.ensures
-    c.if-coupler_wrong-first.true
+pub returns-then-coupler_wrong-states_wrong : goal.returns-then-coupler_wrong-states_wrong
+unfolding row_checked
+returns-then-coupler_wrong-states_wrong c = rw (← c.coupler_wrong.ensures, ← c.states_wrong.ensures, c.if-coupler_wrong-states_wrong.true)
 
-pub returns-then-memory-m : goal.returns-then-memory-m
-returns-then-memory-m c =
-    row_two c.args.c c.args.n c.args.s0 c.args.s1 c.args.s2 c.args.s3 c.args.memory c.args.journal _ _ _ _ _ c.coupler_wrong.ensures c.state_seat_wrong.ensures c.state_seat_wrong-2.ensures c.state_seat_wrong-3.ensures c.state_seat_wrong-4.ensures
-    c.if-coupler_wrong-first.false c.if-memory-m.true
+pub returns-then-memory-c : goal.returns-then-memory-c
+unfolding row_checked
+returns-then-memory-c c = rw (← c.coupler_wrong.ensures, ← c.states_wrong.ensures, c.if-coupler_wrong-states_wrong.false, ne_eqb c.args.memory c.args.c.memory c.if-memory-c.true)
 
-pub returns-then-lower-upper : goal.returns-then-lower-upper
-returns-then-lower-upper c =
-    row_three c.args.c c.args.n c.args.s0 c.args.s1 c.args.s2 c.args.s3 c.args.memory c.args.journal _ _ _ _ _ c.coupler_wrong.ensures c.state_seat_wrong.ensures c.state_seat_wrong-2.ensures c.state_seat_wrong-3.ensures c.state_seat_wrong-4.ensures
-    c.if-coupler_wrong-first.false _ _ _ _ c.if-memory-m.false c.reel_seat_wrong.ensures c.reel_seat_wrong-2.ensures c.reel_seat_wrong-3.ensures c.reel_seat_wrong-4.ensures
-    c.if-lower-upper.true
+pub returns-then-reels_wrong : goal.returns-then-reels_wrong
+unfolding row_checked
+returns-then-reels_wrong c = rw (← c.coupler_wrong.ensures, ← c.states_wrong.ensures, c.if-coupler_wrong-states_wrong.false, eq-eqb c.args.memory c.args.c.memory c.if-memory-c.false, ← c.reels_wrong.ensures, c.if-reels_wrong.true)
 
 pub returns-then-journal-c : goal.returns-then-journal-c
-returns-then-journal-c c =
-    row_four c.args.c c.args.n c.args.s0 c.args.s1 c.args.s2 c.args.s3 c.args.memory c.args.journal _ _ _ _ _ c.coupler_wrong.ensures c.state_seat_wrong.ensures c.state_seat_wrong-2.ensures c.state_seat_wrong-3.ensures c.state_seat_wrong-4.ensures
-    c.if-coupler_wrong-first.false _ _ _ _ c.if-memory-m.false c.reel_seat_wrong.ensures c.reel_seat_wrong-2.ensures c.reel_seat_wrong-3.ensures c.reel_seat_wrong-4.ensures
-    c.if-lower-upper.false c.if-journal-c.true
+unfolding row_checked
+returns-then-journal-c c = rw (← c.coupler_wrong.ensures, ← c.states_wrong.ensures, c.if-coupler_wrong-states_wrong.false, eq-eqb c.args.memory c.args.c.memory c.if-memory-c.false, ← c.reels_wrong.ensures, c.if-reels_wrong.false, ne_eqb c.args.journal c.args.c.journal c.if-journal-c.true)
 
 pub returns : goal.returns
-returns c =
-    row_none c.args.c c.args.n c.args.s0 c.args.s1 c.args.s2 c.args.s3 c.args.memory c.args.journal _ _ _ _ _ c.coupler_wrong.ensures c.state_seat_wrong.ensures c.state_seat_wrong-2.ensures c.state_seat_wrong-3.ensures c.state_seat_wrong-4.ensures
-    c.if-coupler_wrong-first.false _ _ _ _ c.if-memory-m.false c.reel_seat_wrong.ensures c.reel_seat_wrong-2.ensures c.reel_seat_wrong-3.ensures c.reel_seat_wrong-4.ensures
-    c.if-lower-upper.false c.if-journal-c.false
+unfolding row_checked
+returns c = rw (← c.coupler_wrong.ensures, ← c.states_wrong.ensures, c.if-coupler_wrong-states_wrong.false, eq-eqb c.args.memory c.args.c.memory c.if-memory-c.false, ← c.reels_wrong.ensures, c.if-reels_wrong.false, eq-eqb c.args.journal c.args.c.journal c.if-journal-c.false)

@@ -2,4 +2,4 @@
 use Rattle.worlds.proofs.rows.session_over.Goals as goal
 
 pub returns : goal.returns
-returns c = rw c.unit_over-unit.ensures
+returns c = rw c.unit_over.ensures

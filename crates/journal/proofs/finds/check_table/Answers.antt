@@ -1,7 +1,7 @@
--- `find_refusal` is its definition.
+-- `check_table` is its definition.
 use Rattle.worlds.specs.Calls.{find_refusal}
 use borrow.Author.Tests.{le-ltb, lt-ltb}
-use Rattle.journal.proofs.finds.find_refusal.Goals as goal
+use Rattle.journal.proofs.finds.check_table.Goals as goal
 
 pub returns-then-session_wrong : goal.returns-then-session_wrong
 unfolding find_refusal

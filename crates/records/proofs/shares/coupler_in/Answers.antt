@@ -1,7 +1,7 @@
--- `coupler_by` is its definition.
+-- `coupler_in` is its definition.
 use mathlib.Core.Path.{refl}
 use Rattle.records.specs.Shares.{coupler_in}
-use Rattle.records.proofs.shares.coupler_by.Goals as goal
+use Rattle.records.proofs.shares.coupler_in.Goals as goal
 
 pub returns : goal.returns
 unfolding coupler_in
