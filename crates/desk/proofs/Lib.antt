@@ -1,2 +1,3 @@
--- The laws of what is put into memory and reel.
+-- The laws of what is put into memory, reel and table.
 pub mod Built
+pub mod Fronts

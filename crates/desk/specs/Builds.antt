@@ -1,5 +1,5 @@
 -- Bytes put into memory and reel with no call: the answer, and what is stored where the line is taken. A line that can't be taken stores nothing.
-use Rattle.std.specs.Prelude.{List, ℕ, ◌+◌, ◌*◌, ◌/◌, ◌%◌, eqb, leb, ltb, length, take, drop}
+use Rattle.std.specs.Prelude.{Result, Ok, Err, List, ℕ, ◌+◌, ◌*◌, ◌/◌, ◌%◌, eqb, leb, ltb, length, take, drop}
 use Rattle.std.proofs.lemmas.List.Edits.{sets}
 use Rattle.lists.specs.Pick.{pick}
 use Rattle.lists.specs.Words.{word_bytes}
@@ -8,27 +8,25 @@ use Rattle.tape.specs.Numbers.{block_bytes, pieces_of, summed_bytes}
 use Rattle.tape.specs.Objects.{Object, image_of}
 use Rattle.script.specs.declared.Fault.{Fault}
 use Rattle.script.specs.declared.Fault.TheVariants as fault
-use Rattle.script.specs.declared.Value.{Value}
-use Rattle.script.specs.declared.Value.TheVariants as value
 use Rattle.lines.specs.declared.Build.{Build}
 use Rattle.lines.specs.declared.Build.TheVariants as build
 
 -- what is stored where the answer is a cursor, and what stays where it is a fault
-abbrev pub if_taken : Value → List ℕ → List ℕ → List ℕ
-if_taken (value.Is p) new old = new
-if_taken (value.Wrong f) new old = old
+abbrev pub if_taken : Result ℕ Fault → List ℕ → List ℕ → List ℕ
+if_taken (Ok p) new old = new
+if_taken (Err f) new old = old
 
 -- n bytes at a place of a room; the cursor p stays
-unfoldable pub poke_answer : ℕ → ℕ → ℕ → ℕ → Fault → Value
-poke_answer room at n p f = pick (leb (at + n) room) (value.Is p) (value.Wrong f)
+unfoldable pub poke_answer : ℕ → ℕ → ℕ → ℕ → Fault → Result ℕ Fault
+poke_answer room at n p f = pick (leb (at + n) room) (Ok p) (Err f)
 
 -- a word of 16 bits in memory
-unfoldable pub word_answer : ℕ → ℕ → ℕ → ℕ → Value
-word_answer room at w p = pick (ltb 65535 w) (value.Wrong fault.NumberTooLarge) (poke_answer room at 2 p fault.OutsideMemory)
+unfoldable pub word_answer : ℕ → ℕ → ℕ → ℕ → Result ℕ Fault
+word_answer room at w p = pick (ltb 65535 w) (Err fault.NumberTooLarge) (poke_answer room at 2 p fault.OutsideMemory)
 
 -- block k of a reel of so many bytes, and the cursor then
-unfoldable pub block_answer : ℕ → ℕ → ℕ → Value
-block_answer room k p = pick (ltb k (room / block_bytes)) (value.Is p) (value.Wrong fault.OutsideReel)
+unfoldable pub block_answer : ℕ → ℕ → ℕ → Result ℕ Fault
+block_answer room k p = pick (ltb k (room / block_bytes)) (Ok p) (Err fault.OutsideReel)
 
 -- the check word that the bytes of block k ask, and its place
 abbrev pub check_bytes : List ℕ → ℕ → List ℕ
@@ -38,20 +36,20 @@ abbrev pub check_place : ℕ → ℕ
 check_place k = block_bytes * k + summed_bytes
 
 -- a record of n bytes, no more than a block's length word can say, out of an even room for them, at block p of a reel of so many bytes
-unfoldable pub record_answer : ℕ → ℕ → ℕ → ℕ → Value
+unfoldable pub record_answer : ℕ → ℕ → ℕ → ℕ → Result ℕ Fault
 record_answer room p held n =
-    pick (ltb 65535 n) (value.Wrong fault.RecordTooLong)
-    (pick (ltb held n) (value.Wrong fault.BeyondBuffers)
+    pick (ltb 65535 n) (Err fault.RecordTooLong)
+    (pick (ltb held n) (Err fault.BeyondBuffers)
     (pick (eqb (held % 2) 0)
-    (pick (leb (p + pieces_of n) (room / block_bytes)) (value.Is (p + pieces_of n)) (value.Wrong fault.OutsideReel))
-    (value.Wrong fault.BeyondBuffers)))
+    (pick (leb (p + pieces_of n) (room / block_bytes)) (Ok (p + pieces_of n)) (Err fault.OutsideReel))
+    (Err fault.BeyondBuffers)))
 
 -- the reel with an object laid at block p
 abbrev pub laid_at : List ℕ → ℕ → Object → List ℕ
 laid_at s p o = sets s (block_bytes * p) (image_of o)
 
 -- what such a line answers while the cursor is at p: it gives the bytes d, the first n of so many held, and memory and reel are m and r bytes
-unfoldable pub built_answer : Build → ℕ → List ℕ → ℕ → ℕ → ℕ → ℕ → Value
+unfoldable pub built_answer : Build → ℕ → List ℕ → ℕ → ℕ → ℕ → ℕ → Result ℕ Fault
 built_answer (build.Poke at) p d held n m r = poke_answer m at (length d) p fault.OutsideMemory
 built_answer (build.PokeWord at w) p d held n m r = word_answer m at w p
 built_answer (build.PokeReel at) p d held n m r = poke_answer r at (length d) p fault.OutsideReel

@@ -1,8 +1,9 @@
 -- The desk as a run and a case start it, the lengths that the calls are handed, and the next line.
-use Rattle.std.specs.Prelude.{Bool, false, ◌||◌, List, ℕ, ◌+◌, min, ltb, length, take}
+use Rattle.std.specs.Prelude.{Bool, false, ◌||◌, Option, None, Some, unwrap_or, List, ℕ, ◌+◌, min, ltb, length, take}
 use Rattle.lists.specs.Pick.{pick}
 use Rattle.state.specs.declared.Unit.{Unit}
 use Rattle.worlds.specs.declared.Session.{Session}
+use Rattle.lines.specs.declared.Cuts.{Cuts}
 use Rattle.lines.specs.declared.Sizes.{Sizes}
 use Rattle.desk.specs.declared.desk.Desk.{Desk}
 
@@ -34,25 +35,23 @@ no_session = record { unit = no_unit; objects = 0; used = 0; journal = 0 }
 
 -- nothing mounted, no buffers, the cursor at block 0, before line n
 abbrev pub fresh_at : ℕ → Desk
-fresh_at n =
-    record {
-      session = no_session;
-      sizes = no_sizes;
-      cuts = no_sizes;
-      cut = false;
-      table_cut = false;
-      cursor = 0;
-      line = n;
-      stopped = false;
-    }
+fresh_at n = record { session = no_session; sizes = no_sizes; cuts = None; cursor = 0; line = n }
 
 -- sizes with a table of n bytes
 abbrev pub with_table : Sizes → ℕ → Sizes
-with_table s n = record { memory = s.memory; reel = s.reel; table = n; journal = s.journal }
+with_table s n = record s { table = n }
+
+-- the lengths that cuts say; where they say none for the table, it has n bytes
+abbrev pub cut_sizes : Cuts → ℕ → Sizes
+cut_sizes c n = record { memory = c.memory; reel = c.reel; table = unwrap_or c.table n; journal = c.journal }
 
 -- the lengths that the calls are handed; where the cuts say none for the table, it is handed as it is
-unfoldable pub handed_of : Desk → Sizes
-handed_of d = pick d.cut (pick d.table_cut d.cuts (with_table d.cuts d.sizes.table)) d.sizes
+unfoldable pub handed_by : Option Cuts → Sizes → Sizes
+handed_by None s = s
+handed_by (Some c) s = cut_sizes c s.table
+
+abbrev pub handed_of : Desk → Sizes
+handed_of d = handed_by d.cuts d.sizes
 
 -- whether one of the sizes is more than there is room for
 unfoldable pub sizes_beyond : Sizes → Sizes → Bool
@@ -61,14 +60,4 @@ sizes_beyond s room =
 
 -- lines are counted up to a number that no script reaches
 abbrev pub next_line : Desk → Desk
-next_line d =
-    record {
-      session = d.session;
-      sizes = d.sizes;
-      cuts = d.cuts;
-      cut = d.cut;
-      table_cut = d.table_cut;
-      cursor = d.cursor;
-      line = pick (ltb d.line 1000000000000) (d.line + 1) d.line;
-      stopped = d.stopped;
-    }
+next_line d = record d { line = pick (ltb d.line 1000000000000) (d.line + 1) d.line }

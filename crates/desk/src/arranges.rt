@@ -1,113 +1,99 @@
 // Lines that set the desk up.
+#![tactic(auto, unfolding(crate::specs::Arranges::resized, crate::specs::Arranges::cut_to, crate::specs::Arranges::arranged, crate::specs::Arranges::cleared_unless, crate::specs::Arranges::cleared_by))]
+
 ghost use Rattle.std.specs.Prelude.{◌≡◌};
 ghost use Rattle.script.specs.Fills.{wiped};
 ghost use Rattle.desk.specs.Desks.{room_of};
 ghost use Rattle.desk.specs.Turns.{still};
-ghost use Rattle.desk.specs.Arranges.{arranged, cleared_by, cleared_unless, cut_to, no_room, resized, set_to, started_case, uncut_of};
+ghost use Rattle.desk.specs.Arranges.{arranged, cleared_by, cleared_unless, cut_to, resized, set_to, started_case, uncut_of};
 
-use crate::desk::{beyond, cleared, no_sizes, trim};
+use crate::desk::{beyond, cleared, cut_sizes, trim};
 use crate::{Desk, Said, Turn};
-use lines::{Arrange, Sizes};
+use lines::{Arrange, Cuts, Field, Sizes};
 use results::with_field;
 use script::Fault;
 
-pub fn unsaid(desk: Desk) -> Turn
+// A line that prints nothing.
+pub fn still(desk: Desk) -> Result<Turn, Fault>
     ensures { result ≡ still desk }
 {
     let said = Said::Nothing;
-    Turn { desk, said }
+    Ok(Turn { desk, said })
 }
 
-pub fn refused(desk: Desk) -> Turn
-    ensures { result ≡ no_room desk }
-{
-    let said = Said::Wrong(Fault::BeyondBuffers);
-    Turn { desk, said }
-}
-
-fn start_case(d: Desk) -> Turn
+fn start_case(d: Desk) -> Result<Turn, Fault>
     ensures { result ≡ started_case d }
 {
     let desk = cleared(d);
     let said = Said::Itself;
-    Turn { desk, said }
+    Ok(Turn { desk, said })
 }
 
-fn resize(d: Desk, s: Sizes, room: Sizes) -> Turn
-    ensures { result ≡ resized d s room }
+fn resize(d: Desk, sizes: Sizes, room: Sizes) -> Result<Turn, Fault>
+    ensures { result ≡ resized d sizes room }
 {
-    if beyond(s, room) {
-        return refused(d);
+    if beyond(sizes, room) {
+        return Err(Fault::BeyondBuffers);
     }
-    let mut e = d;
-    e.sizes = s;
-    unsaid(e)
+    still(Desk { sizes, ..d })
 }
 
-fn cut_to(d: Desk, s: Sizes, table: bool, room: Sizes) -> Turn
-    ensures { result ≡ cut_to d s table room }
+fn cut_to(d: Desk, cuts: Cuts, room: Sizes) -> Result<Turn, Fault>
+    ensures { result ≡ cut_to d cuts room }
 {
-    if beyond(s, room) {
-        return refused(d);
+    if beyond(cut_sizes(cuts, 0), room) {
+        return Err(Fault::BeyondBuffers);
     }
-    let mut e = d;
-    e.cuts = s;
-    e.cut = true;
-    e.table_cut = table;
-    unsaid(e)
+    let cuts = Some(cuts);
+    still(Desk { cuts, ..d })
 }
 
-fn uncut(d: Desk) -> Turn
+fn uncut(d: Desk) -> Result<Turn, Fault>
     ensures { result ≡ uncut_of d }
 {
-    let mut e = d;
-    e.cut = false;
-    unsaid(e)
+    let cuts = None;
+    still(Desk { cuts, ..d })
 }
 
-fn set(d: Desk, k: usize, v: usize) -> Turn
-    ensures { result ≡ set_to d k v }
+fn set(d: Desk, field: Field, v: usize) -> Result<Turn, Fault>
+    ensures { result ≡ set_to d field v }
 {
-    if 23 < k {
-        return refused(d);
-    }
-    let s = d.session;
-    let next = with_field(s, k, v);
-    let mut e = d;
-    e.session = next;
-    unsaid(e)
+    let session = with_field(d.session, field, v);
+    still(Desk { session, ..d })
 }
 
-fn arrange_desk(d: Desk, a: Arrange, room: Sizes) -> Turn
+fn arrange_desk(d: Desk, a: Arrange, room: Sizes) -> Result<Turn, Fault>
     ensures { result ≡ arranged d a room }
 {
     match a {
         Arrange::Case => start_case(d),
         Arrange::Sizes(s) => resize(d, s, room),
-        Arrange::Cut(s, table) => cut_to(d, s, table, room),
+        Arrange::Cut(cuts) => cut_to(d, cuts, room),
         Arrange::Uncut => uncut(d),
-        Arrange::Set(k, v) => set(d, k, v),
+        Arrange::Set(field, v) => set(d, field, v),
     }
 }
 
 fn cleared_unless(d: Desk, s: Sizes, room: Sizes) -> Sizes
     ensures { result ≡ cleared_unless d s room }
 {
-    let old = d.sizes;
-    if beyond(s, room) { no_sizes() } else { old }
+    if beyond(s, room) {
+        Sizes::default()
+    } else {
+        d.sizes
+    }
 }
 
 // The lengths of what goes back to zero: the bytes beyond the sizes are zero between calls.
 fn cleared_by(d: Desk, a: Arrange, room: Sizes) -> Sizes
     ensures { result ≡ cleared_by d a room }
 {
-    let old = d.sizes;
     match a {
-        Arrange::Case => old,
+        Arrange::Case => d.sizes,
         Arrange::Sizes(s) => cleared_unless(d, s, room),
-        Arrange::Cut(_, _) => no_sizes(),
-        Arrange::Uncut => no_sizes(),
-        Arrange::Set(_, _) => no_sizes(),
+        Arrange::Cut(_) => Sizes::default(),
+        Arrange::Uncut => Sizes::default(),
+        Arrange::Set(_, _) => Sizes::default(),
     }
 }
 
@@ -118,7 +104,7 @@ pub fn arrange(
     reel: &mut [u8],
     table: &mut [u8],
     jrnl: &mut [u8],
-) -> Turn
+) -> Result<Turn, Fault>
     ensures turn { result ≡ arranged d a (room_of mem.old reel.old table.old jrnl.old) }
     ensures memory { mem.new ≡ wiped mem.old 0 (cleared_by d a (room_of mem.old reel.old table.old jrnl.old)).memory }
     ensures reel { reel.new ≡ wiped reel.old 0 (cleared_by d a (room_of mem.old reel.old table.old jrnl.old)).reel }
@@ -131,6 +117,13 @@ pub fn arrange(
         table: table.len(),
         journal: jrnl.len(),
     };
-    trim(no_sizes(), cleared_by(d, a, room), mem, reel, table, jrnl);
+    trim(
+        Sizes::default(),
+        cleared_by(d, a, room),
+        mem,
+        reel,
+        table,
+        jrnl,
+    );
     arrange_desk(d, a, room)
 }

@@ -10,7 +10,6 @@ pub use arranges::arrange;
 pub use builds::build;
 pub use desk::{Desk, fresh, handed, next_line, trim};
 use results::Told;
-use script::Fault;
 pub use tables::tabled;
 
 // What a line has printed.
@@ -20,10 +19,9 @@ pub enum Said {
     // The line itself.
     Itself,
     Result(Told),
-    Wrong(Fault),
 }
 
-// What a line came to.
+// What a line came to that could be taken.
 #[derive(Clone, Copy)]
 pub struct Turn {
     pub desk: Desk,

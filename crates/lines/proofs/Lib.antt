@@ -1,5 +1,4 @@
 -- The laws of lines, and of the bytes that they give.
-pub mod Asked
 pub mod Made
 pub mod Ruled
 pub mod Vectors

@@ -1,62 +1,55 @@
--- Laws of `named` and `within`: what word k settles, and what is left to the words before it.
-use mathlib.Core.Path.{◌≡◌, refl, ap, sym, ◌∙◌}
+-- Laws of `named` and `within`: they go down from the last word, a walk goes up to it.
+use mathlib.Core.Path.{◌≡◌, refl, ap, ◌∙◌}
 use mathlib.Core.Bool.{Bool, true, false, ◌&&◌, ◌||◌, not}
-use mathlib.Core.List.{List}
-use Prim.Native.Nat.{ℕ, zero, suc, ◌-◌, ◌≤◌, ◌<◌}
+use mathlib.Core.List.{List, [], ◌∷◌, ◌++◌}
+use Prim.Native.Nat.{ℕ, zero, suc, ◌+◌}
 use native.Mathlib.Omega.{arith}
-use Rattle.script.specs.declared.Value.{Value}
+use Rattle.std.specs.List.{list_all, list_any, range_with_len}
 use Rattle.lines.specs.Makes.{number_at}
 use Rattle.lines.specs.Starts.{has_word}
 use Rattle.lines.specs.Rules.{held_by, named, says, within}
 
-pub named_none : (t : List ℕ) (n k : ℕ) → k ≤ 0 → named t n k ≡ false
+-- one number more at a range's end
+last_of : (a n : ℕ) → range_with_len a (suc n) ≡ range_with_len a n ++ ((a + n) ∷ [])
+last_of a zero = let e : a + 0 ≡ a = omega arith in rw e
+last_of a (suc n) = let e : a + 1 + n ≡ a + suc n = omega arith in rw (last_of (a + 1) n, e)
+
+any_end : (p : ℕ → Bool) (l : List ℕ) (x : ℕ) → list_any p (l ++ (x ∷ [])) ≡ (p x || list_any p l)
+any_end p [] x = refl
+any_end p (y ∷ l) x = ap (λ (b : Bool). p y || b) (any_end p l x) ∙ swap (p y) (p x) (list_any p l)
+  where
+    swap : (a b c : Bool) → (a || (b || c)) ≡ (b || (a || c))
+    swap true true c = refl
+    swap true false c = refl
+    swap false b c = refl
+
+all_end : (p : ℕ → Bool) (l : List ℕ) (x : ℕ) → list_all p (l ++ (x ∷ [])) ≡ (p x && list_all p l)
+all_end p [] x = refl
+all_end p (y ∷ l) x = ap (λ (b : Bool). p y && b) (all_end p l x) ∙ swap (p y) (p x) (list_all p l)
+  where
+    swap : (a b c : Bool) → (a && (b && c)) ≡ (b && (a && c))
+    swap true b c = refl
+    swap false true c = refl
+    swap false false c = refl
+
+pub named_any : (t : List ℕ) (n k : ℕ) → list_any (λ j. says (number_at t j) n) (range_with_len 1 k) ≡ named t n k
 unfolding named
-named_none t n zero h = refl
-named_none t n (suc k) h = absurd (omega arith)
+named_any t n zero = refl
+named_any t n (suc k) =
+    let p = λ (j : ℕ). says (number_at t j) n in
+    let e : 1 + k ≡ suc k = omega arith in
+    ap (list_any p) (last_of 1 k)
+    ∙ any_end p (range_with_len 1 k) (1 + k)
+    ∙ ap (λ (b : Bool). p (1 + k) || b) (named_any t n k)
+    ∙ ap (λ (j : ℕ). p j || named t n k) e
 
--- word k of the line, as it was read, says n or not
-module _ (t : List ℕ) (n : ℕ) (v : Value) (x : Bool) where
-  named_by : (k : ℕ) → 0 < k → v ≡ number_at t k → x ≡ says v n → named t n k ≡ (x || named t n (k - 1))
-  unfolding named
-  named_by zero h e f = absurd (omega arith)
-  named_by (suc k) h e f =
-      let before : suc k - 1 ≡ k = omega arith in
-      rw (f, e, before)
-
-  module _ (k : ℕ) (h : 0 < k) (e : v ≡ number_at t k) (f : x ≡ says v n) where
-    pub named_stop : x ≡ true → named t n k ≡ true
-    named_stop s = named_by k h e f ∙ rw s
-
-    pub named_on : x ≡ false → named t n k ≡ named t n (k - 1)
-    named_on s = named_by k h e f ∙ rw s
-
-pub within_none : (a b : List ℕ) (k : ℕ) → k ≤ 0 → within a b k ≡ true
+pub within_all : (a b : List ℕ) (k : ℕ) → list_all (λ j. not (has_word a j) || held_by b (number_at a j)) (range_with_len 1 k) ≡ within a b k
 unfolding within
-within_none a b zero h = refl
-within_none a b (suc k) h = absurd (omega arith)
-
--- there is a word k or not, and what it says, as it was read, is held or not
-module _ (a b : List ℕ) (y : Bool) (v : Value) (x : Bool) where
-  within_by : (k : ℕ) → 0 < k → y ≡ has_word a k → v ≡ number_at a k → x ≡ held_by b v → within a b k ≡ ((not y || x) && within a b (k - 1))
-  unfolding within
-  within_by zero h e f g = absurd (omega arith)
-  within_by (suc k) h e f g =
-      let before : suc k - 1 ≡ k = omega arith in
-      rw (g, e, f, before)
-
-  module _ (k : ℕ) (h : 0 < k) (e : y ≡ has_word a k) (f : v ≡ number_at a k) (g : x ≡ held_by b v) where
-    pub within_stop : (y && not x) ≡ true → within a b k ≡ false
-    within_stop s = within_by k h e f g ∙ ap (λ (z : Bool). z && within a b (k - 1)) (not_held y x s)
-      where
-        not_held : (y x : Bool) → (y && not x) ≡ true → (not y || x) ≡ false
-        not_held true true s = sym s
-        not_held true false s = refl
-        not_held false x s = sym s
-
-    pub within_on : (y && not x) ≡ false → within a b k ≡ within a b (k - 1)
-    within_on s = within_by k h e f g ∙ ap (λ (z : Bool). z && within a b (k - 1)) (held y x s)
-      where
-        held : (y x : Bool) → (y && not x) ≡ false → (not y || x) ≡ true
-        held true true s = refl
-        held true false s = sym s
-        held false x s = refl
+within_all a b zero = refl
+within_all a b (suc k) =
+    let p = λ (j : ℕ). not (has_word a j) || held_by b (number_at a j) in
+    let e : 1 + k ≡ suc k = omega arith in
+    ap (list_all p) (last_of 1 k)
+    ∙ all_end p (range_with_len 1 k) (1 + k)
+    ∙ ap (λ (c : Bool). p (1 + k) && c) (within_all a b k)
+    ∙ ap (λ (j : ℕ). p j && within a b k) e

@@ -1,127 +1,115 @@
 // Lines that set the desk up.
-ghost use Rattle.std.specs.Prelude.{◌≡◌};
-ghost use Rattle.lines.specs.Arranging.{arranging, cut_line, field_of, lens_line, reel_bytes, set_line, set_to, sizes_line, table_bytes, too_wide};
+#![tactic(auto, unfolding(crate::specs::Arranging::sizes_line, crate::specs::Arranging::cut_line, crate::specs::Arranging::lens_line, crate::specs::Arranging::field_of, crate::specs::Arranging::field_words, crate::specs::Arranging::fields, crate::specs::Arranging::number_of, crate::specs::Arranging::set_to, crate::specs::Arranging::set_line))]
 
-use crate::makes::{arranges, wrong};
-use crate::texts::has_word;
-use crate::{Arrange, Line, Sizes};
-use lists::least;
-use script::{Fault, Three, Value, argument, find_word, numbers};
+ghost use Rattle.std.specs.Prelude.{◌≡◌};
+ghost use Rattle.lines.specs.Arranging.{cut_line, field_of, lens_line, set_line, set_to, sizes_line, too_wide};
+
+use crate::words::{has_word, named};
+use crate::{Arrange, Cuts, Does, Field, Line, Sizes};
+use script::{Fault, argument, nth, numbers};
 use tape::Geometry;
 
-// In bytes; no reel of the program has so many blocks that a cut matters.
-fn reel_bytes(blocks: usize) -> usize
-    ensures { result ≡ reel_bytes blocks }
-{
-    Geometry::BLOCK * least(blocks, 1000000)
-}
+// No reel of the program has so many blocks that a cut matters.
+const MOST_BLOCKS: usize = 1000000;
 
-// Eight bytes for each block, unless a line says another length.
-fn table_bytes(blocks: usize) -> usize
-    ensures { result ≡ table_bytes blocks }
-{
-    8 * least(blocks, 1000000)
-}
-
-fn sizes_line(text: &[u8]) -> Line
+// The table has eight bytes for each block, unless a line says another length.
+pub fn sizes_line(text: &[u8]) -> Result<Line, Fault>
     ensures { result ≡ sizes_line text.now }
 {
-    match numbers(text, 1, 3) {
-        Three::Wrong(f) => wrong(f),
-        Three::Are(m, b, j) => arranges(Arrange::Sizes(Sizes {
-            memory: m,
-            reel: reel_bytes(b),
-            table: table_bytes(b),
-            journal: j,
-        })),
-    }
+    let (memory, blocks, journal) = numbers(text, 1, 3)?;
+    let blocks = blocks.min(MOST_BLOCKS);
+    let sizes = Sizes {
+        memory,
+        reel: Geometry::BLOCK * blocks,
+        table: 8 * blocks,
+        journal,
+    };
+    Ok(Does::Arranges(Arrange::Sizes(sizes)).plain())
 }
 
 // Without a fourth number the table stays as it is.
-fn cut_line(text: &[u8], memory: usize, reel: usize, journal: usize) -> Line
+fn cut_line(text: &[u8], memory: usize, reel: usize, journal: usize) -> Result<Line, Fault>
     ensures { result ≡ cut_line text.now memory reel journal }
 {
-    if !has_word(text, 4) {
-        let s = Sizes {
-            memory,
-            reel,
-            table: 0,
-            journal,
-        };
-        return arranges(Arrange::Cut(s, false));
+    let mut cuts = Cuts {
+        memory,
+        reel,
+        journal,
+        table: None,
+    };
+    if has_word(text, 4) {
+        cuts.table = Some(argument(text, 4)?);
     }
-    match argument(text, 4) {
-        Value::Wrong(f) => wrong(f),
-        Value::Is(table) => {
-            let s = Sizes {
-                memory,
-                reel,
-                table,
-                journal,
-            };
-            arranges(Arrange::Cut(s, true))
-        }
-    }
+    Ok(Does::Arranges(Arrange::Cut(cuts)).plain())
 }
 
-fn lens_line(text: &[u8]) -> Line
+pub fn lens_line(text: &[u8]) -> Result<Line, Fault>
     ensures { result ≡ lens_line text.now }
 {
-    if find_word(b"off", text, 1) == 0 {
-        return arranges(Arrange::Uncut);
+    if nth(text, 1) == b"off".as_slice() {
+        return Ok(Does::Arranges(Arrange::Uncut).plain());
     }
-    match numbers(text, 1, 3) {
-        Three::Wrong(f) => wrong(f),
-        Three::Are(m, r, j) => cut_line(text, m, r, j),
-    }
+    let (memory, reel, journal) = numbers(text, 1, 3)?;
+    cut_line(text, memory, reel, journal)
 }
 
-fn field_in(text: &[u8]) -> usize
+const FIELDS: [Field; 24] = [
+    Field::Position,
+    Field::End,
+    Field::Pointer,
+    Field::Class,
+    Field::Rmr,
+    Field::Nxm,
+    Field::Nba,
+    Field::Ssr,
+    Field::Online,
+    Field::Locked,
+    Field::Vck,
+    Field::UnitOwns,
+    Field::Pending,
+    Field::Eai,
+    Field::Ess,
+    Field::Enb,
+    Field::Address,
+    Field::Length,
+    Field::ReleaseIe,
+    Field::Used,
+    Field::Objects,
+    Field::Memory,
+    Field::Blocks,
+    Field::Journal,
+];
+
+fn field_in(text: &[u8]) -> Result<Field, Fault>
     ensures { result ≡ field_of text.now }
 {
-    find_word(
+    named(
         b"pos end ptr class rmr nxm nba ssr online lock vck unit_owns attn eai ess enb msgaddr msglen release_ie used objects memlen reelblocks jrnllen",
+        &FIELDS,
         text,
         1,
     )
 }
 
-// Is v more than field k of the state can hold? The message buffer's address and length have 32 bits.
-fn too_wide(k: usize, v: usize) -> bool
-    ensures { result ≡ too_wide k v }
+// Is v more than the field can hold? The message buffer's address and length have 32 bits.
+fn too_wide(field: Field, v: usize) -> bool
+    ensures { result ≡ too_wide field v }
 {
-    ((k == 16) | (k == 17)) & (4294967295 < v)
+    matches!(field, Field::Address | Field::Length) && u32::try_from(v).is_err()
 }
 
-fn set_to(k: usize, v: usize) -> Line
-    ensures { result ≡ set_to k v }
+fn set_to(field: Field, v: usize) -> Result<Line, Fault>
+    ensures { result ≡ set_to field v }
 {
-    if 23 < k {
-        return wrong(Fault::UnknownWord);
+    if too_wide(field, v) {
+        return Err(Fault::NumberTooLarge);
     }
-    if too_wide(k, v) {
-        return wrong(Fault::NumberTooLarge);
-    }
-    arranges(Arrange::Set(k, v))
+    Ok(Does::Arranges(Arrange::Set(field, v)).plain())
 }
 
-fn set_line(text: &[u8]) -> Line
+pub fn set_line(text: &[u8]) -> Result<Line, Fault>
     ensures { result ≡ set_line text.now }
 {
-    match argument(text, 2) {
-        Value::Wrong(f) => wrong(f),
-        Value::Is(v) => set_to(field_in(text), v),
-    }
-}
-
-// Lines 0 to 3 of the list of words.
-pub fn arrange_line(text: &[u8], k: usize) -> Line
-    ensures { result ≡ arranging text.now k }
-{
-    match k {
-        0 => arranges(Arrange::Case),
-        1 => sizes_line(text),
-        2 => lens_line(text),
-        _ => set_line(text),
-    }
+    let v = argument(text, 2)?;
+    set_to(field_in(text)?, v)
 }

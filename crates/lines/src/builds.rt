@@ -1,82 +1,54 @@
 // Lines that put bytes into memory or reel with no call.
+#![tactic(auto, unfolding(crate::specs::Building::poke_line, crate::specs::Building::poke_reel_line, crate::specs::Building::word_line, crate::specs::Building::sum_line, crate::specs::Building::record_line, crate::specs::Building::made_line))]
+
 ghost use Rattle.std.specs.Prelude.{◌≡◌};
-ghost use Rattle.lines.specs.Building.{laying, made_line, poke_line, poking, record_line, sum_line, word_line};
+ghost use Rattle.lines.specs.Building.{made_line, poke_line, poke_reel_line, record_line, sum_line, word_line};
 
-use crate::makes::{builds, wrong};
-use crate::texts::has_word;
-use crate::{Build, Given, Line};
-use script::{Fault, Three, Value, argument, numbers};
+use crate::words::has_word;
+use crate::{Build, Does, Given, Line};
+use script::{Fault, argument, numbers};
 
-fn poke_line(text: &[u8], reel: bool) -> Line
-    ensures { result ≡ poke_line text.now reel }
+pub // Kept: two lines each, here and in tables.rt; one for all would take a closure for the constructor.
+fn poke_line(text: &[u8]) -> Result<Line, Fault>
+    ensures { result ≡ poke_line text.now }
 {
-    match argument(text, 1) {
-        Value::Wrong(f) => wrong(f),
-        Value::Is(at) => {
-            if reel {
-                return builds(Build::PokeReel(at), Given::Word(2));
-            }
-            builds(Build::Poke(at), Given::Word(2))
-        }
-    }
+    let at = argument(text, 1)?;
+    Ok(Does::Builds(Build::Poke(at)).giving(Given::Word(2)))
 }
 
-fn word_line(text: &[u8]) -> Line
+pub fn poke_reel_line(text: &[u8]) -> Result<Line, Fault>
+    ensures { result ≡ poke_reel_line text.now }
+{
+    let at = argument(text, 1)?;
+    Ok(Does::Builds(Build::PokeReel(at)).giving(Given::Word(2)))
+}
+
+pub fn word_line(text: &[u8]) -> Result<Line, Fault>
     ensures { result ≡ word_line text.now }
 {
-    match numbers(text, 1, 2) {
-        Three::Wrong(f) => wrong(f),
-        Three::Are(at, w, _) => builds(Build::PokeWord(at, w), Given::Nothing),
-    }
+    let (at, w, _) = numbers(text, 1, 2)?;
+    Ok(Does::Builds(Build::PokeWord(at, w)).plain())
 }
 
-fn sum_line(text: &[u8]) -> Line
+pub fn sum_line(text: &[u8]) -> Result<Line, Fault>
     ensures { result ≡ sum_line text.now }
 {
-    match argument(text, 1) {
-        Value::Wrong(f) => wrong(f),
-        Value::Is(k) => builds(Build::FixSum(k), Given::Nothing),
-    }
+    let k = argument(text, 1)?;
+    Ok(Does::Builds(Build::FixSum(k)).plain())
 }
 
-// Lines 4 to 7.
-pub fn poke_lines(text: &[u8], k: usize) -> Line
-    ensures { result ≡ poking text.now k }
-{
-    match k {
-        4 => poke_line(text, false),
-        5 => word_line(text),
-        6 => poke_line(text, true),
-        _ => sum_line(text),
-    }
-}
-
-fn record_line(text: &[u8]) -> Line
+pub fn record_line(text: &[u8]) -> Result<Line, Fault>
     ensures { result ≡ record_line text.now }
 {
     if has_word(text, 1) {
-        return builds(Build::Record, Given::Word(1));
+        return Ok(Does::Builds(Build::Record).giving(Given::Word(1)));
     }
-    wrong(Fault::WordMissing)
+    Err(Fault::WordMissing)
 }
 
-fn made_line(text: &[u8]) -> Line
+pub fn made_line(text: &[u8]) -> Result<Line, Fault>
     ensures { result ≡ made_line text.now }
 {
-    match numbers(text, 1, 2) {
-        Three::Wrong(f) => wrong(f),
-        Three::Are(n, seed, _) => builds(Build::Record, Given::Made(n, seed)),
-    }
-}
-
-// Lines 8 to 11.
-pub fn lay_line(text: &[u8], k: usize) -> Line
-    ensures { result ≡ laying text.now k }
-{
-    match k {
-        8 => record_line(text),
-        9 => made_line(text),
-        10 => builds(Build::Mark, Given::Nothing),
-        _ => builds(Build::Gap, Given::Nothing),
-    }
+    let (n, seed, _) = numbers(text, 1, 2)?;
+    Ok(Does::Builds(Build::Record).giving(Given::Made(n, seed)))
 }

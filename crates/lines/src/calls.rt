@@ -1,115 +1,73 @@
 // Call lines.
-ghost use Rattle.std.specs.Prelude.{◌≡◌};
-ghost use Rattle.lines.specs.Calling.{calling, end_of, host_line, hostn_line, mount_line, op_line, reg_line, tsdb_line, tsdb_to, tssr_line};
+#![tactic(auto, unfolding(crate::specs::Calling::end_of, crate::specs::Calling::mount_line, crate::specs::Calling::tsdb_line, crate::specs::Calling::tssr_line, crate::specs::Calling::reg_line, crate::specs::Calling::op_line, crate::specs::Calling::host_line, crate::specs::Calling::hostn_line))]
 
-use crate::makes::{asks, calls, wrong};
-use crate::{Ask, Call, Given, Line};
-use script::{Fault, Three, Value, argument, find_word, numbers};
+ghost use Rattle.std.specs.Prelude.{◌≡◌};
+ghost use Rattle.lines.specs.Calling.{end_of, host_line, hostn_line, mount_line, op_line, reg_line, tsdb_line, tssr_line};
+
+use crate::makes::asks;
+use crate::words::named;
+use crate::{Ask, Call, Does, Given, Line};
+use script::{Fault, argument, nth, numbers};
 use state::Act;
 
-fn end_in(text: &[u8], cursor: usize) -> Value
+fn end_in(text: &[u8], cursor: usize) -> Result<usize, Fault>
     ensures { result ≡ end_of text.now cursor }
 {
-    if find_word(b"cursor", text, 1) == 0 {
-        return Value::Is(cursor);
+    if nth(text, 1) == b"cursor".as_slice() {
+        return Ok(cursor);
     }
     argument(text, 1)
 }
 
-fn mount_line(text: &[u8], cursor: usize) -> Line
+pub fn mount_line(text: &[u8], cursor: usize) -> Result<Line, Fault>
     ensures { result ≡ mount_line text.now cursor }
 {
-    match end_in(text, cursor) {
-        Value::Wrong(f) => wrong(f),
-        Value::Is(e) => match numbers(text, 2, 3) {
-            Three::Wrong(f) => wrong(f),
-            Three::Are(online, locked, _) => {
-                calls(Call::Mount(e, online != 0, locked != 0), Given::Nothing)
-            }
-        },
-    }
+    let end = end_in(text, cursor)?;
+    let (online, locked, _) = numbers(text, 2, 3)?;
+    Ok(Does::Calls(Call::Mount(end, online != 0, locked != 0)).plain())
 }
 
-fn tsdb_to(w: usize) -> Line
-    ensures { result ≡ tsdb_to w }
-{
-    if 65535 < w {
-        return wrong(Fault::NumberTooLarge);
-    }
-    asks(Ask::WriteTsdb(w as u16), Given::Nothing)
-}
-
-fn tsdb_line(text: &[u8]) -> Line
+pub fn tsdb_line(text: &[u8]) -> Result<Line, Fault>
     ensures { result ≡ tsdb_line text.now }
 {
-    match argument(text, 1) {
-        Value::Wrong(f) => wrong(f),
-        Value::Is(w) => tsdb_to(w),
-    }
+    let w = argument(text, 1)?;
+    let word = u16::try_from(w).map_err(|_| Fault::NumberTooLarge)?;
+    Ok(asks(Ask::WriteTsdb(word), Given::Nothing))
 }
 
-fn tssr_line(text: &[u8]) -> Line
+pub fn tssr_line(text: &[u8]) -> Result<Line, Fault>
     ensures { result ≡ tssr_line text.now }
 {
-    match argument(text, 1) {
-        Value::Wrong(f) => wrong(f),
-        Value::Is(_) => asks(Ask::WriteTssr, Given::Nothing),
-    }
+    let _ = argument(text, 1)?;
+    Ok(asks(Ask::WriteTssr, Given::Nothing))
 }
 
-fn reg_line(text: &[u8]) -> Line
+pub fn reg_line(text: &[u8]) -> Result<Line, Fault>
     ensures { result ≡ reg_line text.now }
 {
-    match find_word(b"tsba tssr", text, 1) {
-        0 => calls(Call::ReadTsba, Given::Nothing),
-        1 => calls(Call::ReadTssr, Given::Nothing),
-        _ => wrong(Fault::UnknownWord),
-    }
+    let registers = [Call::ReadTsba, Call::ReadTssr];
+    let read = named(b"tsba tssr", &registers, text, 1)?;
+    Ok(Does::Calls(read).plain())
 }
 
-fn op_line(text: &[u8]) -> Line
+pub fn op_line(text: &[u8]) -> Result<Line, Fault>
     ensures { result ≡ op_line text.now }
 {
-    match find_word(b"on off lock unlock", text, 1) {
-        0 => asks(Ask::Operate(Act::OnLine), Given::Nothing),
-        1 => asks(Ask::Operate(Act::OffLine), Given::Nothing),
-        2 => asks(Ask::Operate(Act::Lock), Given::Nothing),
-        3 => asks(Ask::Operate(Act::Unlock), Given::Nothing),
-        _ => wrong(Fault::UnknownWord),
-    }
+    let acts = [Act::OnLine, Act::OffLine, Act::Lock, Act::Unlock];
+    let act = named(b"on off lock unlock", &acts, text, 1)?;
+    Ok(asks(Ask::Operate(act), Given::Nothing))
 }
 
-fn host_line(text: &[u8]) -> Line
+pub fn host_line(text: &[u8]) -> Result<Line, Fault>
     ensures { result ≡ host_line text.now }
 {
-    match argument(text, 1) {
-        Value::Wrong(f) => wrong(f),
-        Value::Is(at) => asks(Ask::HostStore(at), Given::Word(2)),
-    }
+    let at = argument(text, 1)?;
+    Ok(asks(Ask::HostStore(at), Given::Word(2)))
 }
 
-fn hostn_line(text: &[u8]) -> Line
+pub fn hostn_line(text: &[u8]) -> Result<Line, Fault>
     ensures { result ≡ hostn_line text.now }
 {
-    match numbers(text, 1, 3) {
-        Three::Wrong(f) => wrong(f),
-        Three::Are(at, n, seed) => asks(Ask::HostStore(at), Given::Made(n, seed)),
-    }
-}
-
-// Lines 12 to 20.
-pub fn call_line(text: &[u8], k: usize, cursor: usize) -> Line
-    ensures { result ≡ calling text.now k cursor }
-{
-    match k {
-        12 => mount_line(text, cursor),
-        13 => tsdb_line(text),
-        14 => tssr_line(text),
-        15 => reg_line(text),
-        16 => op_line(text),
-        17 => host_line(text),
-        18 => hostn_line(text),
-        19 => asks(Ask::Advance, Given::Nothing),
-        _ => calls(Call::StepBack, Given::Nothing),
-    }
+    let (at, n, seed) = numbers(text, 1, 3)?;
+    Ok(asks(Ask::HostStore(at), Given::Made(n, seed)))
 }

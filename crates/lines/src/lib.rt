@@ -9,14 +9,15 @@ mod makes;
 mod rules;
 mod tables;
 mod texts;
+mod verbs;
+mod words;
 
 pub use gives::fill;
-use script::Fault;
 use state::Act;
 pub use texts::line_of;
 
 // In bytes.
-#[derive(Clone, Copy)]
+#[derive(Clone, Copy, Default)]
 pub struct Sizes {
     pub memory: usize,
     pub reel: usize,
@@ -24,16 +25,53 @@ pub struct Sizes {
     pub journal: usize,
 }
 
+// The lengths that the calls are handed, the table's as it is where none is said.
+#[derive(Clone, Copy)]
+pub struct Cuts {
+    pub memory: usize,
+    pub reel: usize,
+    pub journal: usize,
+    pub table: Option<usize>,
+}
+
+// What of a session a line can set, in the order of its words.
+#[derive(Clone, Copy)]
+pub enum Field {
+    Position,
+    End,
+    Pointer,
+    Class,
+    Rmr,
+    Nxm,
+    Nba,
+    Ssr,
+    Online,
+    Locked,
+    Vck,
+    UnitOwns,
+    Pending,
+    Eai,
+    Ess,
+    Enb,
+    Address,
+    Length,
+    ReleaseIe,
+    Used,
+    Objects,
+    Memory,
+    Blocks,
+    Journal,
+}
+
 // Lines that set the desk up.
 #[derive(Clone, Copy)]
 pub enum Arrange {
     Case,
     Sizes(Sizes),
-    // Whether the table is cut with the rest.
-    Cut(Sizes, bool),
+    Cut(Cuts),
     Uncut,
-    // A field of the session by its number, and what it is made.
-    Set(usize, usize),
+    // A field of the session, and what it is made.
+    Set(Field, usize),
 }
 
 // Lines that put bytes into memory or reel with no call: at a place, in a block, or at the cursor.
@@ -83,7 +121,6 @@ pub enum Does {
     Builds(Build),
     Tables(Table),
     Calls(Call),
-    Wrong(Fault),
 }
 
 // The bytes that a line gives: none, those of a word, or so many made from a seed.

@@ -1,53 +1,26 @@
 // A line made of what it does and the bytes that it gives.
 ghost use Rattle.std.specs.Prelude.{◌≡◌};
-ghost use Rattle.lines.specs.Makes.{arranges_line, asks_line, builds_line, calls_line, plain_line, tables_line, wrong_line};
+ghost use Rattle.lines.specs.Makes.{asks_line, plain_line};
 
-use crate::{Arrange, Ask, Build, Call, Does, Given, Line, Table};
-use script::Fault;
+use crate::{Ask, Call, Does, Given, Line};
 
-// A line that gives no bytes.
-pub fn plain(does: Does) -> Line
-    ensures { result ≡ plain_line does }
-{
-    let given = Given::Nothing;
-    Line { does, given }
+impl Does {
+    pub(crate) fn giving(self, given: Given) -> Line
+        ensures { result ≡ record { does = self; given = given } }
+    {
+        Line { does: self, given }
+    }
+
+    // With no bytes.
+    pub(crate) fn plain(self) -> Line
+        ensures { result ≡ plain_line self }
+    {
+        self.giving(Given::Nothing)
+    }
 }
 
-pub fn wrong(f: Fault) -> Line
-    ensures { result ≡ wrong_line f }
+pub fn asks(ask: Ask, given: Given) -> Line
+    ensures { result ≡ asks_line ask given }
 {
-    plain(Does::Wrong(f))
-}
-
-pub fn arranges(a: Arrange) -> Line
-    ensures { result ≡ arranges_line a }
-{
-    plain(Does::Arranges(a))
-}
-
-pub fn builds(b: Build, given: Given) -> Line
-    ensures { result ≡ builds_line b given }
-{
-    let does = Does::Builds(b);
-    Line { does, given }
-}
-
-pub fn tables(t: Table, given: Given) -> Line
-    ensures { result ≡ tables_line t given }
-{
-    let does = Does::Tables(t);
-    Line { does, given }
-}
-
-pub fn calls(c: Call, given: Given) -> Line
-    ensures { result ≡ calls_line c given }
-{
-    let does = Does::Calls(c);
-    Line { does, given }
-}
-
-pub fn asks(a: Ask, given: Given) -> Line
-    ensures { result ≡ asks_line a given }
-{
-    calls(Call::Step(a), given)
+    Does::Calls(Call::Step(ask)).giving(given)
 }

@@ -1,22 +1,22 @@
 // Lines about the table beside the reel, with no call.
+#![tactic(auto, unfolding(crate::specs::Tabling::index_line, crate::specs::Tabling::poke_table_line))]
+
 ghost use Rattle.std.specs.Prelude.{◌≡◌};
-ghost use Rattle.lines.specs.Tabling.{tabling};
+ghost use Rattle.lines.specs.Tabling.{index_line, poke_table_line};
 
-use crate::makes::{tables, wrong};
-use crate::{Given, Line, Table};
-use script::{Value, argument};
+use crate::{Does, Given, Line, Table};
+use script::{Fault, argument};
 
-// Lines 22 and 23: both begin with a number.
-pub fn table_line(text: &[u8], k: usize) -> Line
-    ensures { result ≡ tabling text.now k }
+pub fn index_line(text: &[u8]) -> Result<Line, Fault>
+    ensures { result ≡ index_line text.now }
 {
-    match argument(text, 1) {
-        Value::Wrong(f) => wrong(f),
-        Value::Is(n) => {
-            if k == 22 {
-                return tables(Table::Index(n), Given::Nothing);
-            }
-            tables(Table::Poke(n), Given::Word(2))
-        }
-    }
+    let n = argument(text, 1)?;
+    Ok(Does::Tables(Table::Index(n)).plain())
+}
+
+pub fn poke_table_line(text: &[u8]) -> Result<Line, Fault>
+    ensures { result ≡ poke_table_line text.now }
+{
+    let at = argument(text, 1)?;
+    Ok(Does::Tables(Table::Poke(at)).giving(Given::Word(2)))
 }

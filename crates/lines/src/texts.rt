@@ -1,110 +1,62 @@
 // A line by its words.
-ghost use Rattle.std.specs.Prelude.{◌≡◌, ◌<◌};
-ghost use Rattle.lines.specs.Lines.{line_by, line_from, line_of};
-ghost use Rattle.lines.specs.Starts.{has_word, most_words, start_of};
+#![tactic(auto, unfolding(crate::specs::Lines::line_by, crate::specs::Lines::line_from, crate::specs::Lines::line_of))]
 
-use crate::arranges::arrange_line;
-use crate::builds::{lay_line, poke_lines};
-use crate::calls::call_line;
-use crate::makes::{plain, wrong};
+ghost use Rattle.std.specs.Prelude.{◌≡◌};
+ghost use Rattle.lines.specs.Lines.{line_by, line_of};
+
+use crate::arranges::{lens_line, set_line, sizes_line};
+use crate::builds::{made_line, poke_line, poke_reel_line, record_line, sum_line, word_line};
+use crate::calls::{host_line, hostn_line, mount_line, op_line, reg_line, tsdb_line, tssr_line};
+use crate::makes::asks;
 use crate::rules::rules_line;
-use crate::tables::table_line;
-use crate::{Does, Line};
-use script::{Fault, find_word, nth};
+use crate::tables::{index_line, poke_table_line};
+use crate::verbs::Verb;
+use crate::words::has_word;
+use crate::{Arrange, Ask, Build, Call, Does, Given, Line};
+use script::Fault;
 
-// The words that a line may start with, in the order of the tables here.
-fn first_word(text: &[u8]) -> usize
-    ensures { result ≡ start_of text.now }
+// The line by its first word.
+fn line_by(text: &[u8], verb: Verb, cursor: usize) -> Result<Line, Fault>
+    ensures { result ≡ line_by text.now verb cursor }
 {
-    find_word(
-        b"case sizes lens set poke word pokereel fixsum R RN M G mount tsdb tssr reg op host hostn adv back rules index poketable",
-        text,
-        0,
-    )
-}
-
-// How many words a line may have that starts with word k of them.
-fn most_words(k: usize) -> usize
-    requires { k < 24 }
-    ensures { result ≡ most_words k }
-{
-    let most: [usize; 24] = [
-        4096, // case
-        4, // sizes
-        5, // lens
-        3, // set
-        3, // poke
-        3, // word
-        3, // pokereel
-        2, // fixsum
-        2, // R
-        3, // RN
-        1, // M
-        1, // G
-        4, // mount
-        2, // tsdb
-        2, // tssr
-        2, // reg
-        2, // op
-        3, // host
-        4, // hostn
-        1, // adv
-        1, // back
-        15, // rules
-        2, // index
-        3, // poketable
-    ];
-    most[k]
-}
-
-pub fn has_word(text: &[u8], k: usize) -> bool
-    ensures { result ≡ has_word text.now k }
-{
-    let s = nth(text, k);
-    s.start < s.end
-}
-
-// The line whose first word is number k of the list.
-fn line_by(text: &[u8], k: usize, cursor: usize) -> Line
-    ensures { result ≡ line_by text.now k cursor }
-{
-    if k < 4 {
-        return arrange_line(text, k);
+    match verb {
+        Verb::Case => Ok(Does::Arranges(Arrange::Case).plain()),
+        Verb::Sizes => sizes_line(text),
+        Verb::Lens => lens_line(text),
+        Verb::Set => set_line(text),
+        Verb::Poke => poke_line(text),
+        Verb::Word => word_line(text),
+        Verb::PokeReel => poke_reel_line(text),
+        Verb::FixSum => sum_line(text),
+        Verb::Record => record_line(text),
+        Verb::Made => made_line(text),
+        Verb::Mark => Ok(Does::Builds(Build::Mark).plain()),
+        Verb::Gap => Ok(Does::Builds(Build::Gap).plain()),
+        Verb::Mount => mount_line(text, cursor),
+        Verb::Tsdb => tsdb_line(text),
+        Verb::Tssr => tssr_line(text),
+        Verb::Reg => reg_line(text),
+        Verb::Op => op_line(text),
+        Verb::Host => host_line(text),
+        Verb::HostMade => hostn_line(text),
+        Verb::Advance => Ok(asks(Ask::Advance, Given::Nothing)),
+        Verb::Back => Ok(Does::Calls(Call::StepBack).plain()),
+        Verb::Rules => rules_line(text),
+        Verb::Index => index_line(text),
+        Verb::PokeTable => poke_table_line(text),
     }
-    if k < 8 {
-        return poke_lines(text, k);
-    }
-    if k < 12 {
-        return lay_line(text, k);
-    }
-    if k < 21 {
-        return call_line(text, k, cursor);
-    }
-    if k == 21 {
-        return rules_line(text);
-    }
-    table_line(text, k)
-}
-
-// A line that starts with word k of the list, or with none of them.
-fn line_from(text: &[u8], k: usize, cursor: usize) -> Line
-    ensures { result ≡ line_from text.now k cursor }
-{
-    if 23 < k {
-        return wrong(Fault::UnknownWord);
-    }
-    if has_word(text, most_words(k)) {
-        return wrong(Fault::ExtraWord);
-    }
-    line_by(text, k, cursor)
 }
 
 // A line with no comment, while the cursor is at that block.
-pub fn line_of(text: &[u8], cursor: usize) -> Line
+pub fn line_of(text: &[u8], cursor: usize) -> Result<Line, Fault>
     ensures { result ≡ line_of text.now cursor }
 {
-    if has_word(text, 0) {
-        return line_from(text, first_word(text), cursor);
+    if !has_word(text, 0) {
+        return Ok(Does::Nothing.plain());
     }
-    plain(Does::Nothing)
+    let verb = Verb::of(text)?;
+    if has_word(text, verb.most_words()) {
+        return Err(Fault::ExtraWord);
+    }
+    line_by(text, verb, cursor)
 }

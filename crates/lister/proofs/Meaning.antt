@@ -13,10 +13,9 @@ use Rattle.tape.specs.Meeting.{met_as}
 use Rattle.tape.specs.Numbers.{block_bytes}
 use Rattle.tape.specs.Objects.{Holds, Object, blocks_in, blocks_of, gap, mark, record_of}
 use Rattle.tape.specs.Sweep.{swept_below}
-use Rattle.tape.specs.declared.Image.{Image}
-use Rattle.tape.specs.declared.Image.TheVariants as image
-use Rattle.tape.specs.declared.Swept.{Swept}
-use Rattle.tape.specs.declared.Swept.TheVariants as swept
+use Rattle.tape.specs.declared.ImageFault.{ImageFault}
+use Rattle.tape.specs.declared.ImageFault.TheVariants as image
+use Rattle.tape.specs.Sweep.{Swept}
 use Rattle.tape.proofs.Images.{blocks_append, one_or_more}
 use Rattle.tape.proofs.Passes.{allowed_at, forward_ends, forward_meets}
 use Rattle.tape.proofs.Blame.{swept_wrong}
@@ -24,6 +23,8 @@ use Rattle.tape.proofs.Sweeps.{swept_whole, whole_swept}
 use Rattle.reel.proofs.Examined.{image_long, image_ragged, image_swept_lem}
 use Rattle.lister.specs.Lines.{letter_e, line_of, lines_of, number_line}
 use Rattle.lister.specs.Listed.{Listing, bad, lines_from, listed, listed_as, met_line, met_next, not_whole, objects, too_long}
+use Rattle.std.specs.Prelude.{Result, Ok, Err}
+use Rattle.tape.specs.Damage.{damage}
 
 -- an object met is listed by its line, and the next is met beyond it
 line_met : (o : Object) (p q : ℕ) → met_line p (met_as o q) ≡ line_of p o
@@ -61,34 +62,34 @@ module _ (s : List ℕ) (e : ℕ) where
   lines_objects {os} h = lines_met e [] os h (omega (arith, h.ends))
 
 module _ (s : List ℕ) where
-  listed_by : (i : Image) → i ≡ examined s → listed_as s i ≡ listed s
+  listed_by : (i : Result ℕ ImageFault) → i ≡ examined s → listed_as s i ≡ listed s
   unfolding listed
   listed_by i e = ap (listed_as s) e
 
-  image_whole : (e : ℕ) → length s ≤ image_limit → block_bytes * e ≡ length s → swept_below s e ≡ swept.Whole → image.Whole e ≡ examined s
+  image_whole : (e : ℕ) → length s ≤ image_limit → block_bytes * e ≡ length s → swept_below s e ≡ Ok tt → Ok e ≡ examined s
   unfolding image_swept
   image_whole e h k w =
       let q : length s / block_bytes ≡ e = omega arith in
-      image_swept_lem s {w = swept.Whole} h (omega arith) (rw q (sym w)) (ap image.Whole (sym q))
+      image_swept_lem s {w = Ok tt} h (omega arith) (rw q (sym w)) (ap Ok (sym q))
 
   -- no other text is a listing of the image
   pub listed_one : (t : List ℕ) → Listing s t → t ≡ listed s
   unfolding listed_as
-  listed_one t (objects os e h k holds) = ap (λ (l : List ℕ). l ++ number_line letter_e e) (sym (lines_objects s e holds)) ∙ listed_by (image.Whole e) (image_whole e h k (swept_whole s e holds))
-  listed_one t (too_long h) = listed_by image.TooLong (image_long s h)
-  listed_one t (not_whole h k) = listed_by image.NotWhole (image_ragged s h k)
-  listed_one t (bad why k x e) = listed_by (image.Bad why k) (sym e)
+  listed_one t (objects os e h k holds) = ap (λ (l : List ℕ). l ++ number_line letter_e e) (sym (lines_objects s e holds)) ∙ listed_by (Ok e) (image_whole e h k (swept_whole s e holds))
+  listed_one t (too_long h) = listed_by (Err image.TooLong) (image_long s h)
+  listed_one t (not_whole h k) = listed_by (Err image.NotWhole) (image_ragged s h k)
+  listed_one t (bad why k x e) = listed_by (Err (image.Bad (damage why k))) (sym e)
 
   listed_as_lem : (t : List ℕ) → Listing s t → Listing s (listed s)
   listed_as_lem t l = rw (listed_one t l) at l
 
   listed_swept : (w : Swept) → Bytes s → length s ≤ image_limit → length s % block_bytes ≡ 0 → w ≡ swept_below s (length s / block_bytes) → Listing s (listed s)
   unfolding image_swept
-  listed_swept swept.Whole b h k w =
+  listed_swept (Ok u) b h k w =
       let e : ℕ = length s / block_bytes in
       let well = whole_swept s e b (sym w) in
       listed_as_lem _ (objects well.0 e h (omega arith) well.1)
-  listed_swept (swept.Bad why i) b h k w = listed_as_lem _ (bad why i (swept_wrong s (length s / block_bytes) (sym w)) (sym (image_swept_lem s h k w refl)))
+  listed_swept (Err d) b h k w = listed_as_lem _ (bad d.fault d.block (swept_wrong s (length s / block_bytes) (sym w)) (sym (image_swept_lem s h k w refl)))
 
   -- the bytes that the program prints are the image's listing
   pub listed_is : Bytes s → Listing s (listed s)

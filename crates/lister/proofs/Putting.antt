@@ -3,6 +3,7 @@ use mathlib.Core.Path.{◌≡◌, ap, ◌∙◌}
 use mathlib.Core.Bool.{false}
 use mathlib.Core.List.{List, [], ◌∷◌, ◌++◌, append_assoc}
 use Prim.Native.Nat.{ℕ, suc, ◌-◌, ◌≤◌}
+use native.Mathlib.Nat.{sub-zero}
 use native.Mathlib.Omega.{arith}
 use lib.ListN.{length, take}
 use lib.Seq.{length-sets, sets, take_all, take-nil}
@@ -11,11 +12,13 @@ use Rattle.script.specs.Prints.{Put}
 use Rattle.script.proofs.Printed.{put_more}
 use Rattle.tape.specs.Listing.{examined}
 use Rattle.tape.specs.Pass.{passed}
-use Rattle.tape.specs.declared.Image.{Image}
+use Rattle.tape.specs.declared.ImageFault.{ImageFault}
 use Rattle.tape.specs.declared.Met.{Met}
 use Rattle.lister.specs.Lines.{decimal, record_line}
 use Rattle.lister.specs.Listed.{lines_from, listed, listed_as, listing_limit, met_line, met_next}
 use Rattle.lister.proofs.Short.{listed_short}
+use Rattle.std.specs.Prelude.{Result}
+use Rattle.tape.specs.declared.Damage.{Damage}
 
 -- no text puts nothing
 pub put_nothing : (o : List ℕ) (at : ℕ) → Put o at [] o at
@@ -33,8 +36,11 @@ module _ {o o' o'' : List ℕ} {at n r : ℕ} where
 abbrev pub Left : List ℕ → List ℕ → ℕ → List ℕ → ℕ → ℕ → ℕ → Type 0
 Left o s e out at p turns = (o' : List ℕ) (r : ℕ) → Put out at (lines_from turns s p e) o' r → Put o 0 (lines_from e s 0 e) o' r
 
+pub left_all : (o s : List ℕ) (e : ℕ) → Left o s e o 0 0 (e - 0)
+left_all o s e o' r put = rw (sub-zero e) at put
+
 module _ (o s : List ℕ) (e : ℕ) (out : List ℕ) (at p turns : ℕ) (left : Left o s e out at p turns) where
-  pub left_more : (m : Met) (out' : List ℕ) (at' q more : ℕ) → turns ≡ suc more → m ≡ passed s false p e → Put out at (met_line p m) out' at' → q ≡ met_next e m → Left o s e out' at' q more
+  pub left_more : (m : Result Met Damage) (out' : List ℕ) (at' q more : ℕ) → turns ≡ suc more → m ≡ passed s false p e → Put out at (met_line p m) out' at' → q ≡ met_next e m → Left o s e out' at' q more
   unfolding lines_from
   left_more m out' at' q more t y put z o' r rest =
       left o' r (rw (t, ← y, ← z) (put_more _ _ _ _ _ _ _ _ put rest))
@@ -44,7 +50,7 @@ module _ (o s : List ℕ) (e : ℕ) (out : List ℕ) (at p turns : ℕ) (left : 
   left_none t = left out at (rw t (put_nothing out at))
 
 -- the listing goes by what the image was examined to be
-pub put_listed : (s : List ℕ) {o o' : List ℕ} {r : ℕ} {x i : Image} → x ≡ examined s → x ≡ i → Put o 0 (listed_as s i) o' r → Put o 0 (listed s) o' r
+pub put_listed : (s : List ℕ) {o o' : List ℕ} {r : ℕ} {x i : Result ℕ ImageFault} → x ≡ examined s → x ≡ i → Put o 0 (listed_as s i) o' r → Put o 0 (listed s) o' r
 unfolding listed
 put_listed s e x p = rw (← e, x) p
 

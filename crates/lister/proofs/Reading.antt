@@ -9,7 +9,7 @@ use borrow.Author.Tests.{ltb-false, ltb-true}
 use lib.Dec.{ltb}
 use Rattle.lists.proofs.Cases.{by_test}
 use Rattle.tape.specs.Listing.{image_limit}
-use Rattle.tape.specs.declared.Image.TheVariants as image
+use Rattle.tape.specs.declared.ImageFault.TheVariants as image
 use Rattle.reel.proofs.Examined.{image_long}
 use Rattle.lister.specs.Listed.{listed, listed_as}
 
@@ -40,7 +40,7 @@ got_end (Some x) (Some y) new n p h e =
     let all : x ≡ take n new = p ∙ rw (e, append-nil) in
     sym (rw all (take_all (length new) (take n new) (omega arith)))
 
-long_listed : (s : List ℕ) → image_limit < length s → listed_as s image.TooLong ≡ listed s
+long_listed : (s : List ℕ) → image_limit < length s → listed_as s (Err image.TooLong) ≡ listed s
 unfolding listed
 long_listed s h = ap (listed_as s) (image_long s h)
 

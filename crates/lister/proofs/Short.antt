@@ -16,15 +16,16 @@ use Rattle.tape.specs.Pass.{passed}
 use Rattle.tape.specs.Sweep.{swept_below}
 use Rattle.tape.specs.Letters.{letter_of}
 use Rattle.tape.specs.declared.BlockFault.{BlockFault}
-use Rattle.tape.specs.declared.Image.{Image}
-use Rattle.tape.specs.declared.Image.TheVariants as image
+use Rattle.tape.specs.declared.ImageFault.{ImageFault}
+use Rattle.tape.specs.declared.ImageFault.TheVariants as image
 use Rattle.tape.specs.declared.Met.{Met}
 use Rattle.tape.specs.declared.Met.TheVariants as met
-use Rattle.tape.specs.declared.Swept.{Swept}
-use Rattle.tape.specs.declared.Swept.TheVariants as swept
+use Rattle.tape.specs.Sweep.{Swept}
 use Rattle.script.specs.Spelling.{places_from, spelling}
 use Rattle.lister.specs.Lines.{bad_line, decimal, number_line, record_line}
 use Rattle.lister.specs.Listed.{lines_from, listed, listed_as, listing_limit, met_line, met_next}
+use Rattle.std.specs.Prelude.{Result, Ok, Err}
+use Rattle.tape.specs.declared.Damage.{Damage}
 
 length_digits : (b k n : ℕ) → length (last_digits b k n) ≡ k
 length_digits b zero n = refl
@@ -52,50 +53,50 @@ bad_short : (why : BlockFault) (k : ℕ) → length (bad_line why k) ≤ 70
 unfolding bad_line
 bad_short why k = omega (arith, decimal_short k, length-append (decimal k) (32 ∷ letter_of why ∷ 10 ∷ []))
 
-met_short : (p : ℕ) (m : Met) → length (met_line p m) ≤ 134
+met_short : (p : ℕ) (m : Result Met Damage) → length (met_line p m) ≤ 134
 unfolding met_line
-met_short p (met.Record n q) = record_short p n
-met_short p (met.Mark q) = omega (arith, number_short 77 p)
-met_short p (met.Gap q) = omega (arith, number_short 71 p)
-met_short p met.Nothing = omega arith
-met_short p (met.Bad why k) = omega arith
+met_short p (Ok (met.Record n q)) = record_short p n
+met_short p (Ok (met.Mark q)) = omega (arith, number_short 77 p)
+met_short p (Ok (met.Gap q)) = omega (arith, number_short 71 p)
+met_short p (Ok met.Nothing) = omega arith
+met_short p (Err d) = omega arith
 
 lines_short : (turns : ℕ) (s : List ℕ) (p e : ℕ) → length (lines_from turns s p e) ≤ 134 * turns
 unfolding lines_from
 lines_short zero s p e = omega arith
 lines_short (suc turns) s p e =
-    let m : Met = passed s false p e in
+    let m : Result Met Damage = passed s false p e in
     omega (arith, met_short p m, lines_short turns s (met_next e m) e, length-append (met_line p m) (lines_from turns s (met_next e m) e))
 
 -- a recorded end that the listing goes up to
-abbrev Bounded : Image → Type 0
-Bounded (image.Whole e) = block_bytes * e ≤ image_limit
-Bounded (image.Bad why k) = Always
-Bounded image.TooLong = Always
-Bounded image.NotWhole = Always
+abbrev Bounded : Result ℕ ImageFault → Type 0
+Bounded (Ok e) = block_bytes * e ≤ image_limit
+Bounded (Err (image.Bad d)) = Always
+Bounded (Err image.TooLong) = Always
+Bounded (Err image.NotWhole) = Always
 
 swept_bounded : (e : ℕ) (w : Swept) → block_bytes * e ≤ image_limit → Bounded (image_swept e w)
 unfolding image_swept
-swept_bounded e swept.Whole h = h
-swept_bounded e (swept.Bad why k) h = tt
+swept_bounded e (Ok u) h = h
+swept_bounded e (Err d) h = tt
 
 bounded : (s : List ℕ) → Bounded (examined s)
 unfolding examined
 bounded s =
     let e : ℕ = length s / block_bytes in
-    let whole : Image = image_swept e (swept_below s e) in
-    pick_told Bounded (ltb image_limit (length s)) image.TooLong (pick (eqb (length s % block_bytes) 0) whole image.NotWhole)
+    let whole : Result ℕ ImageFault = image_swept e (swept_below s e) in
+    pick_told Bounded (ltb image_limit (length s)) (Err image.TooLong) (pick (eqb (length s % block_bytes) 0) whole (Err image.NotWhole))
     (λ l. tt)
-    (λ l. pick_told Bounded (eqb (length s % block_bytes) 0) whole image.NotWhole
+    (λ l. pick_told Bounded (eqb (length s % block_bytes) 0) whole (Err image.NotWhole)
     (λ z. swept_bounded e (swept_below s e) (omega (arith, ltb-false image_limit (length s) l)))
     (λ z. tt))
 
-as_short : (s : List ℕ) (i : Image) → Bounded i → length (listed_as s i) ≤ listing_limit
+as_short : (s : List ℕ) (i : Result ℕ ImageFault) → Bounded i → length (listed_as s i) ≤ listing_limit
 unfolding listed_as
-as_short s (image.Whole e) b = omega (arith, lines_short e s 0 e, number_short 69 e, length-append (lines_from e s 0 e) (number_line 69 e))
-as_short s (image.Bad why k) b = omega (arith, bad_short why k)
-as_short s image.TooLong b = omega arith
-as_short s image.NotWhole b = omega arith
+as_short s (Ok e) b = omega (arith, lines_short e s 0 e, number_short 69 e, length-append (lines_from e s 0 e) (number_line 69 e))
+as_short s (Err (image.Bad d)) b = omega (arith, bad_short d.fault d.block)
+as_short s (Err image.TooLong) b = omega arith
+as_short s (Err image.NotWhole) b = omega arith
 
 pub listed_short : (s : List ℕ) → length (listed s) ≤ listing_limit
 unfolding listed

@@ -4,6 +4,38 @@
 use std::fs::File;
 use std::io;
 
+// The images, in the order in which they are listed.
+const NAMES: [&str; 28] = [
+    "empty",
+    "paper",
+    "full",
+    "long",
+    "longest",
+    "about_16384",
+    "ragged",
+    "kind",
+    "kind_of_a_piece",
+    "length",
+    "length_of_a_mark",
+    "index",
+    "mark_words",
+    "padding",
+    "padding_of_a_gap",
+    "check",
+    "check_of_65535",
+    "kind_and_length",
+    "length_and_index",
+    "index_and_padding",
+    "padding_and_check",
+    "cut_off",
+    "cut_off_damaged",
+    "cut_off_longest",
+    "out_of_place",
+    "mark_for_a_piece",
+    "mark_for_a_piece_damaged",
+    "piece_of_another",
+];
+
 // A file that doesn't open is told of on standard error, and the next comes.
 fn list_named(rt: &HostRuntime, name: &str) -> io::Result<()> {
     println!(rt; "{name}")?;
@@ -14,32 +46,8 @@ fn list_named(rt: &HostRuntime, name: &str) -> io::Result<()> {
 }
 
 fn main(rt: HostRuntime) -> io::Result<()> {
-    list_named(&rt, "empty")?;
-    list_named(&rt, "paper")?;
-    list_named(&rt, "full")?;
-    list_named(&rt, "long")?;
-    list_named(&rt, "longest")?;
-    list_named(&rt, "about_16384")?;
-    list_named(&rt, "ragged")?;
-    list_named(&rt, "kind")?;
-    list_named(&rt, "kind_of_a_piece")?;
-    list_named(&rt, "length")?;
-    list_named(&rt, "length_of_a_mark")?;
-    list_named(&rt, "index")?;
-    list_named(&rt, "mark_words")?;
-    list_named(&rt, "padding")?;
-    list_named(&rt, "padding_of_a_gap")?;
-    list_named(&rt, "check")?;
-    list_named(&rt, "check_of_65535")?;
-    list_named(&rt, "kind_and_length")?;
-    list_named(&rt, "length_and_index")?;
-    list_named(&rt, "index_and_padding")?;
-    list_named(&rt, "padding_and_check")?;
-    list_named(&rt, "cut_off")?;
-    list_named(&rt, "cut_off_damaged")?;
-    list_named(&rt, "cut_off_longest")?;
-    list_named(&rt, "out_of_place")?;
-    list_named(&rt, "mark_for_a_piece")?;
-    list_named(&rt, "mark_for_a_piece_damaged")?;
-    list_named(&rt, "piece_of_another")
+    for name in NAMES {
+        list_named(&rt, name)?;
+    }
+    Ok(())
 }

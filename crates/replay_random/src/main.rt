@@ -1,4 +1,5 @@
 // The same program as replay, held to a longer script.
+// Kept: a program of its own, since a program is held to one input.
 #![tactic(auto)]
 
 use std::io;

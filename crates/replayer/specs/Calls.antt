@@ -2,14 +2,14 @@
 use Rattle.std.specs.Prelude.{Bool, false, List, ℕ, length}
 use Rattle.tape.specs.Afresh.{objects_in}
 use Rattle.commands.specs.Answers.{is_step}
-use Rattle.commands.specs.declared.plans.Answer.{Answer}
+use Rattle.commands.specs.Answers.{Answer}
 use Rattle.lines.specs.declared.Call.{Call}
 use Rattle.lines.specs.declared.Call.TheVariants as call
 use Rattle.unit.specs.declared.registers.Register.TheVariants as register
 use Rattle.worlds.specs.Worlds.{Answered, answered, world_of}
 use Rattle.worlds.specs.Calls.{back_on, mount_on, register_on, step_on, table_mounted}
 use Rattle.worlds.specs.declared.Session.{Session}
-use Rattle.worlds.specs.declared.Outcome.{Outcome}
+use Rattle.worlds.specs.Worlds.{Outcome}
 use Rattle.replayer.specs.Asks.{ask_of}
 
 -- what a mount with this outcome leaves: the table filled, if it is accepted, and every other byte

@@ -1,5 +1,5 @@
 -- What a line that makes a call leaves: the desk with the call's session, and the buffers without what the call left beyond the sizes.
-use Rattle.std.specs.Prelude.{List, ◌≡◌, ℕ, length}
+use Rattle.std.specs.Prelude.{List, ◌≡◌, ℕ, length, Result, Ok}
 use Rattle.std.proofs.lemmas.List.Edits.{sets}
 use Rattle.desk.specs.Desks.{front, handed_of}
 use Rattle.desk.specs.declared.Said.TheVariants as said
@@ -7,6 +7,7 @@ use Rattle.desk.specs.declared.Turn.{Turn}
 use Rattle.desk.specs.declared.desk.Desk.{Desk}
 use Rattle.lines.specs.declared.Call.{Call}
 use Rattle.results.specs.declared.Told.{Told}
+use Rattle.script.specs.declared.Fault.{Fault}
 use Rattle.script.specs.Fills.{wiped}
 use Rattle.worlds.specs.declared.Session.{Session}
 use Rattle.replayer.specs.Hands.{hand_on, hand_told}
@@ -14,13 +15,13 @@ use Rattle.replayer.specs.Journals.{JournalLeft}
 
 -- the desk with this session
 abbrev pub with_session : Desk → Session → Desk
-with_session d s = record { session = s; sizes = d.sizes; cuts = d.cuts; cut = d.cut; table_cut = d.table_cut; cursor = d.cursor; line = d.line; stopped = d.stopped }
+with_session d s = record d { session = s }
 
 abbrev pub kept_as : Desk → Told → Turn
 kept_as d t = record { desk = with_session d t.session; said = said.Result t }
 
-unfoldable pub call_turn : Desk → Call → List ℕ → List ℕ → List ℕ → List ℕ → List ℕ → Turn
-call_turn d c b m r tb j = kept_as d (hand_told d c b m r tb j)
+unfoldable pub call_turn : Desk → Call → List ℕ → List ℕ → List ℕ → List ℕ → List ℕ → Result Turn Fault
+call_turn d c b m r tb j = Ok (kept_as d (hand_told d c b m r tb j))
 
 -- memory, reel and table: what was handed is as the call leaves it, the rest stays, and zeros go from the sizes to where the handed part ends
 unfoldable pub memory_kept : Desk → Call → List ℕ → List ℕ → List ℕ → List ℕ → List ℕ → List ℕ

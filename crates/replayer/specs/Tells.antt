@@ -12,7 +12,7 @@ use Rattle.unit.specs.declared.registers.Register.TheVariants as register
 use Rattle.worlds.specs.Worlds.{session_of}
 use Rattle.worlds.specs.Calls.{outcome, register_on}
 use Rattle.worlds.specs.declared.Session.{Session}
-use Rattle.worlds.specs.declared.Outcome.{Outcome}
+use Rattle.worlds.specs.Worlds.{Outcome}
 use Rattle.replayer.specs.Calls.{call_on}
 
 abbrev pub told_as : Outcome → Also → Told

@@ -14,10 +14,6 @@ use Rattle.results.specs.Lines.{decimal, numbers_text}
 pub put_empty : (o : List ℕ) (at : ℕ) → Put o at [] o at
 put_empty o at = record { stored = rw (take-nil (length o - at)); next = rw (min-zero (length o - at), add-zero at) }
 
--- a text put that equals another
-pub put_same : (o t u o' : List ℕ) (at r : ℕ) → t ≡ u → Put o at t o' r → Put o at u o' r
-put_same o t u o' at r e p = rw (← e) p
-
 -- one number more
 numbers_end : (l : List ℕ) (n : ℕ) → numbers_text (l ++ (n ∷ [])) ≡ numbers_text l ++ ((32 ∷ []) ++ decimal n)
 unfolding numbers_text

@@ -2,8 +2,11 @@
 use Rattle.std.specs.Prelude.{Bool, List, [], ◌∷◌, ◌++◌, ℕ, take}
 use Rattle.tape.specs.Letters.{letter_of}
 use Rattle.tape.specs.declared.BlockFault.{BlockFault}
-use Rattle.commands.specs.declared.plans.Answer.{Answer}
-use Rattle.commands.specs.declared.plans.Answer.TheVariants as answer
+use Rattle.std.specs.Prelude.{Ok, Err}
+use Rattle.state.specs.Refusals.{by_block, refusal_number}
+use Rattle.state.specs.declared.refusal.Refusal.{Refusal}
+use Rattle.commands.specs.Answers.{Answer}
+use Rattle.commands.specs.declared.plans.Done.TheVariants as answer
 use Rattle.worlds.specs.declared.Session.{Session}
 use Rattle.script.specs.Spelling.{spelling}
 use Rattle.results.specs.declared.Also.{Also}
@@ -39,12 +42,14 @@ done_text i x = (48 ∷ []) ++ also_text i x
 abbrev pub bad_text : BlockFault → ℕ → List ℕ
 bad_text why k = ((55 ∷ 32 ∷ 98 ∷ 108 ∷ 111 ∷ 99 ∷ 107 ∷ 61 ∷ []) ++ decimal k) ++ ((32 ∷ 102 ∷ 97 ∷ 117 ∷ 108 ∷ 116 ∷ 61 ∷ []) ++ (letter_of why ∷ []))
 
+abbrev pub refusal_text : Refusal → List ℕ
+refusal_text r = by_block bad_text (decimal (refusal_number r)) r
+
 -- "0", "idle", a refusal's number, or refusal 7 with its block and fault
 unfoldable pub answer_text : Answer → Also → List ℕ
-answer_text (answer.Done i) x = done_text i x
-answer_text answer.Idle x = 105 ∷ 100 ∷ 108 ∷ 101 ∷ []
-answer_text (answer.Refused n) x = decimal n
-answer_text (answer.BadBlock why k) x = bad_text why k
+answer_text (Ok (answer.Step i)) x = done_text i x
+answer_text (Ok answer.Idle) x = 105 ∷ 100 ∷ 108 ∷ 101 ∷ []
+answer_text (Err r) x = refusal_text r
 
 -- " word=" and the word read, whatever the answer
 abbrev pub read_text : ℕ → List ℕ

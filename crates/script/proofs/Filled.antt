@@ -1,6 +1,6 @@
 -- Laws of the bytes that are put into a lent slice.
-use mathlib.Core.Path.{◌≡◌, refl, ap, ◌∙◌}
-use mathlib.Core.Bool.{Bool, true, false, ◌&&◌}
+use mathlib.Core.Path.{◌≡◌, refl, sym, ap, ◌∙◌}
+use mathlib.Core.Bool.{true, false, ◌&&◌}
 use mathlib.Core.List.{List, [], ◌∷◌, ◌++◌, append-nil}
 use Prim.Native.Nat.{ℕ, zero, suc, ◌+◌, ◌-◌, ◌*◌, ◌/◌, ◌%◌, ◌≤◌, ◌<◌, min}
 use native.Mathlib.Nat.{zero-add, zero-min, min-zero, suc-min-suc}
@@ -9,26 +9,26 @@ use native.Mathlib.Omega.{arith}
 use borrow.Author.Tests.{le-leb, lt-leb}
 use borrow.Rule.Slice.PartMut.{put_mid}
 use lib.Dec.{leb}
-use lib.ListN.{take-append-drop, length, take, drop, get_or, set, replicate, length-append, length-take, length-drop, length-replicate}
-use lib.Seq.{sets-eq, drop-drop, drop-length, length-take-le, length-sets, sets, take_all, take-suc}
-use Rattle.lists.specs.Pick.{pick}
+use lib.ListN.{take-append-drop, length, take, drop, set, replicate, length-append, length-take, length-drop, length-replicate}
+use lib.Seq.{sets-eq, drop-drop, drop-length, length-take-le, length-sets, sets, take_all}
 use Rattle.lists.proofs.Stores.{drop_sets, filled, put_sets, sets_at, sets_more, sets_whole}
-use Rattle.script.specs.Fills.{appended, copied, generated, holds, made, wiped}
-
--- one more byte of a run
-pub store_more : (l d : List ℕ) (i : ℕ) → i < length d → set (sets l 0 (take i d)) i (get_or d i 0) ≡ sets l 0 (take (i + 1) d)
-store_more l d i h = rw (add-one i, take-suc d i 0 h) (sets_at (take i d) (get_or d i 0 ∷ []) l 0 i (rw (zero-add, length-take-le i d (omega arith))))
+use Rattle.script.specs.Fills.{appended, copied, generated, made, wiped}
 
 take_min : (n : ℕ) (l : List ℕ) → take (min n (length l)) l ≡ take n l
 take_min zero l = rw (zero-min (length l))
 take_min (suc n) [] = rw (min-zero (suc n))
 take_min (suc n) (x ∷ l) = rw (suc-min-suc n (length l)) (ap (λ (t : List ℕ). x ∷ t) (take_min n l))
 
+-- what is stored at the front, and the rest behind it
+front : (b v : List ℕ) → length v ≤ length b → sets b 0 v ≡ v ++ drop (length v) b
+front b v h = sets-eq v b 0 (rw zero-add h) ∙ rw (zero-add (length v))
+
 -- all that there is room for is copied
-pub copy_end : (b d : List ℕ) (n i : ℕ) → n ≡ min (length b) (length d) → i ≤ n → n ≤ i → sets b 0 (take i d) ≡ copied b d
-copy_end b d n i e h k =
-    let f : i ≡ min (length b) (length d) = omega (arith, e) in
-    rw (f, take_min (length b) d)
+pub copy_is : (b d g : List ℕ) (n : ℕ) → n ≡ min (length b) (length d) → g ≡ take n d → g ++ drop n b ≡ copied b d
+copy_is b d g n e f =
+    let k : length g ≡ n = ap length f ∙ length-take-le n d (omega (arith, e)) in
+    let x : take n d ≡ take (length b) d = rw (e, take_min (length b) d) in
+    ap (λ (m : ℕ). g ++ drop m b) (sym k) ∙ sym (front b g (omega (arith, e))) ∙ ap (sets b 0) (f ∙ x)
 
 -- a list stored over itself
 sets_self : (l : List ℕ) (k : ℕ) → k ≤ length l → sets l k (drop k l) ≡ l
@@ -56,41 +56,32 @@ module _ (l d g : List ℕ) (n : ℕ) (h : n ≤ length l) where
       ∙ ap (sets l n) f
       ∙ sets_rest l (take (length l - n) d) n (omega (arith, length-take (length l - n) d))
 
--- what `append` answers and leaves
-module _ (l d : List ℕ) (n long : ℕ) where
-  pub append_long : length l < n + length d → long ≡ pick (holds l n d) (n + length d) long
-  append_long h = rw (lt-leb (n + length d) (length l) h)
-
+-- what `append` leaves
+module _ (l d : List ℕ) (n : ℕ) where
   pub append_left : length l < n + length d → l ≡ appended l n d
   unfolding appended
   append_left h = rw (lt-leb (n + length d) (length l) h)
 
-  pub append_count : n + length d ≤ length l → n + length d ≡ pick (holds l n d) (n + length d) long
-  append_count h = rw (le-leb (n + length d) (length l) h)
-
-  pub append_put : (g : List ℕ) → n + length d ≤ length l → g ≡ copied (take (length l - n) (drop n l)) d → put_mid n (length l - n) l g ≡ appended l n d
+  pub append_put : (g : List ℕ) (e : ℕ) → e ≡ n + length d → e ≤ length l → g ≡ d → put_mid n (e - n) l g ≡ appended l n d
   unfolding appended
-  append_put g h e =
-      let t : take (length l - n) d ≡ d = take_all (length l - n) d (omega arith) in
-      rw (le-leb (n + length d) (length l) h) (copied_part l d g n (omega arith) e ∙ ap (sets l n) t)
+  append_put g e p h q =
+      let k : length g ≡ e - n = omega (arith, ap length q) in
+      rw (le-leb (n + length d) (length l) (omega arith)) (put_sets n (e - n) l g k (omega arith) ∙ ap (sets l n) q)
 
 -- what `wipe` leaves
 module _ (b : List ℕ) (from to : ℕ) where
-  pub wipe_beyond : length b < to → b ≡ wiped b from to
+  pub wipe_none : (leb from to && leb to (length b)) ≡ false → b ≡ wiped b from to
   unfolding wiped
-  wipe_beyond h = rw (lt-leb to (length b) h) (off (leb from to))
+  wipe_none e = rw e
+
+  pub wipe_zeros : (g : List ℕ) → (leb from to && leb to (length b)) ≡ true → g ≡ replicate (length (take (to - from) (drop from b))) 0 → put_mid from (to - from) b g ≡ wiped b from to
+  unfolding wiped
+  wipe_zeros g h e =
+      let p : (from ≤ to) × (to ≤ length b) = both h in
+      rw h (filled (λ m. replicate m 0) (λ m. length-replicate m 0) b g from to p.0 p.1 e)
     where
-      off : (t : Bool) → b ≡ pick (t && false) (sets b from (replicate (to - from) 0)) b
-      off true = refl
-      off false = refl
-
-  pub wipe_crossed : to < from → b ≡ wiped b from to
-  unfolding wiped
-  wipe_crossed h = rw (lt-leb from to h)
-
-  pub wipe_zeros : (g : List ℕ) → from ≤ to → to ≤ length b → g ≡ replicate (length (take (to - from) (drop from b))) 0 → put_mid from (to - from) b g ≡ wiped b from to
-  unfolding wiped
-  wipe_zeros g h k e = rw (le-leb from to h, le-leb to (length b) k) (filled (λ m. replicate m 0) (λ m. length-replicate m 0) b g from to h k e)
+      both : (leb from to && leb to (length b)) ≡ true → (from ≤ to) × (to ≤ length b)
+      both h = grind arith
 
 -- the bytes of a seed
 pub length_generated : (seed n : ℕ) → length (generated seed n) ≡ n

@@ -1,117 +1,74 @@
--- Laws of `last_end`, `eqs` and `place_from`.
+-- Laws of `last_end` and `place_from`.
 use mathlib.Core.Path.{◌≡◌, refl, sym, ap, ◌∙◌}
-use mathlib.Core.Bool.{Bool, true, false, ◌&&◌}
-use mathlib.Core.List.{List, [], ◌∷◌, ◌++◌}
-use Prim.Native.Nat.{ℕ, suc, ◌+◌, ◌-◌, ◌≤◌, ◌<◌}
-use native.Mathlib.Numerals.{add-one}
+use mathlib.Core.Bool.{Bool, true, false}
+use mathlib.Core.List.{List, [], ◌∷◌}
+use Prim.Native.Nat.{ℕ, zero, suc, ◌+◌, ◌-◌, ◌≤◌, ◌<◌}
+use native.Mathlib.Nat.{sub-zero}
 use native.Mathlib.Omega.{arith}
-use borrow.Author.Tests.{eq-eqb, ne_eqb, eqb-true, lt-ltb, le-ltb}
-use lib.Dec.{eqb}
-use lib.ListN.{length, take, drop, get_or}
-use lib.Seq.{drop-cons, drop-length, length-take-le, take-suc}
-use Rattle.script.specs.Words.{last_end, eqs, part, place_from, word_from}
+use borrow.Author.Tests.{eqb-false, eqb-true, ne_eqb, lt-ltb, le-ltb}
+use lib.Dec.{eqb, ltb}
+use lib.ListN.{length, take, drop}
+use Rattle.std.specs.List.{AllWithin, HoldsAt}
+use Rattle.std.specs.Prelude.{Option, Some, None, MatchOption, bytes_eq}
+use Rattle.lists.proofs.Cases.{by_test}
+use Rattle.script.specs.Words.{last_end, part, place_from, place_of, word_from, word_start}
 
-clash : {A : Type 0} → ◌≡◌ {A = ℕ} 0 1 → A
-clash e = absurd (omega arith)
-
--- a text that ends in a word, and one that ends in a blank
-end_word : (l : List ℕ) (x : ℕ) → 32 < x → last_end (l ++ (x ∷ [])) ≡ suc (length l)
+-- where only blanks follow
+pub end_none : (t : List ℕ) → AllWithin (λ x. x < 33) t 0 (length t) → last_end t ≡ 0
 unfolding last_end
-end_word [] x h = rw (le-ltb x 33 (omega arith))
-end_word (y ∷ l) x h = rw (end_word l x h, ne_eqb (suc (length l)) 0 (λ (e : suc (length l) ≡ 0). omega arith))
+end_none [] h = refl
+end_none (x ∷ t) h = rw (end_none t (λ k d _ l. h (suc k) d (omega arith) (omega arith)), lt-ltb x 33 (h 0 0 (omega arith) (omega arith)))
 
-end_blank : (l : List ℕ) (x : ℕ) → x ≤ 32 → last_end (l ++ (x ∷ [])) ≡ last_end l
+pub end_at : (t : List ℕ) (i : ℕ) → i < length t → HoldsAt (λ x. 32 < x) t i → AllWithin (λ x. x < 33) t (i + 1) (length t) → last_end t ≡ i + 1
 unfolding last_end
-end_blank [] x h = rw (lt-ltb x 33 (omega arith))
-end_blank (y ∷ l) x h = rw (end_blank l x h)
+end_at [] i h w b = absurd (omega arith)
+end_at (x ∷ t) zero h w b =
+    rw (end_none t (λ k d _ l. b (suc k) d (omega arith) (omega arith)), le-ltb x 33 (w 0)) (omega arith)
+end_at (x ∷ t) (suc i) h w b =
+    let e : last_end t ≡ i + 1 = end_at t i (omega arith) w (λ k d m l. b (suc k) d (omega arith) (omega arith)) in
+    rw (ne_eqb (last_end t) 0 (λ (z : last_end t ≡ 0). omega arith), e) (omega arith)
 
--- the walk of `last` down from the end
-module _ (t : List ℕ) (i : ℕ) (h : 0 < i) (k : i ≤ length t) where
-  cut : take i t ≡ take (i - 1) t ++ (get_or t (i - 1) 0 ∷ [])
-  cut =
-      let e : i ≡ suc (i - 1) = omega arith in
-      ap (λ (n : ℕ). take n t) e ∙ take-suc t (i - 1) 0 (omega arith)
-
-  pub last_stop : 32 < get_or t (i - 1) 0 → last_end (take i t) ≡ i
-  last_stop w = rw cut (end_word (take (i - 1) t) (get_or t (i - 1) 0) w ∙ rw (length-take-le (i - 1) t (omega arith)) (omega arith))
-
-  pub last_on : get_or t (i - 1) 0 ≤ 32 → last_end (take i t) ≡ last_end (take (i - 1) t)
-  last_on w = rw cut (end_blank (take (i - 1) t) (get_or t (i - 1) 0) w)
-
-pub last_none : (t : List ℕ) (i : ℕ) → i ≤ 0 → last_end (take i t) ≡ 0
+-- a text whose front is left out ends as it did
+end_drop : (t : List ℕ) (n : ℕ) → last_end (drop n t) ≡ last_end t - n
 unfolding last_end
-last_none t i h =
-    let e : i ≡ 0 = omega arith in
-    rw e
+end_drop t zero = sym (sub-zero (last_end t))
+end_drop [] (suc n) = omega arith
+end_drop (x ∷ t) (suc n) =
+    by_test (eqb (last_end t) 0)
+    (λ e. by_test (ltb x 33) (λ f. end_drop t n ∙ rw (e, f) (omega (arith, eqb-true (last_end t) 0 e))) (λ f. end_drop t n ∙ rw (e, f) (omega (arith, eqb-true (last_end t) 0 e))))
+    (λ e. end_drop t n ∙ rw e (omega arith))
 
--- texts of different lengths are not the same
-pub eqs_long : (a b : List ℕ) → (length a ≡ length b → ⊥) → eqs a b ≡ false
-unfolding eqs
-eqs_long [] [] h = absurd (h refl)
-eqs_long [] (y ∷ b) h = refl
-eqs_long (x ∷ a) [] h = refl
-eqs_long (x ∷ a) (y ∷ b) h = rw (eqs_long a b (λ (e : length a ≡ length b). h (ap suc e))) (and_off (eqb x y))
-  where
-    and_off : (r : Bool) → (r && false) ≡ false
-    and_off true = refl
-    and_off false = refl
+-- what `trimmed` cuts out
+module _ (t w : List ℕ) (p : w ≡ drop (word_start t 0) t) where
+  pub trim_some : (i : ℕ) → i < length w → HoldsAt (λ x. 32 < x) w i → AllWithin (λ x. x < 33) w (i + 1) (length w) → take (i + 1) w ≡ part t (word_start t 0) (last_end t)
+  trim_some i h k b =
+      let e : i + 1 ≡ last_end t - word_start t 0 = sym (end_at w i h k b) ∙ ap last_end p ∙ end_drop t (word_start t 0) in
+      rw (e, p)
 
--- the walk of `same`
-module _ (a b : List ℕ) (i : ℕ) (h : i < length a) (k : i < length b) where
-  pub eqs_on : get_or a i 0 ≡ get_or b i 0 → eqs (drop i a) (drop i b) ≡ eqs (drop (i + 1) a) (drop (i + 1) b)
-  unfolding eqs
-  eqs_on e = rw (add-one i, drop-cons a i 0 h, drop-cons b i 0 k, eq-eqb _ _ e)
+  pub trim_none : AllWithin (λ x. x < 33) w 0 (length w) → [] ≡ part t (word_start t 0) (last_end t)
+  trim_none b =
+      let e : last_end t - word_start t 0 ≡ 0 = sym (end_drop t (word_start t 0)) ∙ ap last_end (sym p) ∙ end_none w b in
+      rw e
 
-  pub eqs_stop : (get_or a i 0 ≡ get_or b i 0 → ⊥) → eqs (drop i a) (drop i b) ≡ false
-  unfolding eqs
-  eqs_stop e = rw (drop-cons a i 0 h, drop-cons b i 0 k, ne_eqb _ _ e)
+-- whether word k of the list is w
+abbrev pub Is : List ℕ → List ℕ → ℕ → Bool → Type 0
+Is l w k b = bytes_eq (word_from l k) w ≡ b
 
-pub eqs_end : (a b : List ℕ) (i : ℕ) → i ≡ length a → length a ≡ length b → eqs (drop i a) (drop i b) ≡ true
-unfolding eqs
-eqs_end a b i e f =
-    let g : i ≡ length b = e ∙ f in
-    let p : drop i a ≡ [] = ap (λ (n : ℕ). drop n a) e ∙ drop-length a in
-    let q : drop i b ≡ [] = ap (λ (n : ℕ). drop n b) g ∙ drop-length b in
-    rw (p, q)
-
-and_both : (p q : Bool) → (p && q) ≡ true → (p ≡ true) × (q ≡ true)
-and_both true true e = (refl, refl)
-and_both true false e = clash (cc)
-and_both false q e = clash (cc)
-
--- `eqs` decides whether two texts are the same
-pub eqs_same : (a : List ℕ) → eqs a a ≡ true
-unfolding eqs
-eqs_same [] = refl
-eqs_same (x ∷ a) = rw (eq-eqb x x refl, eqs_same a)
-
-pub same_eqs : (a b : List ℕ) → eqs a b ≡ true → a ≡ b
-unfolding eqs
-same_eqs [] [] e = refl
-same_eqs [] (y ∷ b) e = clash (cc)
-same_eqs (x ∷ a) [] e = clash (cc)
-same_eqs (x ∷ a) (y ∷ b) e =
-    let f = and_both (eqb x y) (eqs a b) e in
-    cc (eqb-true x y f.0, same_eqs a b f.1)
-
--- the walk of `place_in`: word k, from s to e, is w, or the words behind it are looked at
-module _ (l w : List ℕ) (k n s e : ℕ) (r : Bool) (h : k < n) (p : part l s e ≡ word_from l k) (q : r ≡ eqs (part l s e) w) where
-  left : n - k ≡ suc (n - (k + 1))
-  left = omega arith
-
-  test : eqs (word_from l k) w ≡ r
-  test = rw (← p) (sym q)
-
-  pub place_stop : r ≡ true → place_from l w k (n - k) ≡ k
+-- the first of the n words from word k on that is w, or none of them
+module _ (l w : List ℕ) where
+  pub from_none : (k n : ℕ) → ((j : ℕ) → k ≤ j → j < k + n → Is l w j false) → place_from l w k n ≡ None
   unfolding place_from
-  place_stop f = rw (left, test, f)
+  from_none k zero h = refl
+  from_none k (suc n) h = rw (h k (omega arith) (omega arith)) (from_none (suc k) n (λ j a b. h j (omega arith) (omega arith)))
 
-  pub place_on : r ≡ false → place_from l w k (n - k) ≡ place_from l w (k + 1) (n - (k + 1))
+  pub from_some : (k n i : ℕ) → k ≤ i → i < k + n → Is l w i true → ((j : ℕ) → k ≤ j → j < i → Is l w j false) → place_from l w k n ≡ Some i
   unfolding place_from
-  place_on f = rw (left, test, f, add-one k)
+  from_some k zero i a b y h = absurd (omega arith)
+  from_some k (suc n) i a b y h =
+      by_test (eqb k i)
+      (λ e. let q : k ≡ i = eqb-true k i e in rw (q, y))
+      (λ e. let q : k ≡ i → ⊥ = eqb-false k i e in rw (h k (omega arith) (omega arith)) (from_some (suc k) n i (omega arith) (omega arith) y (λ j c d. h j (omega arith) (omega arith))))
 
-pub place_end : (l w : List ℕ) (k n : ℕ) → n ≤ k → place_from l w k (n - k) ≡ k
-unfolding place_from
-place_end l w k n h =
-    let f : n - k ≡ 0 = omega arith in
-    rw f
+  pub place_found : (r : Option ℕ) → MatchOption r ((k : ℕ) → 0 ≤ k → k < length l → Is l w k false) (λ i. (0 ≤ i) × (i < length l) × Is l w i true × ((k : ℕ) → 0 ≤ k → k < i → Is l w k false)) → r ≡ place_of l w
+  place_found None h = sym (from_none 0 (length l) (λ j a b. h j a (omega arith)))
+  place_found (Some i) (a, b, y, h) = sym (from_some 0 (length l) i a (omega arith) y h)

@@ -10,11 +10,12 @@ use lib.Dec.{eqb, leb, ltb}
 use lib.ListN.{length, drop, get_or, length-drop, length-take}
 use lib.Seq.{get_or-drop, get_or-take}
 use Rattle.lists.proofs.Cases.{by_test}
-use Rattle.script.specs.declared.Value.TheVariants as value
-use Rattle.script.specs.Words.{before, eqs, last_end, over, spanned, place_from, place_of, starts_from, word_end, word_from, word_start}
-use Rattle.script.specs.Numbers.{base, digit_of, joined, said}
-use Rattle.script.proofs.Passing.{pass_low}
-use Rattle.script.proofs.Found.{eqs_same, same_eqs}
+use Rattle.std.specs.Prelude.{Option, Some, None, Result, Ok, Err, IsSome, IsSomeAnd, MatchOption, bytes_eq, unwrap_or}
+use Rattle.std.specs.Cmp.Lexicographic.{other_text, same_text}
+use Rattle.script.specs.declared.Fault.{Fault}
+use Rattle.script.specs.Words.{last_end, over, spanned, place_from, place_of, starts_from, word_end, word_from, word_start}
+use Rattle.script.specs.Numbers.{digit_of, joined, onward, said}
+use Rattle.script.proofs.Found.{Is}
 
 clash : {A : Type 0} → ◌≡◌ {A = ℕ} 0 1 → A
 clash e = absurd (omega arith)
@@ -46,16 +47,6 @@ spanned_stop b [] h = absurd (omega arith)
 spanned_stop b (x ∷ t) h =
     by_test (beq (ltb x 33) b) (λ e. rw e (spanned_stop b t (omega (arith, rw e at h)))) (λ e. rw e (other_kind (ltb x 33) b e))
 
--- words lie within the line
-over_low : (t : List ℕ) (k : ℕ) → over t k ≤ length t
-unfolding over
-over_low t zero = omega arith
-over_low t (suc k) = pass_low t false (starts_from t (over t k)) (pass_low t true (over t k) (over_low t k))
-
-pub word_within : (t : List ℕ) (k : ℕ) → (word_start t k ≤ word_end t k) × (word_end t k ≤ length t)
-unfolding word_start word_end over
-word_within t k = (omega arith, over_low t (suc k))
-
 -- no byte of a word is blank, and the one behind it is
 pub word_solid : (t : List ℕ) (k i : ℕ) → i < length (word_from t k) → ltb (get_or (word_from t k) i 0) 33 ≡ false
 unfolding word_from word_start word_end over
@@ -70,19 +61,6 @@ unfolding word_end over
 word_ended t k h =
     let s = starts_from t (over t k) in
     rw (← get_or-drop s t (spanned false (drop s t)) 0) (spanned_stop false (drop s t) (omega (arith, length-drop s t)))
-
--- the byte that is found is the one sought, and no earlier one is
-pub before_is : (b : ℕ) (t : List ℕ) → before b t < length t → get_or t (before b t) 0 ≡ b
-unfolding before
-before_is b [] h = absurd (omega arith)
-before_is b (x ∷ t) h =
-    by_test (eqb x b) (λ e. rw e (eqb-true x b e)) (λ e. rw e (before_is b t (omega (arith, rw e at h))))
-
-pub before_none : (b : ℕ) (t : List ℕ) (i : ℕ) → i < before b t → get_or t i 0 ≡ b → ⊥
-unfolding before
-before_none b [] i h p = omega arith
-before_none b (x ∷ t) zero h p = by_test (eqb x b) (λ e. omega (arith, rw e at h)) (λ e. eqb-false x b e p)
-before_none b (x ∷ t) (suc i) h p = by_test (eqb x b) (λ e. omega (arith, rw e at h)) (λ e. before_none b t i (omega (arith, rw e at h)) p)
 
 -- behind the last word all is blank, and its last byte is not
 shorter : (x : ℕ) (t : List ℕ) (i : ℕ) → last_end (x ∷ t) ≤ suc i → last_end t ≤ i
@@ -109,26 +87,54 @@ last_word (x ∷ t) h =
     rw (e, q) (last_word t (omega arith)))
 
 -- the word at the place that is found is the one sought, and no earlier one is
-from_is : (l w : List ℕ) (k n : ℕ) → place_from l w k n < k + n → word_from l (place_from l w k n) ≡ w
-unfolding place_from
-from_is l w k zero h = absurd (omega arith)
-from_is l w k (suc n) h =
-    by_test (eqs (word_from l k) w) (λ e. rw e (same_eqs (word_from l k) w e)) (λ e. rw e (from_is l w (suc k) n (omega (arith, rw e at h))))
+module _ (l w : List ℕ) where
+  abbrev NoneIn : ℕ → ℕ → Type 0
+  NoneIn k n = (j : ℕ) → k ≤ j → j < k + n → Is l w j false
 
-from_first : (l w : List ℕ) (k n j : ℕ) → k ≤ j → j < place_from l w k n → word_from l j ≡ w → ⊥
-unfolding place_from
-from_first l w k zero j h g p = omega arith
-from_first l w k (suc n) j h g p =
-    by_test (eqs (word_from l k) w) (λ e. omega (arith, rw e at g))
-    (λ e. by_test (eqb j k)
-    (λ q. let f : eqs (word_from l k) w ≡ true = rw (← p, eqb-true j k q) (eqs_same (word_from l k)) in clash (cc))
-    (λ q. let f : j ≡ k → ⊥ = eqb-false j k q in from_first l w (suc k) n j (omega arith) (rw e at g) p))
+  record FirstIn (k n i : ℕ) : Type 0 where
+    behind : k ≤ i
+    low : i < k + n
+    is : Is l w i true
+    first : (j : ℕ) → k ≤ j → j < i → Is l w j false
 
-pub place_is : (l w : List ℕ) → place_of l w < length l → word_from l (place_of l w) ≡ w
-place_is l w h = from_is l w 0 (length l) (omega arith)
+  abbrev From : ℕ → ℕ → Option ℕ → Type 0
+  From k n o = MatchOption o (NoneIn k n) (λ i. FirstIn k n i)
 
-pub place_first : (l w : List ℕ) (j : ℕ) → j < place_of l w → word_from l j ≡ w → ⊥
-place_first l w j h = from_first l w 0 (length l) j (omega arith) h
+  other : (k j : ℕ) → (k < j → Is l w j false) → Is l w k false → k ≤ j → Is l w j false
+  other k j h e a = by_test (eqb j k) (λ q. rw (eqb-true j k q) e) (λ q. let z : j ≡ k → ⊥ = eqb-false j k q in h (omega arith))
+
+  later : (k n : ℕ) (o : Option ℕ) → Is l w k false → From (suc k) n o → From k (suc n) o
+  later k n None e h = λ j a b. other k j (λ c. h j (omega arith) (omega arith)) e a
+  later k n (Some i) e h =
+      let b = h.behind in
+      let u = h.low in
+      record { behind = omega arith; low = omega arith; is = h.is; first = λ j a d. other k j (λ c. h.first j (omega arith) (omega arith)) e a }
+
+  from_says : (k n : ℕ) → From k n (place_from l w k n)
+  unfolding place_from
+  from_says k zero = λ j a b. absurd (omega arith)
+  from_says k (suc n) =
+      by_test (bytes_eq (word_from l k) w)
+      (λ e. rw e (record { behind = omega arith; low = omega arith; is = e; first = λ j a b. absurd (omega arith) }))
+      (λ e. rw e (later k n (place_from l w (suc k) n) e (from_says (suc k) n)))
+
+  at : (k : ℕ) → place_of l w ≡ Some k → FirstIn 0 (length l) k
+  at k e = rw e at (from_says 0 (length l))
+
+  nowhere : place_of l w ≡ None → NoneIn 0 (length l)
+  nowhere e = rw e at (from_says 0 (length l))
+
+  pub place_low : (k : ℕ) → place_of l w ≡ Some k → k < length l
+  place_low k e = let f = (at k e).low in omega arith
+
+  pub place_is : (k : ℕ) → place_of l w ≡ Some k → word_from l k ≡ w
+  place_is k e = same_text (word_from l k) w (sym (at k e).is)
+
+  pub place_first : (k j : ℕ) → place_of l w ≡ Some k → j < k → word_from l j ≡ w → ⊥
+  place_first k j e h = other_text (word_from l j) w (sym ((at k e).first j (omega arith) h))
+
+  pub place_none : (j : ℕ) → place_of l w ≡ None → j < length l → word_from l j ≡ w → ⊥
+  place_none j e h = other_text (word_from l j) w (sym (nowhere e j (omega arith) (omega arith)))
 
 -- each word takes a byte or more, so a word that stands in the list is found
 taken : (t : List ℕ) (a : ℕ) → starts_from t a < length t → 0 < spanned false (drop (starts_from t a) t)
@@ -155,49 +161,68 @@ word_low t k h =
     let l : s < length t = omega (arith, length-take (s + spanned false (drop s t) - s) (drop s t), length-drop s t) in
     omega (arith, over_high t k (omega arith))
 
-pub place_all : (l w : List ℕ) (k : ℕ) → 0 < length w → word_from l k ≡ w → place_of l w < length l
+pub place_all : (l w : List ℕ) (k : ℕ) → 0 < length w → word_from l k ≡ w → IsSome (place_of l w)
 place_all l w k h e =
     let n : k < length l = word_low l k (rw e h) in
-    by_test (ltb (place_of l w) (length l)) (λ f. ltb-true (place_of l w) (length l) f)
-    (λ f. let g : length l ≤ place_of l w = ltb-false (place_of l w) (length l) f in absurd (place_first l w k (omega arith) e))
+    by (place_of l w) (λ f. place_none l w k f n e)
+  where
+    by : (o : Option ℕ) → (o ≡ None → ⊥) → IsSome o
+    by None h = absurd (h refl)
+    by (Some j) h = refl
 
 -- the number that digits are in base b
 abbrev pub worth : ℕ → List ℕ → ℕ
 worth b [] = 0
-worth b (x ∷ t) = digit_of x * b ^ length t + worth b t
+worth b (x ∷ t) = unwrap_or (digit_of x) 0 * b ^ length t + worth b t
 
 one_more : (v b d p w : ℕ) → (v * b + d) * p + w ≡ v * (p * b) + (d * p + w)
 one_more v b d p w = rw (add-mul (v * b) d p, mul_assoc v b p, mul_comm b p, add_assoc (v * (p * b)) (d * p) w)
 
-pub said_is : (hex : Bool) (v : ℕ) (t : List ℕ) (n : ℕ) → said hex v t ≡ value.Is n → n ≡ v * base hex ^ length t + worth (base hex) t
-unfolding said joined
-said_is hex v [] n h =
-    let e : v ≡ n = cc in
-    rw (pow-zero (base hex), mul-one v, e) (omega arith)
-said_is hex v (x ∷ t) n h =
-    by_test (ltb (digit_of x) (base hex))
-    (λ e. by_test (leb (v * base hex + digit_of x) 18446744073709551615)
-    (λ f. said_is hex (v * base hex + digit_of x) t n (rw (e, f) at h) ∙ one_more v (base hex) (digit_of x) (base hex ^ length t) (worth (base hex) t) ∙ rw (pow-suc (base hex) (length t)))
-    (λ f. let z : ◌≡◌ {A = ℕ} 0 1 = let g = rw (e, f) at h in cc in clash z))
-    (λ e. let z : ◌≡◌ {A = ℕ} 0 1 = let g = rw e at h in cc in clash z)
+-- a digit that was joined
+joined_one : (b v n : ℕ) (o : Option ℕ) (t : List ℕ) → onward (joined b v o) (λ m. said b m t) ≡ Ok n → (d : ℕ) × (o ≡ Some d) × (said b (v * b + d) t ≡ Ok n)
+unfolding joined
+joined_one b v n None t h = absurd (no_number h)
+  where
+    no_number : {e : Fault} {m : ℕ} → ◌≡◌ {A = Result ℕ Fault} (Err e) (Ok m) → ⊥
+    no_number e = cc e
+joined_one b v n (Some d) t h =
+    by_test (ltb d b)
+    (λ e. by_test (leb (v * b + d) 18446744073709551615)
+    (λ f. (d, refl, rw (e, f) at h))
+    (λ f. absurd (no_number (rw (e, f) at h))))
+    (λ e. absurd (no_number (rw e at h)))
+  where
+    no_number : {e : Fault} {m : ℕ} → ◌≡◌ {A = Result ℕ Fault} (Err e) (Ok m) → ⊥
+    no_number e = cc e
+
+more_is : (b v n x d : ℕ) (t : List ℕ) → digit_of x ≡ Some d → n ≡ (v * b + d) * b ^ length t + worth b t → n ≡ v * b ^ suc (length t) + (unwrap_or (digit_of x) 0 * b ^ length t + worth b t)
+more_is b v n x d t p q = q ∙ one_more v b d (b ^ length t) (worth b t) ∙ rw (pow-suc b (length t), p)
+
+pub said_is : (b v : ℕ) (t : List ℕ) (n : ℕ) → said b v t ≡ Ok n → n ≡ v * b ^ length t + worth b t
+unfolding said
+said_is b v [] n h =
+    let e : v ≡ n = cc h in
+    rw (pow-zero b, mul-one v, e) (omega arith)
+said_is b v (x ∷ t) n h =
+    let m = joined_one b v n (digit_of x) t h in
+    more_is b v n x m.0 t m.1 (said_is b (v * b + m.0) t n m.2)
 
 -- and every text of digits whose number fits says it
-positive : (hex : Bool) → 0 < base hex
-positive true = omega arith
-positive false = omega arith
-
 fits : (m p w n : ℕ) → 0 < p → m * p + w ≤ n → m ≤ n
 fits m p w n h k = omega (arith, le-mul_of_pos_right m h)
 
-pub said_all : (hex : Bool) (v : ℕ) (t : List ℕ) → ((i : ℕ) → i < length t → digit_of (get_or t i 0) < base hex) → v * base hex ^ length t + worth (base hex) t ≤ 18446744073709551615 → said hex v t ≡ value.Is (v * base hex ^ length t + worth (base hex) t)
+pub said_all : (b v : ℕ) (t : List ℕ) → 0 < b → ((i : ℕ) → i < length t → IsSomeAnd (digit_of (get_or t i 0)) (λ d. d < b)) → v * b ^ length t + worth b t ≤ 18446744073709551615 → said b v t ≡ Ok (v * b ^ length t + worth b t)
 unfolding said joined
-said_all hex v [] d h =
-    let e : v ≡ v * base hex ^ 0 + 0 = rw (pow-zero (base hex), mul-one v) (omega arith) in
-    ap value.Is e
-said_all hex v (x ∷ t) d h =
-    let b = base hex in
-    let q : (v * b + digit_of x) * b ^ length t + worth b t ≡ v * b ^ suc (length t) + (digit_of x * b ^ length t + worth b t) = one_more v b (digit_of x) (b ^ length t) (worth b t) ∙ rw (pow-suc b (length t)) in
-    let k : (v * b + digit_of x) * b ^ length t + worth b t ≤ 18446744073709551615 = rw q h in
-    let f : v * b + digit_of x ≤ 18446744073709551615 = fits (v * b + digit_of x) (b ^ length t) (worth b t) 18446744073709551615 (one-le-pow (length t) b (positive hex)) k in
-    rw (lt-ltb (digit_of x) b (d 0 (omega arith)), le-leb (v * b + digit_of x) 18446744073709551615 f)
-    (said_all hex (v * b + digit_of x) t (λ i u. d (suc i) (omega arith)) k ∙ ap value.Is q)
+said_all b v [] p d h =
+    let e : v ≡ v * b ^ 0 + 0 = rw (pow-zero b, mul-one v) (omega arith) in
+    ap Ok e
+said_all b v (x ∷ t) p h l = by (λ d k. said_all b (v * b + d) t p (λ i u. h (suc i) (omega arith)) k) (digit_of x) refl (h 0 (omega arith))
+  where
+    by : ((d : ℕ) → (v * b + d) * b ^ length t + worth b t ≤ 18446744073709551615 → said b (v * b + d) t ≡ Ok ((v * b + d) * b ^ length t + worth b t)) → (o : Option ℕ) → digit_of x ≡ o → IsSomeAnd o (λ d. d < b) → onward (joined b v (digit_of x)) (λ n. said b n t) ≡ Ok (v * b ^ suc (length t) + (unwrap_or (digit_of x) 0 * b ^ length t + worth b t))
+    by rest None e u = absurd u
+    by rest (Some d) e u =
+        let q : (v * b + d) * b ^ length t + worth b t ≡ v * b ^ suc (length t) + (d * b ^ length t + worth b t) = one_more v b d (b ^ length t) (worth b t) ∙ rw (pow-suc b (length t)) in
+        let k : (v * b + d) * b ^ length t + worth b t ≤ 18446744073709551615 = rw q (rw e at l) in
+        let f : v * b + d ≤ 18446744073709551615 = fits (v * b + d) (b ^ length t) (worth b t) 18446744073709551615 (one-le-pow (length t) b p) k in
+        rw (e, lt-ltb d b u, le-leb (v * b + d) 18446744073709551615 f)
+        (rest d k ∙ ap Ok q)

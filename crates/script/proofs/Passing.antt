@@ -1,16 +1,16 @@
--- Laws of `spanned` and `before`: a byte that is spanned, one that is not, and the text's end.
-use mathlib.Core.Path.{◌≡◌}
-use mathlib.Core.Bool.{Bool, true, false, not, beq}
+-- Laws of `spanned`, and of the words that two walks cut out.
+use mathlib.Core.Path.{◌≡◌, refl, sym, ap, ◌∙◌}
+use mathlib.Core.Bool.{Bool, true, false, beq}
 use mathlib.Core.List.{List, [], ◌∷◌}
-use Prim.Native.Nat.{ℕ, suc, ◌+◌, ◌≤◌, ◌<◌}
+use Prim.Native.Nat.{ℕ, zero, suc, ◌+◌, ◌-◌, ◌≤◌}
 use native.Mathlib.Numerals.{add-one}
+use native.Mathlib.Nat.{zero-add}
 use native.Mathlib.Omega.{arith}
-use borrow.Author.Tests.{eq-eqb, ne_eqb, not-true, not-false}
-use lib.Dec.{eqb, ltb}
-use lib.ListN.{length, drop, get_or, length-drop}
-use lib.Seq.{drop-cons, drop-length}
+use lib.Dec.{ltb}
+use lib.ListN.{length, take, drop, length-drop, length-take}
+use lib.Seq.{drop-drop, take_all}
 use Rattle.lists.specs.Pick.{pick}
-use Rattle.script.specs.Words.{spanned, before, over, starts_from, word_start, word_end, word_from, part}
+use Rattle.script.specs.Words.{spanned, over, starts_from, word_start, word_end, word_from}
 
 either_low : (r : Bool) (a b n : ℕ) → a ≤ n → b ≤ n → pick r a b ≤ n
 either_low true a b n h k = h
@@ -22,65 +22,74 @@ unfolding spanned
 spanned_low b [] = omega arith
 spanned_low b (x ∷ t) = either_low (beq (ltb x 33) b) (suc (spanned b t)) 0 _ (omega (arith, spanned_low b t)) (omega arith)
 
-pub before_low : (b : ℕ) (t : List ℕ) → before b t ≤ length t
-unfolding before
-before_low b [] = omega arith
-before_low b (x ∷ t) = either_low (eqb x b) 0 (suc (before b t)) _ (omega arith) (omega (arith, before_low b t))
+pub pass_low : (t : List ℕ) (b : Bool) (i : ℕ) → i ≤ length t → i + spanned b (drop i t) ≤ length t
+pass_low t b i h = omega (arith, spanned_low b (drop i t), length-drop i t)
 
--- the walk of `pass` from place `from`, now at i: where it ends
-module _ (t : List ℕ) (b : Bool) (i : ℕ) where
-  pub pass_on : i < length t → not (beq (ltb (get_or t i 0) 33) b) ≡ false → i + spanned b (drop i t) ≡ i + 1 + spanned b (drop (i + 1) t)
-  unfolding spanned
-  pass_on h e = rw (add-one i, drop-cons t i 0 h, not-false (beq (ltb (get_or t i 0) 33) b) e) (omega arith)
+-- what `position` counts
+pub spanned_none : (b : Bool) → spanned b [] ≡ 0
+unfolding spanned
+spanned_none b = refl
 
-  pub pass_stop : i < length t → not (beq (ltb (get_or t i 0) 33) b) ≡ true → i + spanned b (drop i t) ≡ i
-  unfolding spanned
-  pass_stop h e = rw (drop-cons t i 0 h, not-true (beq (ltb (get_or t i 0) 33) b) e) (omega arith)
+pub spanned_hit : (b : Bool) (x : ℕ) (t : List ℕ) → beq (ltb x 33) b ≡ false → spanned b (x ∷ t) ≡ 0
+unfolding spanned
+spanned_hit b x t e = rw e
 
-  pub pass_end : i ≤ length t → length t ≤ i → i + spanned b (drop i t) ≡ i
-  unfolding spanned
-  pass_end h k =
-      let e : i ≡ length t = omega arith in
-      rw (e, drop-length t) (omega arith)
+pub spanned_miss : (b : Bool) (x : ℕ) (t : List ℕ) → beq (ltb x 33) b ≡ true → spanned b (x ∷ t) ≡ spanned b t + 1
+unfolding spanned
+spanned_miss b x t e = rw e (sym (add-one (spanned b t)))
 
-  pub pass_low : i ≤ length t → i + spanned b (drop i t) ≤ length t
-  pass_low h = omega (arith, spanned_low b (drop i t), length-drop i t)
+-- words lie within the line
+pub over_low : (t : List ℕ) (k : ℕ) → over t k ≤ length t
+unfolding over
+over_low t zero = omega arith
+over_low t (suc k) = pass_low t false (starts_from t (over t k)) (pass_low t true (over t k) (over_low t k))
 
--- the walk of `find`
-module _ (t : List ℕ) (b i : ℕ) where
-  pub find_on : i < length t → (get_or t i 0 ≡ b → ⊥) → i + before b (drop i t) ≡ i + 1 + before b (drop (i + 1) t)
-  unfolding before
-  find_on h e = rw (add-one i, drop-cons t i 0 h, ne_eqb _ _ e) (omega arith)
+pub word_within : (t : List ℕ) (k : ℕ) → (word_start t k ≤ word_end t k) × (word_end t k ≤ length t)
+unfolding word_start word_end over
+word_within t k = (omega arith, over_low t (suc k))
 
-  pub find_stop : i < length t → get_or t i 0 ≡ b → i + before b (drop i t) ≡ i
-  unfolding before
-  find_stop h e = rw (drop-cons t i 0 h, eq-eqb _ _ e) (omega arith)
-
-  pub find_end : i ≤ length t → length t ≤ i → i + before b (drop i t) ≡ i
-  unfolding before
-  find_end h k =
-      let e : i ≡ length t = omega arith in
-      rw (e, drop-length t) (omega arith)
-
--- the word that a walk finds at i words
-module _ (t : List ℕ) (i at s e : ℕ) (p : at ≡ over t i) (q : s ≡ starts_from t at) where
-  pub word_starts : s ≡ word_start t i
-  unfolding word_start
-  word_starts = rw (q, p)
-
-  module _ (r : e ≡ s + spanned false (drop s t)) where
-    pub word_ends : e ≡ word_end t i
-    unfolding word_end over
-    word_ends = rw (r, q, p)
-
-    pub over_more : e ≡ over t (i + 1)
-    unfolding over
-    over_more = rw (add-one i, r, q, p)
-
-    pub word_is : part t s e ≡ word_from t i
-    unfolding word_from
-    word_is = rw (← word_starts, ← word_ends)
-
-pub part_word : (t : List ℕ) (k s e : ℕ) → s ≡ word_start t k → e ≡ word_end t k → part t s e ≡ word_from t k
+pub word_length : (t : List ℕ) (k : ℕ) → length (word_from t k) ≡ word_end t k - word_start t k
 unfolding word_from
-part_word t k s e p q = rw (p, q)
+word_length t k =
+    let w = word_within t k in
+    omega (arith, length-take (word_end t k - word_start t k) (drop (word_start t k) t), length-drop (word_start t k) t, w.0, w.1)
+
+-- what is left of a text that is cut at a place
+pub cut_here : (n : ℕ) (t : List ℕ) → take (length t - n) (drop n t) ≡ drop n t
+cut_here n t = take_all (length t - n) (drop n t) (omega (arith, length-drop n t))
+
+-- the walks over the first word, and the words before word k
+pub word_first : (t : List ℕ) (n : ℕ) → n ≡ spanned true t → take (length t - n) (drop n t) ≡ drop (word_start t 0) t
+unfolding word_start over
+word_first t n e = cut_here n t ∙ ap (λ (m : ℕ). drop m t) (e ∙ sym (zero-add (spanned true t)))
+
+pub word_beyond : (t w : List ℕ) (n : ℕ) → w ≡ drop (word_start t 0) t → n ≡ spanned false w → take (length w - n) (drop n w) ≡ drop (word_end t 0) t
+unfolding word_start word_end over
+word_beyond t w n p e = cut_here n w ∙ rw (e, p) (drop-drop (spanned false (drop (starts_from t 0) t)) (starts_from t 0) t)
+
+pub over_none : (t : List ℕ) → t ≡ drop (over t 0) t
+unfolding over
+over_none t = refl
+
+-- a walk that starts behind k words
+over_on : (t : List ℕ) (k : ℕ) → over t (suc k) ≡ over t k + over (drop (over t k) t) 1
+unfolding over
+over_on t k =
+    let n = over t k in
+    let s = spanned true (drop n t) in
+    let e : drop s (drop n t) ≡ drop (n + s) t = drop-drop s n t in
+    rw (zero-add s, e) (omega arith)
+
+pub over_more : (t r r' : List ℕ) (k : ℕ) → r ≡ drop (over t k) t → r' ≡ drop (word_end r 0) r → r' ≡ drop (over t (k + 1)) t
+unfolding word_end
+over_more t r r' k p q =
+    let e : drop (over r 1) r ≡ drop (over t k + over (drop (over t k) t) 1) t = rw p (drop-drop (over (drop (over t k) t) 1) (over t k) t) in
+    rw (add-one k, over_on t k, ← e) q
+
+pub word_is : (t : List ℕ) (k i n : ℕ) (r w : List ℕ) → k ≡ i → r ≡ drop (over t i) t → w ≡ drop (word_start r 0) r → n ≡ spanned false w → take n w ≡ word_from t k
+unfolding word_start word_end word_from over
+word_is t k i n r w e p q f =
+    let s = starts_from t (over t k) in
+    let a : w ≡ drop s t = q ∙ rw (p, ← e, zero-add) (drop-drop (spanned true (drop (over t k) t)) (over t k) t) in
+    let b : s + spanned false (drop s t) - s ≡ spanned false (drop s t) = omega arith in
+    rw (f, a, b)

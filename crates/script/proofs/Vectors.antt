@@ -2,10 +2,10 @@
 use mathlib.Core.Path.{◌≡◌, refl}
 use mathlib.Core.List.{[], ◌∷◌}
 use Rattle.script.specs.declared.Fault.TheVariants as fault
-use Rattle.script.specs.declared.Value.TheVariants as value
-use Rattle.script.specs.Words.{eqs, last_end, over, spanned, place_from, place_of, word_end, word_from, word_start}
+use Rattle.std.specs.Prelude.{Some, Ok, Err}
+use Rattle.script.specs.Words.{last_end, over, spanned, place_from, place_of, word_end, word_from, word_start}
 use Rattle.script.specs.Numbers.{digit_of, hexed, joined, number_in, said}
-use Rattle.script.specs.Fills.{generated, pairs}
+use Rattle.script.specs.Fills.{generated, paired, pairs}
 use Rattle.script.specs.Spelling.{places_from, spelling}
 use Rattle.script.specs.Sums.{crc32, step, steps, summed}
 
@@ -18,28 +18,28 @@ last_over : last_end (97 ∷ 98 ∷ 32 ∷ 9 ∷ 99 ∷ 100 ∷ 32 ∷ []) ≡ 6
 unfolding last_end
 last_over = refl
 
-which : place_of (97 ∷ 98 ∷ 32 ∷ 9 ∷ 99 ∷ 100 ∷ 32 ∷ []) (99 ∷ 100 ∷ []) ≡ 1
-unfolding place_from eqs word_from word_start word_end over spanned
+which : place_of (97 ∷ 98 ∷ 32 ∷ 9 ∷ 99 ∷ 100 ∷ 32 ∷ []) (99 ∷ 100 ∷ []) ≡ Some 1
+unfolding place_from word_from word_start word_end over spanned
 which = refl
 
 -- 207, 0x1Fe, 12a, 0x and the least number that does not fit
-decimal : number_in (50 ∷ 48 ∷ 55 ∷ []) ≡ value.Is 207
+decimal : number_in (50 ∷ 48 ∷ 55 ∷ []) ≡ Ok 207
 unfolding number_in hexed said joined digit_of
 decimal = refl
 
-hexadecimal : number_in (48 ∷ 120 ∷ 49 ∷ 70 ∷ 101 ∷ []) ≡ value.Is 510
+hexadecimal : number_in (48 ∷ 120 ∷ 49 ∷ 70 ∷ 101 ∷ []) ≡ Ok 510
 unfolding number_in hexed said joined digit_of
 hexadecimal = refl
 
-no_digit : number_in (49 ∷ 50 ∷ 97 ∷ []) ≡ value.Wrong fault.NumberWrong
+no_digit : number_in (49 ∷ 50 ∷ 97 ∷ []) ≡ Err fault.NumberWrong
 unfolding number_in hexed said joined digit_of
 no_digit = refl
 
-no_digits : number_in (48 ∷ 120 ∷ []) ≡ value.Wrong fault.NumberWrong
+no_digits : number_in (48 ∷ 120 ∷ []) ≡ Err fault.NumberWrong
 unfolding number_in hexed said joined digit_of
 no_digits = refl
 
-too_large : number_in (49 ∷ 56 ∷ 52 ∷ 52 ∷ 54 ∷ 55 ∷ 52 ∷ 52 ∷ 48 ∷ 55 ∷ 51 ∷ 55 ∷ 48 ∷ 57 ∷ 53 ∷ 53 ∷ 49 ∷ 54 ∷ 49 ∷ 54 ∷ []) ≡ value.Wrong fault.NumberTooLarge
+too_large : number_in (49 ∷ 56 ∷ 52 ∷ 52 ∷ 54 ∷ 55 ∷ 52 ∷ 52 ∷ 48 ∷ 55 ∷ 51 ∷ 55 ∷ 48 ∷ 57 ∷ 53 ∷ 53 ∷ 49 ∷ 54 ∷ 49 ∷ 54 ∷ []) ≡ Err fault.NumberTooLarge
 unfolding number_in hexed said joined digit_of
 too_large = refl
 
@@ -49,7 +49,7 @@ unfolding generated
 seeded = refl
 
 in_pairs : pairs (48 ∷ 102 ∷ 65 ∷ 57 ∷ 103 ∷ 48 ∷ []) ≡ 15 ∷ 169 ∷ []
-unfolding pairs digit_of
+unfolding pairs paired digit_of
 in_pairs = refl
 
 -- the check sum of "123456789"

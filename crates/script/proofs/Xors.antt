@@ -1,15 +1,15 @@
 -- Laws of CRC-32: its bits are linear, so eight of them may be looked up.
 use mathlib.Core.Path.{◌≡◌, refl, sym, ap, ap₂, ◌∙◌}
-use mathlib.Core.List.{List, [], ◌∷◌}
-use Prim.Native.Nat.{ℕ, zero, suc, ◌+◌, ◌-◌, ◌*◌, ◌/◌, ◌%◌, ◌^◌, ◌≤◌, ◌<◌}
+use mathlib.Core.List.{List, [], ◌∷◌, ◌++◌, append-nil, append_assoc}
+use Prim.Native.Nat.{ℕ, zero, suc, ◌+◌, ◌*◌, ◌/◌, ◌%◌, ◌^◌, ◌<◌}
 use native.Mathlib.Numerals.{add-one}
 use native.Mathlib.Omega.{arith}
 use borrow.Author.Tests.{eq-eqb, eqb-false, eqb-true, ne_eqb}
 use lib.Arith.{bin_ind}
 use lib.Bits.{bit_xor, differ, shifted_even, shifted_half, xor_comm, xor_mod, xor_self, xor_shifted, xor_shr, xor_step, xor_zero_r}
 use lib.Dec.{eqb}
-use lib.ListN.{length, take, drop, get_or, set, length-append, get_or-append}
-use lib.Seq.{drop-cons, drop-length, get_or_at, take_all, take-suc-set}
+use lib.ListN.{length, take, get_or, set, length-append, get_or-append}
+use lib.Seq.{get_or_at, take_all, take-suc-set}
 use Rattle.lists.proofs.Cases.{by_test}
 use Rattle.lists.specs.Words.{Bytes}
 use Rattle.script.specs.Sums.{crc32, crc_by, crc_table, step, steps, summed, tabled, table_to}
@@ -153,17 +153,20 @@ unfolding crc_by crc32
 right_by l t r h e f = e ∙ rw (f, tabled_is t h 4294967295)
 
 -- the walk of `crc_entry`
-pub steps_on : (n c r : ℕ) → 0 < n → r ≡ step c → steps n c ≡ steps (n - 1) r
+steps_last : (n c : ℕ) → steps (suc n) c ≡ step (steps n c)
 unfolding steps
-steps_on n c r h e =
-    let f : n ≡ suc (n - 1) = omega arith in
-    ap (λ (k : ℕ). steps k c) f ∙ ap (steps (n - 1)) (sym e)
+steps_last zero c = refl
+steps_last (suc n) c = steps_last n (step c)
 
-pub steps_end : (n c : ℕ) → n ≤ 0 → steps n c ≡ c
+pub steps_none : (i : ℕ) → i ≡ steps 0 i
 unfolding steps
-steps_end n c h =
-    let e : n ≡ 0 = omega arith in
-    rw e
+steps_none i = refl
+
+pub steps_more : (n i c r : ℕ) → c ≡ steps n i → r ≡ step c → r ≡ steps (n + 1) i
+steps_more n i c r h e = e ∙ ap step h ∙ rw (add-one n) (sym (steps_last n i))
+
+pub steps_all : (m n i c : ℕ) → m ≡ n → c ≡ steps m i → c ≡ steps n i
+steps_all m n i c e h = h ∙ ap (λ (k : ℕ). steps k i) e
 
 -- the walk of `crc_table`
 pub table_more : (l : List ℕ) (i v : ℕ) → i < length l → take i l ≡ table_to i → v ≡ steps 8 i → take (i + 1) (set l i v) ≡ table_to (i + 1)
@@ -173,17 +176,20 @@ table_more l i v h e f = rw (add-one i, take-suc-set l i v h, e, f)
 pub table_end : (l : List ℕ) (i : ℕ) → i ≡ 256 → length l ≡ 256 → take i l ≡ table_to i → l ≡ crc_table
 table_end l i e f g = sym (take_all i l (omega arith)) ∙ g ∙ ap table_to e
 
--- the walk of `crc`
-module _ (l t : List ℕ) (c i : ℕ) where
-  pub tabled_on : (v : ℕ) → i < length t → v ≡ get_or t i 0 → tabled l c (drop i t) ≡ tabled l (bit_xor (get_or l (bit_xor c v % 256) 0) (c / 256)) (drop (i + 1) t)
-  unfolding tabled
-  tabled_on v h e = rw (add-one i, drop-cons t i 0 h, e)
+-- the walk of `crc`: what comes behind the bytes so far goes on from c
+abbrev pub Summing : List ℕ → List ℕ → ℕ → Type 0
+Summing l t c = (r : List ℕ) → tabled l c r ≡ tabled l 4294967295 (t ++ r)
 
-  pub tabled_end : i ≤ length t → length t ≤ i → tabled l c (drop i t) ≡ c
-  unfolding tabled
-  tabled_end h k =
-      let e : i ≡ length t = omega arith in
-      rw (e, drop-length t)
+pub summing_none : (l : List ℕ) → Summing l [] 4294967295
+summing_none l r = refl
+
+pub summing_one : (l t : List ℕ) (c x n : ℕ) → Summing l t c → n ≡ bit_xor (get_or l (bit_xor c x % 256) 0) (c / 256) → Summing l (t ++ (x ∷ [])) n
+unfolding tabled
+summing_one l t c x n h e r = ap (λ (k : ℕ). tabled l k r) e ∙ h (x ∷ r) ∙ ap (tabled l 4294967295) (sym (append_assoc t (x ∷ []) r))
+
+pub summing_all : (l t : List ℕ) (c : ℕ) → Summing l t c → tabled l 4294967295 t ≡ c
+unfolding tabled
+summing_all l t c h = sym (h [] ∙ ap (tabled l 4294967295) (append-nil t))
 
 pub crc_by_lem : (l t : List ℕ) (c : ℕ) → tabled l 4294967295 t ≡ c → bit_xor c 4294967295 ≡ crc_by l t
 unfolding crc_by

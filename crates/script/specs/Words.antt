@@ -1,5 +1,5 @@
 -- The words of a line: runs of bytes that are not blank. A byte is blank if it is below 33.
-use Rattle.std.specs.Prelude.{Bool, true, false, ◌&&◌, List, [], ◌∷◌, ℕ, zero, suc, ◌+◌, ◌-◌, eqb, ltb, length, take, drop}
+use Rattle.std.specs.Prelude.{Bool, true, false, List, [], ◌∷◌, ℕ, zero, suc, ◌+◌, ◌-◌, eqb, ltb, length, take, drop, Option, Some, None, bytes_eq}
 use Rattle.std.specs.Bool.{beq}
 use Rattle.lists.specs.Pick.{pick}
 
@@ -33,28 +33,16 @@ part t start end = take (end - start) (drop start t)
 unfoldable pub word_from : List ℕ → ℕ → List ℕ
 word_from t k = part t (word_start t k) (word_end t k)
 
--- how many bytes stand before the first b; the text's length where there is none
-unfoldable pub before : ℕ → List ℕ → ℕ
-before b [] = 0
-before b (x ∷ t) = pick (eqb x b) 0 (suc (before b t))
-
 -- where the last word ends; 0 where there is none
 unfoldable pub last_end : List ℕ → ℕ
 last_end [] = 0
 last_end (x ∷ t) = pick (eqb (last_end t) 0) (pick (ltb x 33) 0 1) (suc (last_end t))
 
--- whether two texts are the same
-unfoldable pub eqs : List ℕ → List ℕ → Bool
-eqs [] [] = true
-eqs [] (b ∷ s) = false
-eqs (a ∷ t) [] = false
-eqs (a ∷ t) (b ∷ s) = eqb a b && eqs t s
+-- the first of the n words from word k on that is w
+unfoldable pub place_from : List ℕ → List ℕ → ℕ → ℕ → Option ℕ
+place_from l w k zero = None
+place_from l w k (suc n) = pick (bytes_eq (word_from l k) w) (Some k) (place_from l w (suc k) n)
 
--- the first of the n words from word k on that is w; k + n where none is
-unfoldable pub place_from : List ℕ → List ℕ → ℕ → ℕ → ℕ
-place_from l w k zero = k
-place_from l w k (suc n) = pick (eqs (word_from l k) w) k (place_from l w (suc k) n)
-
--- which word of a list w is; the list's length where it is none: a list has no more words than bytes, and beyond them all are empty
-abbrev pub place_of : List ℕ → List ℕ → ℕ
+-- which word of a list w is: a list has no more words than bytes, and beyond them all are empty
+abbrev pub place_of : List ℕ → List ℕ → Option ℕ
 place_of l w = place_from l w 0 (length l)

@@ -7,14 +7,14 @@ mod reads;
 mod sums;
 mod words;
 
-pub use fills::{append, copy, generate, hex_bytes, wipe};
+pub use fills::{append, copy, generate, hex_bytes, wipe, zeros};
 pub use prints::{put_byte, put_bytes, put_decimal, put_hex, put_labelled, write_out};
-pub use reads::{argument, flag, number, numbers};
+pub use reads::{argument, number, numbers};
 pub use sums::{crc, crc_table};
-pub use words::{find, find_word, last, nth, place_in};
+pub use words::{find_word, nth, place_in, trimmed};
 
 // Why a line can't be read.
-#[derive(Clone, Copy)]
+#[derive(Clone, Copy, PartialEq, Eq, Debug)]
 pub enum Fault {
     UnknownWord,
     ExtraWord,
@@ -30,23 +30,4 @@ pub enum Fault {
     OutsideTable,
     RecordTooLong,
     OtherRules,
-}
-
-#[derive(Clone, Copy)]
-pub enum Value {
-    Is(usize),
-    Wrong(Fault),
-}
-
-#[derive(Clone, Copy)]
-pub enum Three {
-    Are(usize, usize, usize),
-    Wrong(Fault),
-}
-
-// Where a word of a line stands; empty at the line's end where there is none.
-#[derive(Clone, Copy)]
-pub struct Span {
-    pub start: usize,
-    pub end: usize,
 }

@@ -1,11 +1,11 @@
 // A line of output, made in a lent slice: each function answers where the next byte goes. What doesn't fit is left out.
+// Kept: the place goes in and out as a number; a struct of both would be lent on, and want a clause on the slice and one on the place all the same.
 ghost use Rattle.std.specs.Prelude.{[], ◌∷◌, ◌++◌, max, min, OnOk};
 ghost use Rattle.std.specs.Io.KnownBytes.{Appends};
 ghost use Rattle.script.specs.Prints.{Put, sent};
 ghost use Rattle.script.specs.Spelling.{spelling};
 
 use crate::fills::copy;
-use lists::least;
 use std::io::{Result, Write};
 
 pub fn put_bytes(out: &mut [u8], at: usize, b: &[u8]) -> usize
@@ -15,14 +15,13 @@ pub fn put_bytes(out: &mut [u8], at: usize, b: &[u8]) -> usize
         return at;
     }
     copy(&mut out[at..], b);
-    at + least(out.len() - at, b.len())
+    at + (out.len() - at).min(b.len())
 }
 
 pub fn put_byte(out: &mut [u8], at: usize, x: u8) -> usize
     ensures { Put out.old at (x ∷ []) out.new result }
 {
-    let text = [x; 1];
-    put_bytes(out, at, &text)
+    put_bytes(out, at, &[x])
 }
 
 pub fn put_decimal(out: &mut [u8], at: usize, n: usize) -> usize

@@ -2,8 +2,6 @@
 ghost use Rattle.std.specs.Prelude.{◌≡◌};
 ghost use Rattle.script.specs.Sums.{crc32, crc_by, crc_table, step, steps};
 
-use lists::wide;
-
 fn crc_step(c: usize) -> usize
     ensures { result ≡ step c }
 {
@@ -18,10 +16,8 @@ fn crc_entry(i: usize) -> usize
     ensures { result ≡ steps 8 i }
 {
     let mut c = i;
-    let mut turns: usize = 8;
-    while 0 < turns {
+    for _ in 0..8usize {
         c = crc_step(c);
-        turns -= 1;
     }
     c
 }
@@ -31,10 +27,8 @@ pub fn crc_table() -> [usize; 256]
     ensures { result ≡ crc_table }
 {
     let mut table = [0usize; 256];
-    let mut i: usize = 0;
-    while i < 256 {
-        table[i] = crc_entry(i);
-        i += 1;
+    for (i, entry) in table.iter_mut().enumerate() {
+        *entry = crc_entry(i);
     }
     table
 }
@@ -44,12 +38,10 @@ pub fn crc(b: &[u8], table: &[usize; 256]) -> usize
     ensures by { result ≡ crc_by table.now b.now }
     ensures right { table.now ≡ crc_table → result ≡ crc32 b.now }
 {
+    // Kept: as a fold over a closure a replay takes five times as long where the code runs unproved, with its tests.
     let mut c: usize = 4294967295;
-    let mut i: usize = 0;
-    while i < b.len() {
-        let k = (c ^ wide(b[i])) % 256;
-        c = table[k] ^ (c / 256);
-        i += 1;
+    for &x in b {
+        c = table[(c ^ usize::from(x)) % 256] ^ (c / 256);
     }
     c ^ 4294967295
 }

@@ -4,4 +4,4 @@ use Rattle.lister.proofs.Reading.{read_listed}
 use Rattle.lister.proofs.list_file.Goals as goal
 
 pub returns : goal.returns
-returns g c = read_listed c.list.result _ _ _ _ (length c.space-buffer.result) (omega arith) c.in_ok-got.ensures.bytes c.list.ensures
+returns g c = read_listed c.list.result _ _ _ _ (length c.zeros-buffer.result) (omega arith) c.in_ok-got.ensures.bytes c.list.ensures

@@ -1,20 +1,16 @@
 -- `build` meets its contract: the parts within the sizes are lent and come back.
-use mathlib.Core.Path.{ap, ◌∙◌}
-use Prim.Native.Nat.{◌-◌}
-use native.Mathlib.Nat.{sub-zero}
-use native.Mathlib.Omega.{arith}
-use lib.ListN.{length-take}
-use lib.Seq.{sets}
-use Rattle.lists.proofs.Stores.{put_sets}
+use Rattle.std.proofs.Common.{ap, ◌∙◌, arith}
 use Rattle.desk.specs.Turns.{settled}
+use Rattle.desk.proofs.Fronts.{front_back}
 use Rattle.desk.proofs.builds.build.Goals as goal
 
-pub returns : goal.returns
-returns c =
-    let m = c.least-m in
-    let r = c.least-r in
-    let t = c.build_at in
-    let a = rw (sub-zero m.result, sub-zero r.result, m.ensures, r.ensures) at t.ensures.answer in
-    let s = rw (sub-zero m.result, m.ensures) at t.ensures.memory in
-    let u = rw (sub-zero r.result, r.ensures) at t.ensures.reel in
-    record { turn = c.settle.ensures ∙ ap (settled c.args.d) a; memory = put_sets 0 (m.result - 0) c.args.mem.now t.new.mem (omega (arith, t.auto, length-take (m.result - 0) c.args.mem.now)) (omega arith) ∙ ap (sets c.args.mem.now 0) s; reel = put_sets 0 (r.result - 0) c.args.reel.now t.new.reel (omega (arith, t.auto, length-take (r.result - 0) c.args.reel.now)) (omega arith) ∙ ap (sets c.args.reel.now 0) u }
+pub returns-clause-turn : goal.returns-clause-turn
+returns-clause-turn c = c.settle.ensures ∙ ap (settled c.args.d) (rw (c.min-m.ensures, c.min-r.ensures) at c.build_at.ensures.answer)
+
+pub returns-clause-memory : goal.returns-clause-memory
+returns-clause-memory c =
+    front_back c.min-m.result c.args.mem.now c.build_at.new.mem _ _ c.min-m.ensures (omega (arith, c.build_at.auto)) (rw c.min-m.ensures at c.build_at.ensures.memory)
+
+pub returns-clause-reel : goal.returns-clause-reel
+returns-clause-reel c =
+    front_back c.min-r.result c.args.reel.now c.build_at.new.reel _ _ c.min-r.ensures (omega (arith, c.build_at.auto)) (rw c.min-r.ensures at c.build_at.ensures.reel)

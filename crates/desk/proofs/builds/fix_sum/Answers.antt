@@ -1,12 +1,13 @@
--- `fix_sum` meets its contract: the block is there, or nothing is stored.
-use native.Mathlib.Omega.{arith}
-use lib.Seq.{sets}
-use Rattle.desk.specs.Builds.{check_bytes, check_place}
-use Rattle.desk.proofs.Built.{block_done, block_not, check_put}
+-- `fix_sum`: the check word that a block's bytes ask is stored.
+use Rattle.std.proofs.Common.{◌/◌, length, arith}
+use borrow.Author.Tests.{lt-ltb}
+use Rattle.tape.specs.Numbers.{block_bytes}
+use Rattle.desk.specs.Builds.{block_answer}
+use Rattle.desk.proofs.Built.{check_put}
 use Rattle.desk.proofs.builds.fix_sum.Goals as goal
 
-pub returns-then-reel-k : goal.returns-then-reel-k
-returns-then-reel-k c = let both = block_not c.args.reel.now (sets c.args.reel.now (check_place c.args.k) (check_bytes c.args.reel.now c.args.k)) c.args.k c.args.p (omega arith) in record { answer = both.0; stored = both.1 }
-
-pub returns : goal.returns
-returns c = let both = block_done c.args.reel.now (sets c.args.reel.now (check_place c.args.k) (check_bytes c.args.reel.now c.args.k)) c.args.k c.args.p _ (omega arith) (check_put c.args.reel.now _ c.args.k _ c.word_sum-sum.ensures.is c.put_word.ensures) in record { answer = both.0; stored = both.1 }
+pub returns-clause-stored : goal.returns-clause-stored
+unfolding block_answer
+returns-clause-stored c =
+    let s = c.args.reel.now in
+    rw (lt-ltb c.args.k (length s / block_bytes) (omega arith)) (check_put s _ c.args.k _ c.word_sum-sum.ensures.is c.put_word.ensures)

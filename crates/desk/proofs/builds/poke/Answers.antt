@@ -1,13 +1,15 @@
--- `poke` meets its contract: the bytes fit, or nothing is stored.
-use native.Mathlib.Omega.{arith}
-use Rattle.desk.proofs.Built.{poke_done, poke_not}
+-- `poke`: the bytes that fit are stored.
+use Rattle.std.proofs.Common.{◌≡◌, ◌+◌, ◌-◌, true, leb, length, arith}
+use borrow.Author.Tests.{leb-true}
+use Rattle.lists.proofs.Stores.{put_sets}
+use Rattle.desk.specs.Builds.{poke_answer}
 use Rattle.desk.proofs.builds.poke.Goals as goal
 
-pub returns-then-b-d : goal.returns-then-b-d
-returns-then-b-d c = let both = poke_not c.args.b.now c.args.d.now c.args.at c.args.p c.args.outside (omega arith) in record { answer = both.0; stored = both.1 }
-
-pub returns-then-b-d-2 : goal.returns-then-b-d-2
-returns-then-b-d-2 c = let both = poke_not c.args.b.now c.args.d.now c.args.at c.args.p c.args.outside (omega arith) in record { answer = both.0; stored = both.1 }
-
-pub returns : goal.returns
-returns c = let both = poke_done c.args.b.now c.args.d.now c.args.at c.args.p c.args.outside _ (omega arith) c.copy.ensures in record { answer = both.0; stored = both.1 }
+pub returns-clause-stored : goal.returns-clause-stored
+unfolding poke_answer
+returns-clause-stored c =
+    let b = c.args.b.now in
+    let d = c.args.d.now in
+    let at = c.args.at in
+    let t : leb (at + length d) (length b) ≡ true = cc in
+    rw (t, c.copy_from_slice.ensures.after) (put_sets at (at + length d - at) b d (omega arith) (omega (arith, leb-true _ _ t)))

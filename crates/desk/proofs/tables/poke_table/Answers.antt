@@ -1,20 +1,10 @@
 -- `poke_table` meets its contract: the part within the size is lent and comes back.
-use mathlib.Core.Path.{ap, ◌∙◌}
-use Prim.Native.Nat.{◌-◌}
-use native.Mathlib.Nat.{sub-zero}
-use native.Mathlib.Omega.{arith}
-use lib.ListN.{length-take}
-use lib.Seq.{sets}
-use Rattle.lists.proofs.Stores.{put_sets}
-use Rattle.desk.specs.Turns.{settled}
-use Rattle.desk.specs.Tables.{poked_bytes, poked_turn}
+use Rattle.std.proofs.Common.{arith}
+use Rattle.desk.specs.Tables.{poked_bytes}
+use Rattle.desk.proofs.Fronts.{front_back}
 use Rattle.desk.proofs.tables.poke_table.Goals as goal
 
-pub returns : goal.returns
-unfolding poked_bytes poked_turn
-returns c =
-    let n = c.least-n in
-    let t = c.poke in
-    let a = rw (sub-zero n.result, n.ensures) at t.ensures.answer in
-    let s = rw (sub-zero n.result, n.ensures) at t.ensures.stored in
-    record { turn = c.settle.ensures ∙ ap (settled c.args.d) a; table = put_sets 0 (n.result - 0) c.args.table.now t.new.b (omega (arith, t.auto, length-take (n.result - 0) c.args.table.now)) (omega arith) ∙ ap (sets c.args.table.now 0) s }
+pub returns-clause-table : goal.returns-clause-table
+unfolding poked_bytes
+returns-clause-table c =
+    front_back c.min-n.result c.args.table.now c.poke.new.b _ _ c.min-n.ensures (omega (arith, c.poke.auto)) (rw c.min-n.ensures at c.poke.ensures.stored)

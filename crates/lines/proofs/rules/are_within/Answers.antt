@@ -1,23 +1,16 @@
--- `are_within` meets its contract. All that the words behind word k name is held.
-use mathlib.Core.Path.{refl, sym, ◌∙◌}
-use Rattle.lines.proofs.Ruled.{within_none, within_on, within_stop}
-use native.Mathlib.Omega.{arith}
+-- `are_within` meets its contract: it asks each word.
+use mathlib.Core.Path.{◌∙◌}
+use mathlib.Core.Bool.{◌||◌, not}
+use Rattle.std.proofs.Common.{rules, tests, refl}
+use Rattle.std.proofs.lemmas.Iterator.{YieldsList-from_range}
+use Rattle.std.proofs.lemmas.Iterator.Search.{all_from_yields_List}
+use Rattle.lines.specs.Makes.{number_at}
+use Rattle.lines.specs.Starts.{has_word}
+use Rattle.lines.specs.Rules.{held_by}
+use Rattle.lines.proofs.Ruled.{within_all}
 use Rattle.lines.proofs.rules.are_within.Goals as goal
-
-pub loop-k-init : goal.loop-k-init
-loop-k-init c = refl
-
-pub returns-then-has_word-is_held : goal.returns-then-has_word-is_held
-returns-then-has_word-is_held c =
-    let l = c.loop-k in
-    sym (l.invariant ∙ within_stop c.args.a.now c.args.b.now c.has_word.result c.argument.result c.is_held.result l.k (omega arith) c.has_word.ensures c.argument.ensures c.is_held.ensures c.if-has_word-is_held.true)
-
-pub loop-k-preserved : goal.loop-k-preserved
-loop-k-preserved c =
-    let l = c.loop-k in
-    l.invariant ∙ within_on c.args.a.now c.args.b.now c.has_word.result c.argument.result c.is_held.result l.k (omega arith) c.has_word.ensures c.argument.ensures c.is_held.ensures c.if-has_word-is_held.false
 
 pub returns : goal.returns
 returns c =
-    let l = c.loop-k in
-    sym (l.invariant ∙ within_none c.args.a.now c.args.b.now l.k (omega arith))
+    all_from_yields_List (λ k. not (has_word c.args.a.now k) || held_by c.args.b.now (number_at c.args.a.now k)) _ _ c.all.result c.all.ensures.ran (YieldsList-from_range 1 15 14 refl refl) (λ x b q k. search (rules, tests))
+    ∙ within_all c.args.a.now c.args.b.now 14

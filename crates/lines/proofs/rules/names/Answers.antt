@@ -1,23 +1,14 @@
--- `names` meets its contract. None of the words behind word k says n.
-use mathlib.Core.Path.{refl, sym, ◌∙◌}
-use Rattle.lines.proofs.Ruled.{named_none, named_on, named_stop}
-use native.Mathlib.Omega.{arith}
+-- `names` meets its contract: it asks each word.
+use mathlib.Core.Path.{◌∙◌}
+use Rattle.std.proofs.Common.{rules, tests, refl}
+use Rattle.std.proofs.lemmas.Iterator.{YieldsList-from_range}
+use Rattle.std.proofs.lemmas.Iterator.Search.{any_from_yields_List}
+use Rattle.lines.specs.Makes.{number_at}
+use Rattle.lines.specs.Rules.{says}
+use Rattle.lines.proofs.Ruled.{named_any}
 use Rattle.lines.proofs.rules.names.Goals as goal
-
-pub loop-k-init : goal.loop-k-init
-loop-k-init c = refl
-
-pub returns-then-is_number : goal.returns-then-is_number
-returns-then-is_number c =
-    let l = c.loop-k in
-    sym (l.invariant ∙ named_stop c.args.text.now c.args.n c.argument.result c.is_number.result l.k (omega arith) c.argument.ensures c.is_number.ensures c.if-is_number.true)
-
-pub loop-k-preserved : goal.loop-k-preserved
-loop-k-preserved c =
-    let l = c.loop-k in
-    l.invariant ∙ named_on c.args.text.now c.args.n c.argument.result c.is_number.result l.k (omega arith) c.argument.ensures c.is_number.ensures c.if-is_number.false
 
 pub returns : goal.returns
 returns c =
-    let l = c.loop-k in
-    sym (l.invariant ∙ named_none c.args.text.now c.args.n l.k (omega arith))
+    any_from_yields_List (λ k. says (number_at c.args.text.now k) c.args.n) _ _ c.any.result c.any.ensures.ran (YieldsList-from_range 1 15 14 refl refl) (λ x b q k. search (rules, tests))
+    ∙ named_any c.args.text.now c.args.n 14

@@ -4,22 +4,22 @@ use Rattle.lister.specs.Listed.{met_line}
 use Rattle.lister.proofs.Putting.{put_nothing}
 use Rattle.lister.proofs.prints.put_met.Goals as goal
 
-pub returns-in-Record : goal.returns-in-Record
+pub returns-in-Ok-Record : goal.returns-in-Ok-Record
 unfolding met_line
-returns-in-Record c = rw c.in-Record.is c.put_record.ensures
+returns-in-Ok-Record c = rw (c.in-Ok-Record.is, rw c.in-Ok-Record.is at c.in-Ok-Record.field-0-is) c.put_record.ensures
 
-pub returns-in-Mark : goal.returns-in-Mark
+pub returns-in-Ok-Mark : goal.returns-in-Ok-Mark
 unfolding met_line number_line
-returns-in-Mark c = rw c.in-Mark.is c.put_line.ensures
+returns-in-Ok-Mark c = rw (c.in-Ok-Mark.is, rw c.in-Ok-Mark.is at c.in-Ok-Mark.field-0-is) c.put_line.ensures
 
-pub returns-in-Gap : goal.returns-in-Gap
+pub returns-in-Ok-Gap : goal.returns-in-Ok-Gap
 unfolding met_line number_line
-returns-in-Gap c = rw c.in-Gap.is c.put_line-in-Gap.ensures
+returns-in-Ok-Gap c = rw (c.in-Ok-Gap.is, rw c.in-Ok-Gap.is at c.in-Ok-Gap.field-0-is) c.put_line-in-Ok-Gap.ensures
 
-pub returns-in-Nothing : goal.returns-in-Nothing
+pub returns-in-Ok-Nothing : goal.returns-in-Ok-Nothing
 unfolding met_line
-returns-in-Nothing c = rw c.in-Nothing.is (put_nothing _ _)
+returns-in-Ok-Nothing c = rw (c.in-Ok-Nothing.is, rw c.in-Ok-Nothing.is at c.in-Ok-Nothing.field-0-is) (put_nothing _ _)
 
-pub returns-in-Bad : goal.returns-in-Bad
+pub returns-in-Err : goal.returns-in-Err
 unfolding met_line
-returns-in-Bad c = rw c.in-Bad.is (put_nothing _ _)
+returns-in-Err c = rw c.in-Err.is (put_nothing _ _)

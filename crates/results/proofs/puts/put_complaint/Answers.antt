@@ -5,4 +5,4 @@ use Rattle.results.proofs.puts.put_complaint.Goals as goal
 
 pub returns : goal.returns
 unfolding complaint_line
-returns c = put_more _ _ _ _ _ _ _ _ c.put_labelled-at.ensures c.put_reason.ensures
+returns c = put_more _ _ _ _ _ _ _ _ c.put_labelled-at.ensures (rw c.reason.ensures at c.put_bytes.ensures)

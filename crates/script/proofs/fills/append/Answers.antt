@@ -1,14 +1,13 @@
--- `append` meets its contract: the two tests together say whether the line holds the part.
+-- `append` meets its contract: a line that doesn't hold the part stays.
 use native.Mathlib.Omega.{arith}
-use Rattle.script.proofs.Filled.{append_count, append_left, append_long, append_put}
+use Rattle.script.proofs.Filled.{append_left, append_put}
 use Rattle.script.proofs.fills.append.Goals as goal
 
-pub returns-then-line-filled : goal.returns-then-line-filled
-returns-then-line-filled c = record { answer = append_long c.args.line.now c.args.part.now c.args.filled c.args.long (omega arith); line = append_left _ _ _ 0 (omega arith) }
+pub returns-in_err-end-clause-line : goal.returns-in_err-end-clause-line
+returns-in_err-end-clause-line c = append_left _ _ _ (omega (arith, c.in_err-end.ensures))
 
-pub returns-then-line-filled-2 : goal.returns-then-line-filled-2
-returns-then-line-filled-2 c = record { answer = append_long c.args.line.now c.args.part.now c.args.filled c.args.long (omega arith); line = append_left _ _ _ 0 (omega arith) }
+pub returns-then-line-end-clause-line : goal.returns-then-line-end-clause-line
+returns-then-line-end-clause-line c = append_left _ _ _ (omega (arith, c.in_ok-end.ensures))
 
-pub returns : goal.returns
-returns c =
-    record { answer = append_count c.args.line.now c.args.part.now c.args.filled c.args.long (omega arith); line = append_put c.args.line.now c.args.part.now c.args.filled c.args.long _ (omega arith) c.copy.ensures }
+pub returns-clause-line : goal.returns-clause-line
+returns-clause-line c = append_put _ _ _ _ _ c.in_ok-end.ensures.1 c.if-line-end.false c.copy_from_slice.ensures.after

@@ -1,19 +1,6 @@
--- `copy` meets its contract. So far the first i bytes are there.
-use Prim.Native.Nat.{ℕ}
-use mathlib.Core.Path.{ap, ◌∙◌}
-use lib.ListN.{set, get_or}
-use borrow.Author.Rules.{rules}
-use mathlib.Core.List.{List}
-use Rattle.script.proofs.Filled.{copy_end, store_more}
-use native.Mathlib.Omega.{arith}
+-- `copy` meets its contract.
+use Rattle.script.proofs.Filled.{copy_is}
 use Rattle.script.proofs.fills.copy.Goals as goal
 
-pub loop-i-preserved : goal.loop-i-preserved
-loop-i-preserved c =
-    let l = c.loop-i in
-    (search rules, search rules, ap (λ (b : List ℕ). set b l.i (get_or c.args.from.now l.i 0)) l.invariant.2 ∙ store_more c.args.to.now c.args.from.now l.i (omega arith))
-
 pub returns : goal.returns
-returns c =
-    let l = c.loop-i in
-    l.invariant.2 ∙ copy_end c.args.to.now c.args.from.now _ l.i c.least-n.ensures (omega arith) (omega arith)
+returns c = copy_is _ _ _ _ c.min-n.ensures c.copy_from_slice.ensures.after

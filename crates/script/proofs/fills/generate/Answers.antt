@@ -1,6 +1,5 @@
 -- `generate` meets its contract. So far the first i bytes are there.
-use mathlib.Core.Path.{◌∙◌}
-use borrow.Author.Rules.{rules}
+use mathlib.Core.Path.{◌∙◌, refl}
 use Rattle.script.specs.Fills.{generated}
 use Rattle.script.proofs.Filled.{generate_end, generate_more}
 use native.Mathlib.Omega.{arith}
@@ -8,14 +7,14 @@ use Rattle.script.proofs.fills.generate.Goals as goal
 
 pub loop-i-init : goal.loop-i-init
 unfolding generated
-loop-i-init c = search rules
+loop-i-init c = refl
 
 pub loop-i-preserved : goal.loop-i-preserved
 loop-i-preserved c =
     let l = c.loop-i in
-    (search rules, search rules, generate_more c.args.b.now l.b c.args.seed l.i l.invariant.2)
+    generate_more c.args.b.now l.b c.args.seed l.i l.invariant
 
 pub returns : goal.returns
 returns c =
     let l = c.loop-i in
-    l.invariant.2 ∙ generate_end c.args.b.now c.args.seed l.i (omega arith)
+    l.invariant ∙ generate_end c.args.b.now c.args.seed l.i (omega arith)

@@ -1,13 +1,8 @@
 -- `generate` meets its contract. So far the first i bytes are there.
-use Prim.Native.Nat.{◌≤◌, ◌-◌}
 use mathlib.Core.Path.{◌≡◌}
-use lib.ListN.{length}
 use lib.Seq.{sets}
 use Rattle.script.specs.Fills.{generated}
 use Rattle.script.proofs.fills.generate.Given as goal
 
 abbrev pub invariant-loop-i : goal.invariant-loop-i
-invariant-loop-i l = (l.i ≤ length l.initial.b) × (length l.b ≡ length l.initial.b) × (l.b ≡ sets l.initial.b 0 (generated l.seed l.i))
-
-abbrev pub decreases-loop-i : goal.decreases-loop-i
-decreases-loop-i l = length l.initial.b - l.i
+invariant-loop-i l = l.b ≡ sets l.initial.b 0 (generated l.seed l.i)

@@ -7,4 +7,4 @@ pub returns-then-out-at : goal.returns-then-out-at
 returns-then-out-at c = put_none _ _ _ (omega arith)
 
 pub returns : goal.returns
-returns c = put_some c.args.out.now c.args.b.now _ c.args.at _ (omega arith) c.copy.ensures c.least.ensures
+returns c = put_some c.args.out.now c.args.b.now _ c.args.at _ (omega arith) c.copy.ensures c.min.ensures

@@ -1,12 +1,8 @@
--- `digits` meets its contract. What the digits from here say behind the number so far is what all of them say.
-use Prim.Native.Nat.{◌≤◌, ◌-◌}
+-- `digits` meets its contract: what the digits from here say behind the number so far is what all of them say.
 use mathlib.Core.Path.{◌≡◌}
-use lib.ListN.{length, drop}
+use lib.ListN.{drop}
 use Rattle.script.specs.Numbers.{said}
 use Rattle.script.proofs.reads.digits.Given as goal
 
-abbrev pub invariant-loop-i : goal.invariant-loop-i
-invariant-loop-i l = (said l.hex 0 (drop l.from l.text) ≡ said l.hex l.value (drop l.i l.text)) × (l.i ≤ length l.text)
-
-abbrev pub decreases-loop-i : goal.decreases-loop-i
-decreases-loop-i l = length l.text - l.i
+abbrev pub invariant-loop-b : goal.invariant-loop-b
+invariant-loop-b l = said l.base 0 l.text ≡ said l.base l.value (drop l.b-index l.text)

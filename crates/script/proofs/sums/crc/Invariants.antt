@@ -1,12 +1,7 @@
--- `crc` meets its contract. What the bytes from here make of the sum so far is what all of them make.
-use Prim.Native.Nat.{◌≤◌, ◌-◌}
-use mathlib.Core.Path.{◌≡◌}
-use lib.ListN.{length, drop}
-use Rattle.script.specs.Sums.{tabled}
+-- `crc` meets its contract: what the bytes so far make of the sum, the bytes behind them go on with.
+use Rattle.std.proofs.Common.{take}
+use Rattle.script.proofs.Xors.{Summing}
 use Rattle.script.proofs.sums.crc.Given as goal
 
-abbrev pub invariant-loop-i : goal.invariant-loop-i
-invariant-loop-i l = (tabled l.table 4294967295 l.b ≡ tabled l.table l.c (drop l.i l.b)) × (l.i ≤ length l.b)
-
-abbrev pub decreases-loop-i : goal.decreases-loop-i
-decreases-loop-i l = length l.b - l.i
+abbrev pub invariant-loop-x : goal.invariant-loop-x
+invariant-loop-x l = Summing l.table (take l.x-index l.b) l.c

@@ -1,11 +1,13 @@
--- `crc_entry` meets its contract. What the bits left make of the number so far is what eight make of i.
-use mathlib.Core.Path.{sym, ◌∙◌}
-use Rattle.script.proofs.Xors.{steps_end, steps_on}
+-- `crc_entry` meets its contract: so far as many bits are passed as there were turns.
 use native.Mathlib.Omega.{arith}
+use Rattle.script.proofs.Xors.{steps_all, steps_more, steps_none}
 use Rattle.script.proofs.sums.crc_entry.Goals as goal
 
-pub loop-turns-preserved : goal.loop-turns-preserved
-loop-turns-preserved c = c.loop-turns.invariant ∙ steps_on _ _ _ (omega arith) c.crc_step-c.ensures
+pub loop-init : goal.loop-init
+loop-init c = steps_none c.args.i
+
+pub loop-preserved : goal.loop-preserved
+loop-preserved c = steps_more _ _ _ _ c.loop.invariant c.crc_step-c.ensures
 
 pub returns : goal.returns
-returns c = sym (c.loop-turns.invariant ∙ steps_end _ _ (omega arith))
+returns c = steps_all _ _ _ _ (omega arith) c.loop.invariant

@@ -1,10 +1,7 @@
--- `crc_entry` meets its contract. What the bits left make of the number so far is what eight make of i.
+-- `crc_entry` meets its contract: so far as many bits are passed as there were turns.
 use mathlib.Core.Path.{◌≡◌}
 use Rattle.script.specs.Sums.{steps}
 use Rattle.script.proofs.sums.crc_entry.Given as goal
 
-abbrev pub invariant-loop-turns : goal.invariant-loop-turns
-invariant-loop-turns l = steps 8 l.i ≡ steps l.turns l.c
-
-abbrev pub decreases-loop-turns : goal.decreases-loop-turns
-decreases-loop-turns l = l.turns
+abbrev pub invariant-loop : goal.invariant-loop
+invariant-loop l = l.c ≡ steps l.counter l.i

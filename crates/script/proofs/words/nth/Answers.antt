@@ -1,28 +1,13 @@
--- `nth` meets its contract. So far the walk is where the first i words are over.
-use mathlib.Core.Path.{◌≡◌}
-use Rattle.script.specs.Words.{over}
-use Rattle.script.proofs.Passing.{over_more, word_starts, word_ends}
-use borrow.Author.Rules.{rules}
+-- `nth` meets its contract: what is left stands behind the words passed so far.
 use native.Mathlib.Omega.{arith}
+use Rattle.script.proofs.Passing.{over_more, over_none, word_is}
 use Rattle.script.proofs.words.nth.Goals as goal
 
-pub loop-i-init : goal.loop-i-init
-unfolding over
-loop-i-init c = search rules
+pub loop-init : goal.loop-init
+loop-init c = over_none _
 
-pub loop-i-preserved : goal.loop-i-preserved
-loop-i-preserved c =
-    let l = c.loop-i in
-    let t = c.args.text.now in
-    (over_more t l.i l.at _ _ l.invariant.0 c.pass-start.ensures.is c.pass-at.ensures.is, search rules, search rules)
+pub loop-preserved : goal.loop-preserved
+loop-preserved c = over_more _ _ _ _ c.loop.invariant c.beyond-rest.ensures
 
 pub returns : goal.returns
-returns c =
-    let l = c.loop-i in
-    let e : c.args.k ≡ l.i = omega arith in
-    let s = c.pass-start-2.ensures.is in
-    record {
-      start = rw e (word_starts c.args.text.now l.i l.at _ 0 l.invariant.0 s);
-      end = rw e (word_ends c.args.text.now l.i l.at _ _ l.invariant.0 s c.pass-end.ensures.is);
-      within = search rules;
-    }
+returns c = word_is c.args.text.now c.args.k c.loop.counter _ _ _ (omega arith) c.loop.invariant c.from_word-word.ensures c.pass.ensures.is

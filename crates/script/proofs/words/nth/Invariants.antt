@@ -1,12 +1,8 @@
--- `nth` meets its contract. So far the walk is where the first i words are over.
-use Prim.Native.Nat.{◌≤◌, ◌-◌}
+-- `nth` meets its contract: what is left stands behind the words passed so far.
 use mathlib.Core.Path.{◌≡◌}
-use lib.ListN.{length}
+use lib.ListN.{drop}
 use Rattle.script.specs.Words.{over}
 use Rattle.script.proofs.words.nth.Given as goal
 
-abbrev pub invariant-loop-i : goal.invariant-loop-i
-invariant-loop-i l = (l.at ≡ over l.text l.i) × (l.at ≤ length l.text) × (l.i ≤ l.k)
-
-abbrev pub decreases-loop-i : goal.decreases-loop-i
-decreases-loop-i l = l.k - l.i
+abbrev pub invariant-loop : goal.invariant-loop
+invariant-loop l = l.rest ≡ drop (over l.text l.counter) l.text

@@ -1,21 +1,16 @@
--- `pass` meets its contract. Where the walk ends from here is where it ends from the start.
-use mathlib.Core.Path.{sym, ◌∙◌}
-use Rattle.script.proofs.Passing.{pass_on, pass_stop, pass_end}
+-- `pass` meets its contract: the first byte of the other kind is found.
+use mathlib.Core.Path.{◌≡◌, sym, ◌∙◌}
+use mathlib.Core.Bool.{true, false, beq}
+use lib.Dec.{ltb}
 use borrow.Author.Rules.{rules}
-use native.Mathlib.Omega.{arith}
+use borrow.Author.Tests.{tests}
+use Rattle.std.proofs.lemmas.Iterator.{IsFirst-from_position, YieldsList-from_slice, index_from_first}
+use Rattle.script.specs.Words.{spanned}
+use Rattle.script.proofs.Passing.{spanned_hit, spanned_miss, spanned_none}
 use Rattle.script.proofs.words.pass.Goals as goal
 
-pub returns-then-text-i : goal.returns-then-text-i
-returns-then-text-i c =
-    let l = c.loop-i in
-    record { is = sym (l.invariant.0 ∙ pass_stop c.args.text.now c.args.blank l.i c.loop-i-test.true c.if-text-i.true); within = search rules }
-
-pub loop-i-preserved : goal.loop-i-preserved
-loop-i-preserved c =
-    let l = c.loop-i in
-    (l.invariant.0 ∙ pass_on c.args.text.now c.args.blank l.i c.loop-i-test.true c.if-text-i.false, search rules, search rules)
-
-pub returns : goal.returns
-returns c =
-    let l = c.loop-i in
-    record { is = sym (l.invariant.0 ∙ pass_end c.args.text.now c.args.blank l.i (omega arith) (omega arith)); within = search rules }
+pub returns-clause-is : goal.returns-clause-is
+returns-clause-is c =
+    let b = c.args.blank in
+    let first = IsFirst-from_position _ _ _ (λ x. beq (ltb x 33) b ≡ false) (λ x. beq (ltb x 33) b ≡ true) c.position-end.ensures.ran (YieldsList-from_slice c.args.text.now cc) (λ x q k. search (rules, tests)) (λ x q k. search (rules, tests)) in
+    c.unwrap_or.ensures ∙ sym (index_from_first (spanned b) (λ x. beq (ltb x 33) b ≡ false) (λ x. beq (ltb x 33) b ≡ true) (spanned_none b) (spanned_hit b) (spanned_miss b) c.args.text.now _ first)

@@ -1,8 +1,0 @@
--- `beyond` is its definition.
-use mathlib.Core.Path.{refl}
-use Rattle.desk.specs.Desks.{sizes_beyond}
-use Rattle.desk.proofs.desk.beyond.Goals as goal
-
-pub returns : goal.returns
-unfolding sizes_beyond
-returns c = refl

@@ -1,8 +1,0 @@
--- `is_number` meets its contract.
-use Rattle.lines.proofs.rules.is_number.Goals as goal
-
-pub returns-in-Is : goal.returns-in-Is
-returns-in-Is c = rw c.in-Is.is
-
-pub returns-in-Wrong : goal.returns-in-Wrong
-returns-in-Wrong c = rw c.in-Wrong.is

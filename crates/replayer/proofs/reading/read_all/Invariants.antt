@@ -1,9 +1,0 @@
--- `read_all` is safe and ends: its turns run down.
-use Rattle.std.proofs.Common.{◌≤◌}
-use Rattle.replayer.proofs.reading.read_all.Given as goal
-
-abbrev pub invariant-loop-turns : goal.invariant-loop-turns
-invariant-loop-turns g l = 0 ≤ l.turns
-
-abbrev pub decreases-loop-turns : goal.decreases-loop-turns
-decreases-loop-turns g l = l.turns

@@ -1,0 +1,101 @@
+// A script's lines, each run as it comes. No contract here says what is printed.
+use crate::buffers::Buffers;
+use crate::prints::{print, print_complaint};
+use crate::scripts::{Came, Chunk, Text};
+use desk::{Desk, fresh, next_line};
+use lines::{fill, line_of};
+use script::{Fault, crc_table, zeros};
+use std::io::{self, Read, Write};
+
+// Nothing says that the input ends, so the turns go up to a number that no run reaches.
+const TURNS: usize = 1000000000000;
+
+// Why a run ends before its script does.
+#[derive(Drop)]
+enum Stop {
+    Wrong(Fault),
+    Failed(io::Error),
+}
+
+impl From<Fault> for Stop {
+    fn from(f: Fault) -> Stop {
+        Stop::Wrong(f)
+    }
+}
+
+impl From<io::Error> for Stop {
+    fn from(e: io::Error) -> Stop {
+        Stop::Failed(e)
+    }
+}
+
+#[derive(Drop)]
+pub struct Run {
+    desk: Desk,
+    // The bytes that a line gives.
+    data: [u8; 131072],
+    // What `crc` goes by.
+    sums: [usize; 256],
+}
+
+impl Run {
+    pub fn new() -> Run {
+        Run {
+            desk: fresh(),
+            data: zeros(),
+            sums: crc_table(),
+        }
+    }
+
+    // The line is run, and prints.
+    fn run_line<W: Write>(
+        &mut self,
+        buffers: &mut Buffers,
+        to: &mut W,
+        text: &Text,
+    ) -> Result<(), Stop> {
+        self.desk = next_line(self.desk);
+        let text = text.read()?;
+        let line = line_of(text, self.desk.cursor)?;
+        let n = fill(line.given, text, &mut self.data)?.min(self.data.len());
+        let turn = buffers.carry_out(self.desk, line.does, &self.data, n)?;
+        self.desk = turn.desk;
+        print(to, turn.said, text, self.desk.sizes, buffers, &self.sums)?;
+        Ok(())
+    }
+
+    fn run_lines<R: Read, W: Write>(
+        &mut self,
+        buffers: &mut Buffers,
+        from: &mut R,
+        to: &mut W,
+    ) -> Result<(), Stop> {
+        let mut chunk = Chunk::new();
+        let mut text = Text::new();
+        for _ in 0..TURNS {
+            chunk.refill(from)?;
+            let n = text.take(chunk.rest());
+            chunk.pass(n);
+            match text.came {
+                Came::Part => {}
+                Came::Whole => self.run_line(buffers, to, &text)?,
+                Came::Last => return self.run_line(buffers, to, &text),
+            }
+        }
+        Ok(())
+    }
+
+    // A line that can't be taken ends the run, and says so.
+    pub fn run<R: Read, W: Write>(
+        &mut self,
+        buffers: &mut Buffers,
+        from: &mut R,
+        to: &mut W,
+    ) -> io::Result<()> {
+        match self.run_lines(buffers, from, to) {
+            Ok(()) => Ok(()),
+            Err(Stop::Wrong(f)) => print_complaint(to, self.desk.line, f),
+            Err(Stop::Failed(e)) => Err(e),
+        }
+    }
+}

@@ -1,5 +1,0 @@
--- `put_fields` meets its contract: it puts the numbers of the session.
-use Rattle.results.proofs.fields.put_fields.Goals as goal
-
-pub returns : goal.returns
-returns c = rw (← c.fields-f.ensures) c.put_all.ensures

@@ -1,7 +1,0 @@
--- `session_of` is its definition.
-use Rattle.results.specs.Fields.{session_with}
-use Rattle.results.proofs.fields.session_of.Goals as goal
-
-pub returns : goal.returns
-unfolding session_with
-returns c = rw c.unit_of.ensures
