@@ -17,7 +17,7 @@ fn print_line<W: Write>(to: &mut W, text: &[u8]) -> io::Result<()> {
     to.write_all(b"\n")
 }
 
-pub fn print_complaint<W: Write>(to: &mut W, line: usize, f: Fault) -> io::Result<()> {
+pub(crate) fn print_complaint<W: Write>(to: &mut W, line: usize, f: Fault) -> io::Result<()> {
     let mut out: [u8; PRINTED] = zeros();
     let n = put_complaint(&mut out, line, f);
     write_out(to, &out, n)
@@ -51,7 +51,7 @@ fn print_result<W: Write>(
 }
 
 // What a line with this text has printed.
-pub fn print<W: Write>(
+pub(crate) fn print<W: Write>(
     to: &mut W,
     said: Said,
     text: &[u8],

@@ -39,7 +39,7 @@ pub struct Run {
 }
 
 impl Run {
-    pub fn new() -> Run {
+    pub(crate) fn new() -> Run {
         Run {
             desk: fresh(),
             data: zeros(),
@@ -86,7 +86,7 @@ impl Run {
     }
 
     // A line that can't be taken ends the run, and says so.
-    pub fn run<R: Read, W: Write>(
+    pub(crate) fn run<R: Read, W: Write>(
         &mut self,
         buffers: &mut Buffers,
         from: &mut R,

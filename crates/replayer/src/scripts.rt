@@ -1,5 +1,5 @@
-// The script as it comes: in chunks, and its lines out of them.
-// Kept: buffers with a count, since the program has no heap. No contract here says what is read.
+// The script as it comes: in chunks, and its lines out of them. No contract here says what is read.
+// Kept: buffers with a count, since the program has no heap.
 use script::{Fault, append, zeros};
 use std::io::{self, Read};
 
@@ -12,7 +12,7 @@ pub struct Chunk {
 }
 
 impl Chunk {
-    pub fn new() -> Chunk {
+    pub(crate) fn new() -> Chunk {
         Chunk {
             bytes: zeros(),
             at: 0,
@@ -21,7 +21,7 @@ impl Chunk {
     }
 
     // The next chunk, once all of this one has gone.
-    pub fn refill<R: Read>(&mut self, from: &mut R) -> io::Result<()> {
+    pub(crate) fn refill<R: Read>(&mut self, from: &mut R) -> io::Result<()> {
         if self.got <= self.at {
             self.got = from.read(&mut self.bytes)?;
             self.at = 0;
@@ -30,11 +30,11 @@ impl Chunk {
     }
 
     // What is left of it: nothing at the script's end.
-    pub fn rest(&self) -> &[u8] {
+    pub(crate) fn rest(&self) -> &[u8] {
         self.bytes.get(self.at..self.got).unwrap_or(&[])
     }
 
-    pub fn pass(&mut self, n: usize) {
+    pub(crate) fn pass(&mut self, n: usize) {
         self.at = self.at.saturating_add(n);
     }
 }
@@ -69,7 +69,7 @@ fn uncommented(text: &[u8]) -> &[u8] {
 }
 
 impl Text {
-    pub fn new() -> Text {
+    pub(crate) fn new() -> Text {
         Text {
             bytes: zeros(),
             filled: Some(0),
@@ -78,7 +78,7 @@ impl Text {
     }
 
     // Once it is whole.
-    pub fn read(&self) -> Result<&[u8], Fault> {
+    pub(crate) fn read(&self) -> Result<&[u8], Fault> {
         let n = self.filled.ok_or(Fault::LineTooLong)?;
         let line = self.bytes.get(..n).ok_or(Fault::LineTooLong)?;
         Ok(uncommented(line))
@@ -100,7 +100,7 @@ impl Text {
     }
 
     // More of the line, up to its end; how many bytes that takes.
-    pub fn take(&mut self, rest: &[u8]) -> usize {
+    pub(crate) fn take(&mut self, rest: &[u8]) -> usize {
         if rest.is_empty() {
             return self.end();
         }
