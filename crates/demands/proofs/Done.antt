@@ -45,7 +45,7 @@ use Rattle.state.specs.declared.Unit.{Unit}
 use Rattle.state.proofs.Tests.{either, neither}
 use Rattle.moves.specs.Counting.{count_of, how_many, of_marks}
 use Rattle.moves.specs.Seeking.{sought}
-use Rattle.moves.specs.Spacing.{record_turn, spaced, turn_after, turn_of}
+use Rattle.moves.specs.Spacing.{came, record_turn, spaced, turn_after, turn_of}
 use Rattle.moves.specs.declared.seeking.Sought.{Sought}
 use Rattle.moves.specs.declared.seeking.Sought.TheVariants as sought-as
 use Rattle.moves.specs.declared.spacing.Count.{Count}
@@ -53,6 +53,7 @@ use Rattle.moves.specs.declared.spacing.Rule.{Rule}
 use Rattle.moves.specs.declared.spacing.Span.{Span}
 use Rattle.moves.specs.declared.spacing.Stop.{Stop}
 use Rattle.moves.specs.declared.spacing.Spaced.{Spaced}
+use Rattle.moves.specs.declared.spacing.Stuck.{Stuck}
 use Rattle.moves.proofs.Counting.{kind_asked, mark_number, mark_stops_number, number_asked, record_number}
 use Rattle.moves.proofs.Rounds.{spaced_keeps}
 use Rattle.moves.proofs.Turns.{Counts, SpanHas, mark_turns}
@@ -551,17 +552,17 @@ module _ (s : List ℕ) (e : ℕ) (r : Rule) (p : ℕ) (count : Count) where
 
   -- each turn, by what its search found
   turn_past : (y : Span) (f : Result Sought Damage) → Counts (of_marks count) y → RulePast y → (how_many y.left ≡ 0 → ⊥) → MeetsPast y f → SpanHas RulePast (turn_after r y f)
-  unfolding turn_after turn_of record_turn
+  unfolding came turn_after turn_of record_turn
   turn_past y (Ok (sought-as.Record n t)) k before some (q, a, g) =
       past_record s e r.reverse p (how_many count) (of_marks count) _ _ q t n a g (rw k at (record_number y.left some))
   turn_past y (Ok (sought-as.Mark t)) k before some (q, a, g) =
       let past : (less : ℕ) → pick (of_marks y.left) 1 0 + less ≡ how_many y.left → CountPast t less = λ less d. past_mark s e r.reverse p (how_many count) (of_marks count) _ less q t a g (rw k at d) in
       mark_turns (λ x. SpanHas RulePast (Ok x)) r y t (λ n w. past _ (mark_stops_number n w)) (λ n w b. past _ (mark_number n w some)) (λ n w b. past _ (mark_number n w some))
   turn_past y (Ok (sought-as.Nothing t)) k before some (a, z) = a
-  turn_past y (Err d) k before some a = tt
+  turn_past y (Err d) k before some a = before
 
   -- so where a space ends
-  spaced_past : (x : Span) → Counts (of_marks count) x → RulePast x → IfOk (spaced s r e x) (λ z. RulePast z.span)
+  spaced_past : (x : Span) → Counts (of_marks count) x → RulePast x → RulePast (came (spaced s r e x))
   spaced_past x same =
       spaced_keeps s r e RulePast x
       (λ y k a some.
@@ -579,8 +580,8 @@ module _ (s : List ℕ) (e : ℕ) (r : Rule) (p : ℕ) (count : Count) where
   unfolding space_motion_by
   space_past x stop (o, c) = (o, rw (left_told r x stop) c)
 
-  space_ended : (f : Result Spaced Damage) → IfOk f (λ z. RulePast z.span) → MotionPast (space_motion r f e)
-  unfolding space_motion
+  space_ended : (f : Result Spaced Stuck) → RulePast (came f) → MotionPast (space_motion r f e)
+  unfolding came space_motion
   space_ended (Ok z) a = space_past z.span z.stop a
   space_ended (Err d) a = tt
 

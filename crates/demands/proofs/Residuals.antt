@@ -16,7 +16,7 @@ use Rattle.state.specs.declared.Tape.{Tape}
 use Rattle.state.proofs.Tests.{either}
 use Rattle.moves.specs.Between.{Between, Bound, count_in}
 use Rattle.moves.specs.Counting.{how_many, of_marks}
-use Rattle.moves.specs.Spacing.{spaced}
+use Rattle.moves.specs.Spacing.{came, spaced}
 use Rattle.moves.specs.declared.seeking.Sought.{Sought}
 use Rattle.moves.specs.declared.seeking.Sought.TheVariants as sought-as
 use Rattle.moves.specs.declared.spacing.Count.{Count}
@@ -24,6 +24,7 @@ use Rattle.moves.specs.declared.spacing.Count.TheVariants as count-as
 use Rattle.moves.specs.declared.spacing.Rule.{Rule}
 use Rattle.moves.specs.declared.spacing.Span.{Span}
 use Rattle.moves.specs.declared.spacing.Spaced.{Spaced}
+use Rattle.moves.specs.declared.spacing.Stuck.{Stuck}
 use Rattle.moves.specs.declared.spacing.Stop.{Stop}
 use Rattle.moves.specs.declared.spacing.Stop.TheVariants as stop-as
 use Rattle.moves.proofs.Bounds.{bound_below, stays}
@@ -147,9 +148,9 @@ module _ {s : List ℕ} {os : List Object} (t : Tape) (h : Holds s t.end os) (b 
     from = start_span t count enb
 
     stopped_as : {z : Spaced} → spaced s r t.end from ≡ Ok z → Has (SpacedPast os r t.position count) (space_motion_by r z.span t.end z.stop)
-    unfolding space_motion_by
+    unfolding came space_motion_by
     stopped_as {z} y =
-        let done = spaced_between h r from b y in
+        let done = rw y at (spaced_between h r from b) in
         let why = rw y at (spaced_why s r t.end from (bound_below h b)) in
         record {
           mid = done.0;
@@ -158,7 +159,7 @@ module _ {s : List ℕ} {os : List Object} (t : Tape) (h : Holds s t.end os) (b 
           whole = λ c. left_told r z.span z.stop ∙ why (class_told r z.span z.stop c);
         }
 
-    motion_by : (f : Result Spaced Damage) → spaced s r t.end from ≡ f → Has (SpacedPast os r t.position count) (space_motion r f t.end)
+    motion_by : (f : Result Spaced Stuck) → spaced s r t.end from ≡ f → Has (SpacedPast os r t.position count) (space_motion r f t.end)
     unfolding space_motion
     motion_by (Ok z) y = stopped_as y
     motion_by (Err d) y = tt

@@ -20,6 +20,7 @@ use Rattle.moves.specs.declared.spacing.Count.{Count}
 use Rattle.moves.specs.declared.spacing.Count.TheVariants as count-as
 use Rattle.moves.specs.declared.spacing.Rule.{Rule}
 use Rattle.moves.specs.declared.spacing.Spaced.{Spaced}
+use Rattle.moves.specs.declared.spacing.Stuck.{Stuck}
 use Rattle.moves.specs.declared.spacing.Span.{Span}
 use Rattle.moves.specs.declared.spacing.Stop.{Stop}
 use Rattle.moves.specs.declared.spacing.Stop.TheVariants as stop-as
@@ -123,11 +124,11 @@ module _ (s : List ℕ) (t : Tape) (rule : Rule) (count : Count) (first : Bool) 
   Why y stop-as.Nothing = Ends y.position (how_many y.left) (space_end rule y stop-as.Nothing)
 
   -- or at what fault
-  abbrev WhyOver : Result Spaced Damage → Type 0
+  abbrev WhyOver : Result Spaced Stuck → Type 0
   WhyOver (Ok z) = Why z.span z.stop
-  WhyOver (Err d) = SpaceRefused s t rule count first d.fault d.block
+  WhyOver (Err f) = SpaceRefused s t rule count first f.damage.fault f.damage.block
 
-  abbrev Turned : Result Turn Damage → Type 0
+  abbrev Turned : Result Turn Stuck → Type 0
   Turned x = TurnHas KeptAt WhyOver x
 
   abbrev Met-from : (y : Span) → (how_many y.left ≡ 0 → ⊥) → Result Sought Damage → Type 0
@@ -173,7 +174,7 @@ module _ (s : List ℕ) (t : Tape) (rule : Rule) (count : Count) (first : Bool) 
   motion_comes y stop-as.LogicalEnd k z = ends_told y stop-as.LogicalEnd k
   motion_comes y stop-as.Nothing k z = ends_told y stop-as.Nothing k
 
-  space_over : (f : Result Spaced Damage) → WhyOver f → IfOk f (λ z. z.stop ≡ stop-as.Count → how_many z.span.left ≡ 0) → SpaceComes (space_motion rule f t.end)
+  space_over : (f : Result Spaced Stuck) → WhyOver f → IfOk f (λ z. z.stop ≡ stop-as.Count → how_many z.span.left ≡ 0) → SpaceComes (space_motion rule f t.end)
   unfolding space_motion
   space_over (Ok z) k w = motion_comes z.span z.stop k w
   space_over (Err d) k w = k

@@ -22,6 +22,7 @@ use Rattle.moves.specs.declared.spacing.Count.TheVariants as count-as
 use Rattle.moves.specs.declared.spacing.Rule.{Rule}
 use Rattle.moves.specs.declared.spacing.Span.{Span}
 use Rattle.moves.specs.declared.spacing.Spaced.{Spaced}
+use Rattle.moves.specs.declared.spacing.Stuck.{Stuck}
 use Rattle.moves.specs.declared.spacing.Stop.TheVariants as stop-as
 use Rattle.moves.proofs.Within.{SoughtIn, sought_in}
 use Rattle.std.specs.Prelude.{Result, Ok, Err}
@@ -37,7 +38,7 @@ on_step reverse p e (Ok met.Nothing) f g i on = refl
 on_step reverse p e (Err d) f g i on = refl
 
 -- and from an object found
-module _ (e : ℕ) (r : Rule) (x : Span) (f g : Span → Result Spaced Damage) (on : (y : Span) → y.position ≤ e → f y ≡ g y) where
+module _ (e : ℕ) (r : Rule) (x : Span) (f g : Span → Result Spaced Stuck) (on : (y : Span) → y.position ≤ e → f y ≡ g y) where
   by_count : (c : Count) (q : ℕ) → q ≤ e → spaced_on (Ok (mark_turn_by r x c q)) f ≡ spaced_on (Ok (mark_turn_by r x c q)) g
   unfolding spaced_on mark_turn_by skip_turn
   by_count (count-as.Records n) q b = refl

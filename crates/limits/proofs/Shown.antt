@@ -18,6 +18,7 @@ use Rattle.moves.specs.declared.spacing.Count.{Count}
 use Rattle.moves.specs.declared.spacing.Rule.{Rule}
 use Rattle.moves.specs.declared.spacing.Span.{Span}
 use Rattle.moves.specs.declared.spacing.Spaced.{Spaced}
+use Rattle.moves.specs.declared.spacing.Stuck.{Stuck}
 use Rattle.moves.specs.declared.spacing.Stop.{Stop}
 use Rattle.moves.specs.declared.spacing.Stop.TheVariants as stop-as
 use Rattle.motions.specs.Parts.{standing}
@@ -87,7 +88,7 @@ module _ (limit : ℕ) (s : List ℕ) where
       let rls = even_flag (not (eqb (how_many x.left) 0)) RLS refl in
       either Even r.reverse _ _ (omega arith) tmk
 
-  spaced_even : (r : Rule) (e : ℕ) (f : Result Spaced Damage) → EvenMotion (space_motion r f e)
+  spaced_even : (r : Rule) (e : ℕ) (f : Result Spaced Stuck) → EvenMotion (space_motion r f e)
   unfolding space_motion
   spaced_even r e (Ok y) = space_even r y.span e y.stop
   spaced_even r e (Err d) = tt

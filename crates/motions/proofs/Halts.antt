@@ -8,12 +8,13 @@ use lib.Dec.{eqb}
 use Rattle.state.specs.declared.Tape.{Tape}
 use Rattle.state.proofs.Tests.{either}
 use Rattle.moves.specs.Counting.{how_many}
-use Rattle.moves.specs.Spacing.{spaced}
+use Rattle.moves.specs.Spacing.{came, spaced}
 use Rattle.moves.specs.declared.spacing.Count.{Count}
 use Rattle.moves.specs.declared.spacing.Rule.{Rule}
 use Rattle.moves.specs.declared.spacing.Span.{Span}
 use Rattle.moves.specs.declared.spacing.Stop.{Stop}
 use Rattle.moves.specs.declared.spacing.Spaced.{Spaced}
+use Rattle.moves.specs.declared.spacing.Stuck.{Stuck}
 use Rattle.std.specs.Prelude.{Result, Ok, Err, IfOk}
 use Rattle.tape.specs.declared.Damage.{Damage}
 use Rattle.moves.proofs.Within.{spaced_within}
@@ -39,8 +40,8 @@ module _ (e : ℕ) where
   unfolding space_motion_by
   space_by r y stop h = halts _ _ (space_end_fits r y stop) h
 
-  space_ended : (r : Rule) (f : Result Spaced Damage) → IfOk f (λ z. z.span.position ≤ e) → Has (SpaceFits e) (space_motion r f e)
-  unfolding space_motion
+  space_ended : (r : Rule) (f : Result Spaced Stuck) → (came f).position ≤ e → Has (SpaceFits e) (space_motion r f e)
+  unfolding came space_motion
   space_ended r (Ok z) h = space_by r z.span z.stop h
   space_ended r (Err d) h = tt
 

@@ -16,6 +16,7 @@ use Rattle.moves.specs.declared.spacing.Rule.{Rule}
 use Rattle.moves.specs.declared.spacing.Span.{Span}
 use Rattle.moves.specs.declared.spacing.Spaced.{Spaced}
 use Rattle.moves.specs.declared.spacing.Stop.{Stop}
+use Rattle.moves.specs.declared.spacing.Stuck.{Stuck}
 use Rattle.moves.specs.declared.spacing.Stop.TheVariants as stop-as
 use Rattle.motions.specs.Parts.{end, standing, stops}
 use Rattle.motions.specs.declared.parts.Ending.{Ending}
@@ -51,9 +52,9 @@ unfoldable pub space_motion_by : Rule → Span → ℕ → Stop → Result Endin
 space_motion_by r x e stop = stops (space_end r x stop) (standing x.position e)
 
 -- a fault refuses: no end is told
-unfoldable pub space_motion : Rule → Result Spaced Damage → ℕ → Result Ending Damage
+unfoldable pub space_motion : Rule → Result Spaced Stuck → ℕ → Result Ending Damage
 space_motion r (Ok y) e = space_motion_by r y.span e y.stop
-space_motion r (Err d) e = Err d
+space_motion r (Err f) e = Err f.damage
 
 -- "with ENB too a mark met first from block 0": it counts as the second in a row
 abbrev pub start_span : Tape → Count → Bool → Span

@@ -98,5 +98,8 @@ pub fn position(reel: &[u8], t: Tape, r: Rule, count: Count, enb: bool) -> Resul
         tmk: false,
         after_mark,
     };
-    Ok(space_motion(r, space(reel, r, t.end, from)?, t.end))
+    match space(reel, r, t.end, from) {
+        Ok(x) => Ok(space_motion(r, x, t.end)),
+        Err(stuck) => Err(stuck.damage),
+    }
 }

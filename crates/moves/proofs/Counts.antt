@@ -12,7 +12,7 @@ use Rattle.tape.proofs.Accepted.{clash}
 use Rattle.tape.proofs.Within.{Onward, fewer_ahead}
 use Rattle.moves.specs.Between.{Between, Bound, Gaps, count_in, no_gap, one_gap, with_gaps}
 use Rattle.moves.specs.Counting.{how_many, of_marks}
-use Rattle.moves.specs.Spacing.{mark_turn, record_turn, spaced, spaced_under, turn_after, turn_of}
+use Rattle.moves.specs.Spacing.{came, mark_turn, record_turn, spaced, spaced_under, turn_after, turn_of}
 use Rattle.moves.specs.declared.seeking.Sought.{Sought}
 use Rattle.moves.specs.declared.seeking.Sought.TheVariants as sought-as
 use Rattle.moves.specs.declared.spacing.Rule.{Rule}
@@ -29,6 +29,7 @@ use Rattle.moves.proofs.Turns.{Counts, TurnHas, mark_turns, turn_more, turn_at}
 use Rattle.moves.proofs.Within.{SoughtIn, sought_in}
 use Rattle.std.specs.Prelude.{Result, Ok, Err, IfOk, IsOkAnd}
 use Rattle.tape.specs.declared.Damage.{Damage}
+use Rattle.moves.specs.declared.spacing.Stuck.{Stuck}
 
 count_both : (marks : Bool) (xs ys : List Object) → count_in marks (xs ++ ys) ≡ count_in marks xs + count_in marks ys
 unfolding count_in
@@ -52,16 +53,21 @@ abbrev pub Counted : List Object → Bool → Bool → Span → Span → Type 0
 Counted os reverse marks x y = (mid : List Object) × Between os reverse x.position y.position mid × (count_in marks mid + how_many y.left ≡ how_many x.left)
 
 -- what is known of an answer that is no fault, made weaker
-ok_more : {P Q : Spaced → Type 0} (z : Result Spaced Damage) → ((y : Spaced) → P y → Q y) → IsOkAnd z P → IsOkAnd z Q
+ok_more : {P Q : Spaced → Type 0} (z : Result Spaced Stuck) → ((y : Spaced) → P y → Q y) → IsOkAnd z P → IsOkAnd z Q
 ok_more (Ok y) f h = f y h
 ok_more (Err d) f h = h
 
-if_ok_more : {P Q : Spaced → Type 0} (z : Result Spaced Damage) → ((y : Spaced) → P y → Q y) → IfOk z P → IfOk z Q
+came_has : (P : Span → Type 0) (z : Result Spaced Stuck) → IsOkAnd z (λ y. P y.span) → P (came z)
+unfolding came
+came_has P (Ok y) h = h
+came_has P (Err f) h = absurd h
+
+if_ok_more : {P Q : Spaced → Type 0} (z : Result Spaced Stuck) → ((y : Spaced) → P y → Q y) → IfOk z P → IfOk z Q
 if_ok_more (Ok y) f h = f y h
 if_ok_more (Err d) f h = h
 
 -- each turn does its part, and finds no fault
-abbrev Turned : List Object → Bool → Bool → Span → Result Turn Damage → Type 0
+abbrev Turned : List Object → Bool → Bool → Span → Result Turn Stuck → Type 0
 Turned os reverse marks x t = TurnHas (Counted os reverse marks x) (λ z. IsOkAnd z (λ y. Counted os reverse marks x y.span)) t
 
 -- a record counts as one where records are counted, a mark where marks are
@@ -110,18 +116,18 @@ module _ {s : List ℕ} {e : ℕ} {os : List Object} (h : Holds s e os) (r : Rul
       rounds s r e (of_marks x.left) (λ _ y. Since y) (λ z. IsOkAnd z (λ y. Since y.span)) (λ turns y k i n. turn_on y k i n) (λ turns y i w. i)
       (e + 1) x refl ([], stays r.reverse b, omega arith)
 
-  pub spaced_sound : Bound os x.position → (d : Damage) → spaced s r e x ≡ Err d → ⊥
-  spaced_sound b d y = rw y at (spaced_done b)
+  pub spaced_sound : Bound os x.position → (f : Stuck) → spaced s r e x ≡ Err f → ⊥
+  spaced_sound b f y = rw y at (spaced_done b)
 
   -- done and residual make up the count asked
-  pub spaced_between : Bound os x.position → {z : Spaced} → spaced s r e x ≡ Ok z → (mid : List Object) × Between os r.reverse x.position z.span.position mid × (count_in (of_marks x.left) mid + how_many z.span.left ≡ how_many x.left)
-  spaced_between b y = rw y at (spaced_done b)
+  pub spaced_between : Bound os x.position → (mid : List Object) × Between os r.reverse x.position (came (spaced s r e x)).position mid × (count_in (of_marks x.left) mid + how_many (came (spaced s r e x)).left ≡ how_many x.left)
+  spaced_between b = came_has Since (spaced s r e x) (spaced_done b)
 
-  pub spaced_bound : Bound os x.position → IsOkAnd (spaced s r e x) (λ z. Bound os z.span.position)
-  spaced_bound b = ok_more (spaced s r e x) (λ z i. bound_to r.reverse i.1) (spaced_done b)
+  pub spaced_bound : Bound os x.position → Bound os (came (spaced s r e x)).position
+  spaced_bound b = bound_to r.reverse (spaced_between b).1
 
 -- a turn that goes on passes a block or more, and one that is over says another reason than the count
-abbrev Onwards : Rule → ℕ → Span → Result Turn Damage → Type 0
+abbrev Onwards : Rule → ℕ → Span → Result Turn Stuck → Type 0
 Onwards r e y t = TurnHas (λ z. Onward r.reverse y.position e z.position) (λ z. IfOk z (λ y. y.stop ≡ stop-as.Count → ⊥)) t
 
 turn_moves : (r : Rule) (e : ℕ) (y : Span) (f : Result Sought Damage) → SoughtIn r.reverse y.position e f → Onwards r e y (turn_after r y f)

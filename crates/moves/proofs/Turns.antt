@@ -8,7 +8,7 @@ use Rattle.signals.specs.declared.counts.MarkCount.{MarkCount}
 use Rattle.signals.specs.declared.counts.RecordCount.{RecordCount}
 use Rattle.moves.specs.Counting.{marks, of_marks}
 use Rattle.moves.specs.Seeking.{sought}
-use Rattle.moves.specs.Spacing.{mark_turn, mark_turn_by, record_turn, skip_turn, span, stopped, turn_after, turn_of}
+use Rattle.moves.specs.Spacing.{came, mark_turn, mark_turn_by, record_turn, skip_turn, span, stopped, turn_after, turn_of}
 use Rattle.moves.specs.declared.seeking.Sought.{Sought}
 use Rattle.moves.specs.declared.seeking.Sought.TheVariants as sought-as
 use Rattle.moves.specs.declared.spacing.Count.{Count}
@@ -20,27 +20,28 @@ use Rattle.moves.specs.declared.spacing.Stop.TheVariants as stop-as
 use Rattle.moves.specs.declared.spacing.Turn.{Turn}
 use Rattle.moves.specs.declared.spacing.Turn.TheVariants as turn-as
 use Rattle.moves.proofs.Counting.{record_kind}
-use Rattle.std.specs.Prelude.{Result, Ok, Err, IfOk}
+use Rattle.std.specs.Prelude.{Result, Ok, Err}
 use Rattle.tape.specs.declared.Damage.{Damage}
+use Rattle.moves.specs.declared.spacing.Stuck.{Stuck}
 
 -- the turn that a space makes from y
-abbrev pub turn_at : List ℕ → Rule → ℕ → Span → Result Turn Damage
+abbrev pub turn_at : List ℕ → Rule → ℕ → Span → Result Turn Stuck
 turn_at s r e y = turn_after r y (sought s r.reverse y.position e)
 
 -- one thing of a turn that goes on, and one of what the last comes to
-abbrev pub TurnHas : (Span → Type 0) → (Result Spaced Damage → Type 0) → Result Turn Damage → Type 0
+abbrev pub TurnHas : (Span → Type 0) → (Result Spaced Stuck → Type 0) → Result Turn Stuck → Type 0
 TurnHas P Q (Ok (turn-as.On y)) = P y
 TurnHas P Q (Ok (turn-as.Over z)) = Q (Ok z)
-TurnHas P Q (Err d) = Q (Err d)
+TurnHas P Q (Err f) = Q (Err f)
 
 -- one thing of the span either way
-abbrev pub SpanHas : (Span → Type 0) → Result Turn Damage → Type 0
-SpanHas P t = TurnHas P (λ z. IfOk z (λ y. P y.span)) t
+abbrev pub SpanHas : (Span → Type 0) → Result Turn Stuck → Type 0
+SpanHas P t = TurnHas P (λ z. P (came z)) t
 
-pub turn_more : (P P' : Span → Type 0) (Q Q' : Result Spaced Damage → Type 0) → ((z : Span) → P z → P' z) → ((z : Result Spaced Damage) → Q z → Q' z) → (t : Result Turn Damage) → TurnHas P Q t → TurnHas P' Q' t
+pub turn_more : (P P' : Span → Type 0) (Q Q' : Result Spaced Stuck → Type 0) → ((z : Span) → P z → P' z) → ((z : Result Spaced Stuck) → Q z → Q' z) → (t : Result Turn Stuck) → TurnHas P Q t → TurnHas P' Q' t
 turn_more P P' Q Q' f g (Ok (turn-as.On y)) h = f y h
 turn_more P P' Q Q' f g (Ok (turn-as.Over z)) h = g (Ok z) h
-turn_more P P' Q Q' f g (Err d) h = g (Err d) h
+turn_more P P' Q Q' f g (Err x) h = g (Err x) h
 
 -- the three things that a mark can come to from the span x
 module _ (P : Turn → Type 0) (r : Rule) (x : Span) (q : ℕ)
@@ -67,9 +68,9 @@ Counts marks y = of_marks y.left ≡ marks
 
 -- a space over records never becomes a skip over marks, nor a skip a space
 pub turn_kind : (marks : Bool) (r : Rule) (y : Span) (f : Result Sought Damage) → Counts marks y → SpanHas (Counts marks) (turn_after r y f)
-unfolding turn_after turn_of record_turn
+unfolding came turn_after turn_of record_turn
 turn_kind marks r y (Ok (sought-as.Record n q)) k = record_kind y.left ∙ k
 turn_kind marks r y (Ok (sought-as.Mark q)) k =
     mark_turns (λ t. SpanHas (Counts marks) (Ok t)) r y q (λ n e. ap of_marks (sym e) ∙ k) (λ n e w. ap of_marks (sym e) ∙ k) (λ n e w. ap of_marks (sym e) ∙ k)
 turn_kind marks r y (Ok (sought-as.Nothing q)) k = k
-turn_kind marks r y (Err d) k = tt
+turn_kind marks r y (Err d) k = k

@@ -11,7 +11,7 @@ use Rattle.tape.specs.declared.Met.TheVariants as met
 use Rattle.tape.proofs.Within.{Onward, PassIn, RecordIn, onward_more, pass_in}
 use Rattle.moves.specs.Counting.{how_many, of_marks}
 use Rattle.moves.specs.Seeking.{sought, sought_under, sought_from, sought_from_under, sought_on}
-use Rattle.moves.specs.Spacing.{record_turn, spaced, turn_after, turn_of}
+use Rattle.moves.specs.Spacing.{came, record_turn, spaced, turn_after, turn_of}
 use Rattle.moves.specs.declared.seeking.Sought.{Sought}
 use Rattle.moves.specs.declared.seeking.Sought.TheVariants as sought-as
 use Rattle.moves.specs.declared.spacing.Rule.{Rule}
@@ -19,7 +19,7 @@ use Rattle.moves.specs.declared.spacing.Span.{Span}
 use Rattle.moves.proofs.Counting.{record_number}
 use Rattle.moves.proofs.Rounds.{spaced_keeps}
 use Rattle.moves.proofs.Turns.{Counts, SpanHas, mark_turns, turn_kind}
-use Rattle.std.specs.Prelude.{Result, Ok, Err, IfOk}
+use Rattle.std.specs.Prelude.{Result, Ok, Err}
 use Rattle.tape.specs.declared.Damage.{Damage}
 
 -- what is known of each answer of a search
@@ -71,29 +71,29 @@ Below e y = y.position ≤ e
 
 -- a turn leads to what the search found, or stays
 turn_below : (r : Rule) (e : ℕ) (y : Span) (f : Result Sought Damage) → Below e y → SoughtIn r.reverse y.position e f → SpanHas (Below e) (turn_after r y f)
-unfolding turn_after turn_of record_turn
+unfolding came turn_after turn_of record_turn
 turn_below r e y (Ok (sought-as.Record n q)) h i = i.0.below
 turn_below r e y (Ok (sought-as.Mark q)) h i = mark_turns (λ t. SpanHas (Below e) (Ok t)) r y q (λ n c. i.below) (λ n c w. i.below) (λ n c w. i.below)
 turn_below r e y (Ok (sought-as.Nothing q)) h i = i
-turn_below r e y (Err d) h i = tt
+turn_below r e y (Err d) h i = h
 
-pub spaced_within : (s : List ℕ) (r : Rule) (e : ℕ) (x : Span) → x.position ≤ e → IfOk (spaced s r e x) (λ z. z.span.position ≤ e)
+pub spaced_within : (s : List ℕ) (r : Rule) (e : ℕ) (x : Span) → x.position ≤ e → (came (spaced s r e x)).position ≤ e
 spaced_within s r e x h = spaced_keeps s r e (Below e) x (λ y k i n. turn_below r e y _ i (sought_in s r.reverse y.position e i)) h
 
 abbrev Fewer : ℕ → Span → Type 0
 Fewer n y = how_many y.left ≤ n
 
 turn_fewer : (r : Rule) (n : ℕ) (y : Span) (f : Result Sought Damage) → (how_many y.left ≡ 0 → ⊥) → Fewer n y → SpanHas (Fewer n) (turn_after r y f)
-unfolding turn_after turn_of record_turn
+unfolding came turn_after turn_of record_turn
 turn_fewer r n y (Ok (sought-as.Record m q)) some h = omega (arith, record_number y.left some)
 turn_fewer r n y (Ok (sought-as.Mark q)) some h =
     mark_turns (λ t. SpanHas (Fewer n) (Ok t)) r y q (λ k c. omega (arith, ap how_many c)) (λ k c w. omega (arith, ap how_many c)) (λ k c w. omega (arith, ap how_many c))
 turn_fewer r n y (Ok (sought-as.Nothing q)) some h = h
-turn_fewer r n y (Err d) some h = tt
+turn_fewer r n y (Err d) some h = h
 
-pub spaced_left : (s : List ℕ) (r : Rule) (e : ℕ) (x : Span) → IfOk (spaced s r e x) (λ z. how_many z.span.left ≤ how_many x.left)
+pub spaced_left : (s : List ℕ) (r : Rule) (e : ℕ) (x : Span) → how_many (came (spaced s r e x)).left ≤ how_many x.left
 spaced_left s r e x = spaced_keeps s r e (Fewer (how_many x.left)) x (λ y k i some. turn_fewer r (how_many x.left) y _ some i) (omega arith)
 
 -- what is left is of what was asked
-pub spaced_kind : (s : List ℕ) (r : Rule) (e : ℕ) (x : Span) → IfOk (spaced s r e x) (λ z. of_marks z.span.left ≡ of_marks x.left)
+pub spaced_kind : (s : List ℕ) (r : Rule) (e : ℕ) (x : Span) → of_marks (came (spaced s r e x)).left ≡ of_marks x.left
 spaced_kind s r e x = spaced_keeps s r e (Counts (of_marks x.left)) x (λ y k i some. turn_kind (of_marks x.left) r y _ k) refl

@@ -18,6 +18,7 @@ use Rattle.moves.specs.declared.spacing.Stop.TheVariants as stop-as
 use Rattle.moves.specs.declared.spacing.Turn.{Turn}
 use Rattle.moves.specs.declared.spacing.Turn.TheVariants as turn-as
 use Rattle.tape.specs.declared.Damage.{Damage}
+use Rattle.moves.specs.declared.spacing.Stuck.{Stuck}
 
 abbrev pub span : ℕ → Count → Bool → Bool → Span
 span q l t a = record { position = q; left = l; tmk = t; after_mark = a }
@@ -49,31 +50,39 @@ turn_of r x (sought-as.Record n q) = record_turn x q
 turn_of r x (sought-as.Mark q) = mark_turn r x q
 turn_of r x (sought-as.Nothing q) = turn-as.Over (stopped stop-as.Nothing (span q x.left x.tmk x.after_mark))
 
--- a fault that the search met ends the space
-unfoldable pub turn_after : Rule → Span → Result Sought Damage → Result Turn Damage
-turn_after r x (Ok f) = Ok (turn_of r x f)
-turn_after r x (Err d) = Err d
+abbrev pub stuck : Damage → Span → Stuck
+stuck d x = record { damage = d; span = x }
 
-unfoldable pub spaced_on : Result Turn Damage → (Span → Result Spaced Damage) → Result Spaced Damage
+-- a fault that the search met ends the space where it came to
+unfoldable pub turn_after : Rule → Span → Result Sought Damage → Result Turn Stuck
+turn_after r x (Ok f) = Ok (turn_of r x f)
+turn_after r x (Err d) = Err (stuck d x)
+
+unfoldable pub spaced_on : Result Turn Stuck → (Span → Result Spaced Stuck) → Result Spaced Stuck
 spaced_on (Ok (turn-as.On x)) onward = onward x
 spaced_on (Ok (turn-as.Over y)) onward = Ok y
-spaced_on (Err d) onward = Err d
+spaced_on (Err f) onward = Err f
+
+-- how far a space came, at its end or to a fault
+unfoldable pub came : Result Spaced Stuck → Span
+came (Ok z) = z.span
+came (Err f) = f.span
 
 -- under any record limit
 module _ (limit : ℕ) where
-  unfoldable pub spaced_from_under : ℕ → List ℕ → Rule → ℕ → Span → Result Spaced Damage
+  unfoldable pub spaced_from_under : ℕ → List ℕ → Rule → ℕ → Span → Result Spaced Stuck
   spaced_from_under ℕ.zero s r e x = Ok (stopped stop-as.Count x)
   spaced_from_under (suc turns) s r e x =
       let rest = spaced_on (turn_after r x (sought_under limit s r.reverse x.position e)) (λ y. spaced_from_under turns s r e y) in
       pick (eqb (how_many x.left) 0) (Ok (stopped stop-as.Count x)) rest
 
   -- each turn passes a block or more, so a turn for each block and one more are enough
-  unfoldable pub spaced_under : List ℕ → Rule → ℕ → Span → Result Spaced Damage
+  unfoldable pub spaced_under : List ℕ → Rule → ℕ → Span → Result Spaced Stuck
   spaced_under s r e x = spaced_from_under (e + 1) s r e x
 
 -- and under this unit's own
-abbrev pub spaced_from : ℕ → List ℕ → Rule → ℕ → Span → Result Spaced Damage
+abbrev pub spaced_from : ℕ → List ℕ → Rule → ℕ → Span → Result Spaced Stuck
 spaced_from = spaced_from_under record_limit
 
-abbrev pub spaced : List ℕ → Rule → ℕ → Span → Result Spaced Damage
+abbrev pub spaced : List ℕ → Rule → ℕ → Span → Result Spaced Stuck
 spaced = spaced_under record_limit

@@ -5,4 +5,4 @@ mod seeking;
 mod spacing;
 
 pub use seeking::{Sought, seek};
-pub use spacing::{Count, Rule, Spaced, Span, Stop, Turn, none_left, space};
+pub use spacing::{Count, Rule, Spaced, Span, Stop, Stuck, Turn, none_left, space};

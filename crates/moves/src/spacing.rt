@@ -1,7 +1,7 @@
 // Spacing over a count of records, or skipping a count of marks.
 ghost use Rattle.std.specs.Prelude.{◌≡◌, ◌<◌, ◌≤◌, eqb};
 ghost use Rattle.moves.specs.Counting.{after_record, how_many};
-ghost use Rattle.moves.specs.Spacing.{mark_turn, record_turn, skip_turn, spaced, turn_of};
+ghost use Rattle.moves.specs.Spacing.{mark_turn, record_turn, skip_turn, spaced, turn_after, turn_of};
 
 use crate::seeking::{Sought, seek};
 use signals::{MarkCount, RecordCount};
@@ -43,6 +43,13 @@ pub enum Stop {
 pub struct Spaced {
     pub span: Span,
     pub stop: Stop,
+}
+
+// A space that met a block at fault, and how far it had come.
+#[derive(Clone, Copy)]
+pub struct Stuck {
+    pub damage: Damage,
+    pub span: Span,
 }
 
 // Kept: no Result or `ControlFlow`, since neither end of a turn is a failure, and both have a name here.
@@ -147,10 +154,23 @@ impl Onward {
             }),
         }
     }
+
+    #[tactic(auto, unfolding(crate::specs::Spacing::turn_after))]
+    fn turn_after(self, f: Result<Sought, Damage>) -> Result<Turn, Stuck>
+        ensures { result ≡ turn_after self.rule self.span f }
+    {
+        match f {
+            Ok(found) => Ok(self.turn_over(found)),
+            Err(damage) => Err(Stuck {
+                damage,
+                span: self.span,
+            }),
+        }
+    }
 }
 
 // Each turn passes a block or more, so a turn for each block and one more are enough.
-pub fn space(reel: &[u8], r: Rule, e: usize, from: Span) -> Result<Spaced, Damage>
+pub fn space(reel: &[u8], r: Rule, e: usize, from: Span) -> Result<Spaced, Stuck>
     requires { e < 18446744073709551615 }
     ensures { result ≡ spaced reel.now r e from }
 {
@@ -164,7 +184,7 @@ pub fn space(reel: &[u8], r: Rule, e: usize, from: Span) -> Result<Spaced, Damag
             });
         }
         let onward = Onward { rule: r, span: s };
-        match onward.turn_over(seek(reel, r.reverse, s.position, e)?) {
+        match onward.turn_after(seek(reel, r.reverse, s.position, e))? {
             Turn::On(next) => s = next,
             Turn::Over(last) => return Ok(last),
         }
