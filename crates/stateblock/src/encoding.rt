@@ -2,8 +2,9 @@
 // place and length. A session has one block, and a block that no session has is refused.
 ghost use Rattle.std.specs.Prelude.{◌≡◌};
 ghost use Rattle.stateblock.specs.Block.{entry_with, is_block, rest_zero, session_in, session_with};
-ghost use Rattle.stateblock.specs.Block.{state_block};
+ghost use Rattle.stateblock.specs.Block.{block_after};
 
+use commands::{Answer, Done};
 use entries::{Entry, HEAD, entry_of, flags_right, head_at, numbers_of, put_head};
 use lists::{number_at, put_number};
 use touched::Touched;
@@ -61,10 +62,16 @@ pub fn session_in(b: &[u8; 128]) -> Session
     session_with(entry_of(head_at(b, 0), 0))
 }
 
-// The session after a step is written over the block.
-pub fn close(b: &mut [u8; 128], s: Session)
-    ensures { b.new ≡ state_block s }
+// The session after a step is written over the block; any other answer leaves the block alone.
+pub fn close(b: &mut [u8; 128], a: Answer, s: Session)
+    ensures { b.new ≡ block_after b.old a s }
 {
-    put_head(b, 0, numbers_of(entry_with(s)));
-    put_number(b, HEAD, 0);
+    match a {
+        Ok(Done::Step(_)) => {
+            put_head(b, 0, numbers_of(entry_with(s)));
+            put_number(b, HEAD, 0);
+        }
+        Ok(Done::Idle) => {}
+        Err(_) => {}
+    }
 }

@@ -20,7 +20,7 @@ use Rattle.worlds.specs.Worlds.{Answered, Leaves, Outcome, World, answer_of, ans
 use Rattle.worlds.specs.Calls.{Finding, RegisterRead, back_on, finding_of, read_of, register_on, step_on, table_mounted}
 use Rattle.worlds.specs.declared.Session.{Session}
 use Rattle.worlds.specs.declared.Stepped.{Stepped}
-use Rattle.stateblock.specs.Block.{block_after, is_block, session_in, state_block}
+use Rattle.stateblock.specs.Block.{block_after, is_block, session_in}
 use Rattle.ts11.specs.Given.{Gives, Host, Mounts, Reads, Tells, back_given, holding, opened, register_given, register_of, step_given, world_in}
 use Rattle.std.specs.Option.{is_some, unwrap_or}
 use Rattle.ts11.specs.Finds.{Finds, no_finding}
@@ -96,8 +96,7 @@ pub zero : {x : Session} {r : Result Session Refusal} → r ≡ Ok x → 0 ≡ n
 unfolding number_of
 zero e = rw e
 
-pub wrote : (b : List ℕ) (s : Session) {b' : List ℕ} {x : Session} {r : Result Session Refusal} → r ≡ Ok x → b' ≡ state_block x → b' ≡ block_after b (answer_of r) (session_left s r)
-unfolding block_after
+pub wrote : (b : List ℕ) (s : Session) {b' : List ℕ} {x : Session} {r : Result Session Refusal} → r ≡ Ok x → b' ≡ block_after b (Ok (answer.Step false)) x → b' ≡ block_after b (answer_of r) (session_left s r)
 wrote b s e q = rw e q
 
 pub refused_number : {n : ℕ} {x : Refusal} {r : Result Session Refusal} → r ≡ Err x → n ≡ refusal_number x → n ≡ number_of (answer_of r)
@@ -158,10 +157,10 @@ unfolding number_of
 finds_none e q = rw e (record { answer = q; found = refl; place = refl })
 
 -- an advance, told by what it did
-pub did : (b : List ℕ) (s : Session) {b' : List ℕ} {x : Stepped} {r : Result Stepped Refusal} {i : Bool} → r ≡ Ok x → x.done ≡ answer.Step i → b' ≡ state_block x.session
+pub did : (b : List ℕ) (s : Session) {b' : List ℕ} {x : Stepped} {r : Result Stepped Refusal} {i : Bool} → r ≡ Ok x → x.done ≡ answer.Step i → b' ≡ block_after b (Ok x.done) x.session
     → (0 ≡ number_of (answer_told r)) × (b' ≡ block_after b (answer_told r) (session_told s r)) × (true ≡ is_step (answer_told r)) × (i ≡ interrupt_in (answer_told r)) × (0 ≡ block_in (answer_told r)) × (0 ≡ fault_in (answer_told r))
 unfolding number_of block_after is_step interrupt_in block_in fault_in
-did b s e d q = rw (e, d) (refl, q, refl, refl, refl, refl)
+did b s e d q = rw (e, d) (refl, rw d at q, refl, refl, refl, refl)
 
 pub rested : (b : List ℕ) (s : Session) {x : Stepped} {r : Result Stepped Refusal} → r ≡ Ok x → x.done ≡ answer.Idle
     → (0 ≡ number_of (answer_told r)) × (b ≡ block_after b (answer_told r) (session_told s r)) × (false ≡ is_step (answer_told r)) × (false ≡ interrupt_in (answer_told r)) × (0 ≡ block_in (answer_told r)) × (0 ≡ fault_in (answer_told r))

@@ -62,7 +62,7 @@ pub extern "C" fn ts11_mount(
         locked,
     ) {
         Ok(session) => {
-            close(state, session);
+            close(state, Ok(Done::Step(false)), session);
             0
         }
         Err(refusal) => {
@@ -89,7 +89,7 @@ pub extern "C" fn ts11_write_tsdb(
     }
     match journal::write_tsdb(session_in(state), 0, memory, reel, table, journal, word) {
         Ok(session) => {
-            close(state, session);
+            close(state, Ok(Done::Step(false)), session);
             0
         }
         Err(refusal) => refusal.number(),
@@ -112,7 +112,7 @@ pub extern "C" fn ts11_write_tssr(
     }
     match journal::write_tssr(session_in(state), 0, memory, reel, table, journal) {
         Ok(session) => {
-            close(state, session);
+            close(state, Ok(Done::Step(false)), session);
             0
         }
         Err(refusal) => refusal.number(),
@@ -154,7 +154,7 @@ pub extern "C" fn ts11_operate(
         act_of(write_lock, on),
     ) {
         Ok(session) => {
-            close(state, session);
+            close(state, Ok(Done::Step(false)), session);
             0
         }
         Err(refusal) => refusal.number(),
@@ -209,7 +209,7 @@ pub extern "C" fn ts11_host_store(
         bytes,
     ) {
         Ok(session) => {
-            close(state, session);
+            close(state, Ok(Done::Step(false)), session);
             0
         }
         Err(refusal) => refusal.number(),
@@ -246,7 +246,7 @@ pub extern "C" fn ts11_advance(
                 *interrupt = interrupts;
                 *block = 0;
                 *fault = 0;
-                close(state, x.session);
+                close(state, Ok(x.done), x.session);
                 0
             }
             Done::Idle => {
@@ -282,7 +282,7 @@ pub extern "C" fn ts11_step_back(
     }
     match journal::step_back(session_in(state), memory, reel, table, journal) {
         Ok(session) => {
-            close(state, session);
+            close(state, Ok(Done::Step(false)), session);
             0
         }
         Err(refusal) => refusal.number(),
