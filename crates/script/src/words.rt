@@ -50,11 +50,20 @@ pub fn trimmed(text: &[u8]) -> &[u8]
     }
 }
 
-// Which word of the list w is, counted from 0.
+// Which word of the list w is, counted from 0. Each turn passes a word.
 pub fn place_in(list: &[u8], w: &[u8]) -> Option<usize>
     ensures { result ≡ place_of list.now w.now }
 {
-    (0..list.len()).find(|&k| nth(list, k) == w)
+    let mut rest = list;
+    for k in 0..list.len() {
+        let word = from_word(rest);
+        let end = pass(word, false);
+        if &word[..end] == w {
+            return Some(k);
+        }
+        rest = &word[end..];
+    }
+    None
 }
 
 // Which word of the list word k of the line is.
