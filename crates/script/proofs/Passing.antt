@@ -93,3 +93,14 @@ word_is t k i n r w e p q f =
     let a : w ≡ drop s t = q ∙ rw (p, ← e, zero-add) (drop-drop (spanned true (drop (over t k) t)) (over t k) t) in
     let b : s + spanned false (drop s t) - s ≡ spanned false (drop s t) = omega arith in
     rw (f, a, b)
+
+-- where a word stands, by what is left of the text from it on
+pub span_is : (t : List ℕ) (k i n : ℕ) (r w : List ℕ) → k ≡ i → r ≡ drop (over t i) t → w ≡ drop (word_start r 0) r → n ≡ spanned false w
+    → (length t - length w ≡ word_start t k) × (length t - length w + n ≡ word_end t k)
+unfolding word_start word_end over
+span_is t k i n r w e p q f =
+    let s = starts_from t (over t k) in
+    let a : w ≡ drop s t = q ∙ rw (p, ← e, zero-add) (drop-drop (spanned true (drop (over t k) t)) (over t k) t) in
+    let l : s ≤ length t = pass_low t true (over t k) (over_low t k) in
+    let c : length t - length w ≡ s = rw a (omega (arith, length-drop s t, l)) in
+    (c, rw (c, f, a))

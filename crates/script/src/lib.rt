@@ -11,7 +11,7 @@ pub use fills::{append, copy, generate, hex_bytes, wipe, zeros};
 pub use prints::{put_byte, put_bytes, put_decimal, put_hex, put_labelled, write_out};
 pub use reads::{argument, number, numbers};
 pub use sums::{crc, crc_table};
-pub use words::{find_word, nth, place_in, trimmed};
+pub use words::{find_word, nth, place_in, span, trimmed};
 
 // Why a line can't be read.
 #[derive(Clone, Copy, PartialEq, Eq, Debug)]

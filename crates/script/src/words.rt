@@ -27,16 +27,28 @@ fn beyond(text: &[u8]) -> &[u8]
     &word[pass(word, false)..]
 }
 
-// Word k, counted from 0; empty where there is none.
-pub fn nth(text: &[u8], k: usize) -> &[u8]
-    ensures { result.now ≡ word_from text.now k }
+// Where word k stands, counted from 0: its first place, and the one behind it. Both are the text's length where there is none.
+pub fn span(text: &[u8], k: usize) -> (usize, usize)
+    ensures start { result.0 ≡ word_start text.now k }
+    ensures end { result.1 ≡ word_end text.now k }
+    ensures within { (result.0 ≤ result.1) × (result.1 ≤ length text.now) }
 {
     let mut rest = text;
     for _ in 0..k {
         rest = beyond(rest);
     }
     let word = from_word(rest);
-    &word[..pass(word, false)]
+    let start = text.len() - word.len();
+    (start, start + pass(word, false))
+}
+
+// Word k, counted from 0; empty where there is none.
+#[tactic(auto, unfolding(crate::specs::Words::word_from))]
+pub fn nth(text: &[u8], k: usize) -> &[u8]
+    ensures { result.now ≡ word_from text.now k }
+{
+    let (start, end) = span(text, k);
+    &text[start..end]
 }
 
 // A line with no blanks around it.
