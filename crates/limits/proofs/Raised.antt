@@ -1,7 +1,7 @@
 -- Request [7]'s laws, of any two units whose limits are no longer than a block's length word can say; and of the unit before it and this one.
 use mathlib.Core.Bool.{Bool}
 use mathlib.Core.List.{List}
-use mathlib.Core.Path.{◌≡◌, refl, sym, ◌∙◌}
+use mathlib.Core.Path.{◌≡◌, refl, sym, ap, ◌∙◌}
 use Prim.Native.Nat.{ℕ, ◌+◌, ◌-◌, ◌<◌, ◌≤◌}
 use native.Mathlib.Omega.{arith}
 use borrow.Author.Tests.{le-leb, lt-leb}
@@ -13,6 +13,7 @@ use Rattle.motions.specs.Parts.{laid_blocks}
 use Rattle.motions.specs.Writes.{written_motion_under}
 use Rattle.motions.specs.declared.parts.Laid.{Laid}
 use Rattle.advance.specs.Steps.{advanced_under}
+use Rattle.unit.specs.Mounts.{unit_left}
 use Rattle.limits.specs.Alike.{ReadsAlike}
 use Rattle.limits.specs.Before.{limit_before, margin_before}
 use Rattle.limits.specs.Raised.{EndsWith, Raised, ReadsUnder}
@@ -50,8 +51,10 @@ module _ (limit limit' eotMargin eotMargin' : ℕ) (longer : limit ≤ limit') (
             let k = holds_raised {limit' = record_limit} (omega arith) h in
             let one = mount_takes limit memory s e online locked right k h.allowed in
             let other = mount_takes limit' memory s e online locked right k (all_raised longer h.allowed) in
-            (one ∙ sym other, one);
-        refuses = λ memory s e online locked k right. mount_refuses limit memory s e online locked right (omega arith) k;
+            (one ∙ sym other, one, λ old. ap (unit_left old) one);
+        refuses = λ memory s e online locked k right.
+            let refused = mount_refuses limit memory s e online locked right (omega arith) k in
+            (refused, λ old. ap (unit_left old) refused);
         exhausts = λ h. holds_or_longer limit limit' most h;
       }
 

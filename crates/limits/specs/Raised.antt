@@ -20,7 +20,7 @@ use Rattle.storing.specs.Stored.{memory_after, reel_after}
 use Rattle.advance.specs.Rules.{writes}
 use Rattle.advance.specs.Steps.{advanced_under}
 use Rattle.demands.specs.Ways.{Waits, header}
-use Rattle.unit.specs.Mounts.{mount_call_under, mount_refusal}
+use Rattle.unit.specs.Mounts.{mount_call_under, mount_refusal, unit_left}
 use Rattle.unit.specs.Touching.{touched_by}
 use Rattle.limits.specs.Alike.{ButEotAt, ReadsAlike}
 use Rattle.tape.specs.declared.Damage.{Damage}
@@ -77,8 +77,11 @@ module _ (limit limit' eotMargin eotMargin' : ℕ) where
     pub mounts : (memory : ℕ) (s : List ℕ) (e : ℕ) (online locked : Bool) {os : List Object} → HoldsUnder limit s e os → mount_refusal memory (length s) e ≡ Ok tt
         → (mount_call_under limit memory s e online locked ≡ mount_call_under limit' memory s e online locked)
         × (mount_call_under limit memory s e online locked ≡ Ok (mounted_as e online locked (record { memory = memory; blocks = length s / block_bytes })))
-    -- where a record is longer, the smaller limit refuses the mount with 7 at its first block, for its length (N), whatever lies behind that block
+        × ((old : Unit) → unit_left old (mount_call_under limit memory s e online locked) ≡ mounted_as e online locked (record { memory = memory; blocks = length s / block_bytes }))
+    -- where a record is longer, the smaller limit refuses the mount with 7 at its first block, for its length (N), whatever lies behind that block, and hands
+    -- the old state back
     pub refuses : (memory : ℕ) (s : List ℕ) (e : ℕ) (online locked : Bool) {p : ℕ} → LongerAt limit limit' s e p → mount_refusal memory (length s) e ≡ Ok tt
-        → mount_call_under limit memory s e online locked ≡ Err (refusal.BadBlock (record { fault = fault.Length; block = p }))
+        → (mount_call_under limit memory s e online locked ≡ Err (refusal.BadBlock (record { fault = fault.Length; block = p })))
+        × ((old : Unit) → unit_left old (mount_call_under limit memory s e online locked) ≡ old)
     -- and of every reel that is well formed under the higher limit one of the two holds
     pub exhausts : {s : List ℕ} {e : ℕ} {os : List Object} → HoldsUnder limit' s e os → HoldsUnder limit s e os ⊎ ((p : ℕ) × LongerAt limit limit' s e p)

@@ -1,9 +1,9 @@
 -- A step back from any world, made up or not: it is refused and changes nothing, or the world after it passes refusals 1 to 4 again, so that the
 -- next step back can be refused with 6, 8 or 11 alone.
-use mathlib.Core.Path.{◌≡◌, refl, ◌∙◌}
+use mathlib.Core.Path.{◌≡◌, refl, subst, ◌∙◌}
 use mathlib.Core.Bool.{Bool, true, false, ◌&&◌, not, and-eq-true_iff}
 use mathlib.Core.List.{List}
-use Prim.Native.Nat.{ℕ}
+use Prim.Native.Nat.{ℕ, ◌≤◌}
 use native.Mathlib.Omega.{arith}
 use borrow.Author.Tests.{not-false, not-true}
 use lib.Dec.{eqb, ltb}
@@ -13,7 +13,8 @@ use Rattle.lists.proofs.Cases.{pick_told}
 use Rattle.lists.proofs.Placed.{length_placed}
 use Rattle.state.specs.Checks.{state_wrong}
 use Rattle.state.proofs.Legal.{legal}
-use Rattle.state.proofs.Behind.{behind_told}
+use Rattle.state.specs.Refusals.{block_of, fault_of, refusal_number}
+use Rattle.state.proofs.Behind.{behind_told, few_block, few_fault}
 use Rattle.state.specs.declared.refusal.Refusal.{Refusal}
 use Rattle.state.specs.declared.refusal.Refusal.TheVariants as refusal
 use Rattle.state.proofs.Tests.{either}
@@ -30,6 +31,7 @@ use Rattle.worlds.specs.Calls.{back_on, entry_wrong, guarded, no_place_back, ref
 use Rattle.worlds.proofs.Passing.{let_pass, passed, sizes}
 use Rattle.sessions.specs.Calling.{Left, step_kind}
 use Rattle.sessions.specs.Session.{stepped}
+use Rattle.sessions.proofs.Advances.{Few, checked_few}
 use Rattle.sessions.proofs.Taken.{guarded_left}
 
 pub length_memory_back : (t : Touched) (b m : List ℕ) → length (memory_back t b m) ≡ length m
@@ -80,28 +82,28 @@ module _ (n : ℕ) (w : World) (e : Entry) (p : Passed (session_of w) (length w.
         limit = p.limit;
       }
 
--- a step back was refused and left the world, or brought an entry back that was right, and for which the table was large enough
+-- a step back was refused, by no block, and left the world, or brought an entry back that was right, and for which the table was large enough
 pub data WentBack (n : ℕ) (w : World) : Answered → Type 0 where
-  stayed_back : {k : Refusal} → WentBack n w (refused_as k w)
+  stayed_back : {k : Refusal} → block_of k ≡ 0 → fault_of k ≡ 0 → WentBack n w (refused_as k w)
   brought_back_lem : (e : Entry) → e ≡ newest w → Passed (session_of w) (length w.core.memory) (length w.core.reel) n → entry_wrong w e ≡ false → no_place_back w.core e ≡ false
       → WentBack n w (answered (Ok (answer.Step false)) (back_to w e))
 
 pub went_back_as : (n : ℕ) (w : World) → WentBack n w (back_on w n)
-unfolding back_on guarded undo_on undo_by
+unfolding back_on guarded undo_on undo_by block_of fault_of
 went_back_as n w =
     behind_told (WentBack n w) (checked (session_of w) (length w.core.memory) (length w.core.reel) n) (λ r. refused_as r w) _
-    (λ r t. stayed_back)
-    (λ t. either (WentBack n w) (eqb w.ledger.used 0) (refused_as refusal.Empty w) _ stayed_back
-    (either (WentBack n w) (ltb w.ledger.used entry_bare) (refused_as refusal.Entry w) _ stayed_back
+    (λ r t. let few : refusal_number r ≤ 4 = subst Few t (checked_few (session_of w) (length w.core.memory) (length w.core.reel) n) in stayed_back (few_block r few) (few_fault r few))
+    (λ t. either (WentBack n w) (eqb w.ledger.used 0) (refused_as refusal.Empty w) _ (stayed_back refl refl)
+    (either (WentBack n w) (ltb w.ledger.used entry_bare) (refused_as refusal.Entry w) _ (stayed_back refl refl)
     (pick_told (WentBack n w) (entry_wrong w (newest w)) (refused_as refusal.Entry w) _
-    (λ v. stayed_back)
+    (λ v. stayed_back refl refl)
     (λ v. pick_told (WentBack n w) (no_place_back w.core (newest w)) (refused_as refusal.Table w) _
-    (λ f. stayed_back)
+    (λ f. stayed_back refl refl)
     (λ f. brought_back_lem (newest w) refl (passed (session_of w) (length w.core.memory) (length w.core.reel) n t) v f)))))
 
 checked_by : (n : ℕ) (w : World) (x : Answered) → WentBack n w x → step_kind x.answer ≡ stepped → checked (session_of x.world) (length x.world.core.memory) (length x.world.core.reel) n ≡ Ok tt
 unfolding step_kind
-checked_by n w x stayed_back k = absurd (let z : ◌≡◌ {A = ℕ} 0 1 = cc in omega arith)
+checked_by n w x (stayed_back b f) k = absurd (let z : ◌≡◌ {A = ℕ} 0 1 = cc in omega arith)
 checked_by n w x (brought_back_lem e d p v f) k = let_pass _ _ _ n (back_passed n w e p v)
 
 -- "8 .. or it would restore a state that 1 refuses": after a step back that is done, refusals 1 to 4 let the next call pass

@@ -16,7 +16,7 @@ use Rattle.surface.proofs.Goes.{Went, leaves, opens, stayed, went}
 -- what was brought back is a state that the checks let pass
 went_as : (n : ℕ) (w : World) (x : Answered) → WentBack n w x → Went w x
 unfolding step_kind undone
-went_as n w x stayed_back = stayed refl
+went_as n w x (stayed_back b f) = stayed refl
 went_as n w x (brought_back_lem e d p v f) =
     let q = back_passed n w e p v in
     went refl (small_legal (session_of (back_to w e)) q.legal q.used q.limit (enough_after (length w.core.table) w.core.objects e.objects f).few) refl

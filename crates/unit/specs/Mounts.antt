@@ -22,6 +22,15 @@ unfoldable pub mount_swept : Unit → Swept → Result Unit Refusal
 mount_swept new (Ok u) = Ok new
 mount_swept new (Err d) = Err (refusal.BadBlock d)
 
+-- ".. a refused mount hands [the old state] back": the state that stands after a mount
+abbrev pub unit_left : Unit → Result Unit Refusal → Unit
+unit_left old (Ok u) = u
+unit_left old (Err r) = old
+
+unfoldable pub swept_left : Unit → Unit → Swept → Unit
+swept_left old new (Ok u) = new
+swept_left old new (Err d) = old
+
 -- under any record limit
 module _ (limit : ℕ) where
   -- "Mount reads every block below the end it is given": the state after it, or its refusal
@@ -32,6 +41,17 @@ module _ (limit : ℕ) where
       (mounted_as e online locked (record { memory = memory; blocks = length s / block_bytes }))
       (swept_below_under limit s e))
 
+  -- and the state that stands: by 2, 3 and 7 the old one, which is not looked at
+  unfoldable pub mount_left_under : Unit → ℕ → List ℕ → ℕ → Bool → Bool → Unit
+  mount_left_under old memory s e online locked =
+      behind (mount_refusal memory (length s) e) (λ r. old)
+      (swept_left old
+      (mounted_as e online locked (record { memory = memory; blocks = length s / block_bytes }))
+      (swept_below_under limit s e))
+
 -- and under this unit's own
 abbrev pub mount_call : ℕ → List ℕ → ℕ → Bool → Bool → Result Unit Refusal
 mount_call = mount_call_under record_limit
+
+abbrev pub mount_left : Unit → ℕ → List ℕ → ℕ → Bool → Bool → Unit
+mount_left = mount_left_under record_limit

@@ -1,6 +1,7 @@
 // Mounting a reel: refusals 2, 3 and 7.
 ghost use Rattle.std.specs.Prelude.{◌≡◌};
-ghost use Rattle.unit.specs.Mounts.{mount_call, mount_refusal};
+ghost use Rattle.state.specs.declared.Unit.{Unit};
+ghost use Rattle.unit.specs.Mounts.{mount_call, mount_left, mount_refusal, unit_left};
 
 use state::{Lengths, Refusal, Unit};
 use tape::Geometry;
@@ -19,7 +20,7 @@ pub fn mount_refusal(memory: usize, reel: usize, e: usize) -> Result<(), Refusal
     Ok(())
 }
 
-// The state after a mount. The one that it replaces is not looked at.
+// The state after a mount. The one that it replaces is not looked at, and stands where it is refused.
 pub fn mount(
     memory: usize,
     reel: &[u8],
@@ -27,7 +28,8 @@ pub fn mount(
     online: bool,
     locked: bool,
 ) -> Result<Unit, Refusal>
-    ensures { result ≡ mount_call memory reel.now e online locked }
+    ensures is { result ≡ mount_call memory reel.now e online locked }
+    ensures left { (old : Unit) → unit_left old result ≡ mount_left old memory reel.now e online locked }
 {
     mount_refusal(memory, reel.len(), e)?;
     match reel::sweep(reel, e) {

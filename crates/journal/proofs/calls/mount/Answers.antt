@@ -25,14 +25,14 @@ returns-then-journal-gt-JOURNAL_LIMIT-clause-table c = refl
 pub returns-in_err-u-clause-outcome : goal.returns-in_err-u-clause-outcome
 returns-in_err-u-clause-outcome c =
     let p = err_from_is_err_and c.from_residual-in_err-u.result c.from_residual-in_err-u.ensures.1 in
-    rw (p.1, p.2) ((mount_rests _ _ c.args.table.now _ _ _ _ (sym c.in_ok-mount_refusal.ensures) c.if-journal-gt-JOURNAL_LIMIT.false _ (sym c.in_err-u.ensures)).0)
+    rw (p.1, p.2) ((mount_rests _ _ c.args.table.now _ _ _ _ (sym c.in_ok-mount_refusal.ensures) c.if-journal-gt-JOURNAL_LIMIT.false _ (sym c.in_err-u.ensures.is)).0)
 
 pub returns-in_err-u-clause-table : goal.returns-in_err-u-clause-table
 unfolding table_mounted
 returns-in_err-u-clause-table c = let p = err_from_is_err_and c.from_residual-in_err-u.result c.from_residual-in_err-u.ensures.1 in rw (p.1)
 
 pub mount_table-requires : goal.mount_table-requires
-mount_table-requires c = mount_holds _ c.args.reel.now c.args.table.now _ _ _ _ (sym c.in_ok-mount_refusal.ensures) c.if-journal-gt-JOURNAL_LIMIT.false _ (sym c.in_ok-u.ensures) (λ i. omega (arith, c.type_inv.reel i))
+mount_table-requires c = mount_holds _ c.args.reel.now c.args.table.now _ _ _ _ (sym c.in_ok-mount_refusal.ensures) c.if-journal-gt-JOURNAL_LIMIT.false _ (sym c.in_ok-u.ensures.is) (λ i. omega (arith, c.type_inv.reel i))
 
 pub returns-clause-outcome : goal.returns-clause-outcome
-returns-clause-outcome c = (mount_tables _ c.args.reel.now c.args.table.now _ _ _ _ (sym c.in_ok-mount_refusal.ensures) c.if-journal-gt-JOURNAL_LIMIT.false _ (sym c.in_ok-u.ensures) _ _ (c.mount_table.ensures.outcome, c.mount_table.ensures.table)).0
+returns-clause-outcome c = (mount_tables _ c.args.reel.now c.args.table.now _ _ _ _ (sym c.in_ok-mount_refusal.ensures) c.if-journal-gt-JOURNAL_LIMIT.false _ (sym c.in_ok-u.ensures.is) _ _ (c.mount_table.ensures.outcome, c.mount_table.ensures.table)).0
