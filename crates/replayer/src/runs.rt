@@ -1,9 +1,12 @@
 // A script's lines, each run as it comes. No contract here says what is printed.
+ghost use Rattle.std.specs.Prelude.{◌≡◌};
+ghost use Rattle.replayer.specs.declared.runs.Stop.TheVariants as stop;
+
 use crate::buffers::Buffers;
 use crate::prints::{print, print_complaint};
 use crate::scripts::{Came, Chunk, Text};
 use desk::{Desk, fresh, next_line};
-use lines::{fill, line_of};
+use lines::{Does, fill, line_of};
 use script::{Fault, crc_table, zeros};
 use std::io::{self, Read, Write};
 
@@ -18,12 +21,16 @@ enum Stop {
 }
 
 impl From<Fault> for Stop {
+    ghost from_gives = { λ f s. s ≡ stop.Wrong f };
+
     fn from(f: Fault) -> Stop {
         Stop::Wrong(f)
     }
 }
 
 impl From<io::Error> for Stop {
+    ghost from_gives = { λ e s. s ≡ stop.Failed e };
+
     fn from(e: io::Error) -> Stop {
         Stop::Failed(e)
     }
@@ -47,6 +54,14 @@ impl Run {
         }
     }
 
+    // What the line does, and how many bytes it gives.
+    fn taken(&mut self, text: Result<&[u8], Fault>) -> Result<(Does, usize), Fault> {
+        let text = text?;
+        let line = line_of(text, self.desk.cursor)?;
+        let n = fill(line.given, text, &mut self.data)?;
+        Ok((line.does, n))
+    }
+
     // The line is run, and prints.
     fn run_line<W: Write>(
         &mut self,
@@ -55,11 +70,14 @@ impl Run {
         text: &Text,
     ) -> Result<(), Stop> {
         self.desk = next_line(self.desk);
-        let text = text.read()?;
-        let line = line_of(text, self.desk.cursor)?;
-        let n = fill(line.given, text, &mut self.data)?.min(self.data.len());
-        let turn = buffers.carry_out(self.desk, line.does, &self.data, n)?;
+        let text = text.read();
+        let taken = self.taken(text);
+        let n = taken.map_or(0, |(_, n)| n).min(self.data.len());
+        let does = taken.map(|(does, _)| does);
+        let turn = buffers.carry_out(self.desk, does, &self.data, n)?;
         self.desk = turn.desk;
+        // Only of a line that can't be taken is there no text.
+        let text = text.unwrap_or(&[]);
         print(to, turn.said, text, self.desk.sizes, buffers, &self.sums)?;
         Ok(())
     }

@@ -88,9 +88,15 @@ impl Buffers {
         Ok(kept(d, t))
     }
 
-    // What the line does, with data's first n bytes.
+    // What the line does, with data's first n bytes; or why it can't be taken, and all stays.
     // Kept: a line that builds asks for the length of all of data (`built_answer`), so the count goes beside it.
-    pub fn carry_out(&mut self, d: Desk, does: Does, data: &[u8], n: usize) -> Result<Turn, Fault>
+    pub fn carry_out(
+        &mut self,
+        d: Desk,
+        does: Result<Does, Fault>,
+        data: &[u8],
+        n: usize,
+    ) -> Result<Turn, Fault>
         requires { n ≤ length «data».now }
         ensures turn { result ≡ turn_on d does «data».now n self.old.memory self.old.reel self.old.table self.old.journal }
         ensures memory { self.new.memory ≡ memory_on d does «data».now n self.old.memory self.old.reel self.old.table self.old.journal }
@@ -99,7 +105,7 @@ impl Buffers {
         ensures journal { JournalOn d does «data».now n self.old.memory self.old.reel self.old.table self.old.journal self.new.journal }
     {
         let bytes = &data[..n];
-        match does {
+        match does? {
             Does::Nothing => Ok(Turn {
                 desk: d,
                 said: Said::Nothing,
