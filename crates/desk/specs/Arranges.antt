@@ -1,5 +1,5 @@
 -- What a line that sets the desk up comes to, where the buffers are so long; and the lengths of what it clears.
-use Rattle.std.specs.Prelude.{ℕ, None, Some, Result, Ok, Err, set}
+use Rattle.std.specs.Prelude.{ℕ, Option, None, Some, Result, Ok, Err, set}
 use Rattle.lists.specs.Pick.{pick}
 use Rattle.script.specs.declared.Fault.{Fault}
 use Rattle.script.specs.declared.Fault.TheVariants as fault
@@ -34,9 +34,10 @@ cut_to d c room = pick (sizes_beyond (cut_sizes c 0) room) no_room (still (recor
 abbrev pub uncut_of : Desk → Result Turn Fault
 uncut_of d = still (record d { cuts = None })
 
--- a field of the session made up
-abbrev pub set_to : Desk → Field → ℕ → Result Turn Fault
-set_to d f v = still (record d { session = session_with (set (fields_of d.session) (number_of f) v) })
+-- a field of the session made up, unless no field has the number
+unfoldable pub set_to : Desk → Option Field → ℕ → Result Turn Fault
+set_to d None v = no_room
+set_to d (Some f) v = still (record d { session = session_with (set (fields_of d.session) (number_of f) v) })
 
 unfoldable pub arranged : Desk → Arrange → Sizes → Result Turn Fault
 arranged d arrange.Case room = started_case d

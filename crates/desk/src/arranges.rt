@@ -1,5 +1,5 @@
 // Lines that set the desk up.
-#![tactic(auto, unfolding(crate::specs::Arranges::resized, crate::specs::Arranges::cut_to, crate::specs::Arranges::arranged, crate::specs::Arranges::cleared_unless, crate::specs::Arranges::cleared_by))]
+#![tactic(auto, unfolding(crate::specs::Arranges::resized, crate::specs::Arranges::cut_to, crate::specs::Arranges::set_to, crate::specs::Arranges::arranged, crate::specs::Arranges::cleared_unless, crate::specs::Arranges::cleared_by))]
 
 ghost use Rattle.std.specs.Prelude.{◌≡◌};
 ghost use Rattle.script.specs.Fills.{wiped};
@@ -55,9 +55,10 @@ fn uncut(d: Desk) -> Result<Turn, Fault>
     still(Desk { cuts, ..d })
 }
 
-fn set(d: Desk, field: Field, v: usize) -> Result<Turn, Fault>
+fn set(d: Desk, field: Option<Field>, v: usize) -> Result<Turn, Fault>
     ensures { result ≡ set_to d field v }
 {
+    let field = field.ok_or(Fault::BeyondBuffers)?;
     let session = with_field(d.session, field, v);
     still(Desk { session, ..d })
 }

@@ -41,7 +41,7 @@ unfolding line_of line_from line_by has_word start_of start_words verbs most_wor
 mounts = refl
 
 -- "set msglen 14"
-sets : line_of (115 ∷ 101 ∷ 116 ∷ 32 ∷ 109 ∷ 115 ∷ 103 ∷ 108 ∷ 101 ∷ 110 ∷ 32 ∷ 49 ∷ 52 ∷ []) 0 ≡ Ok (arranges_line (arrange.Set field.Length 14))
+sets : line_of (115 ∷ 101 ∷ 116 ∷ 32 ∷ 109 ∷ 115 ∷ 103 ∷ 108 ∷ 101 ∷ 110 ∷ 32 ∷ 49 ∷ 52 ∷ []) 0 ≡ Ok (arranges_line (arrange.Set (Some field.Length) 14))
 unfolding line_of line_from line_by has_word start_of start_words verbs most_words set_line set_to field_of field_words fields number_of number_in hexed said joined digit_of wanted_of three_of place_from word_from word_start word_end over spanned
 sets = refl
 
@@ -87,7 +87,7 @@ last_word : line_of (98 ∷ 97 ∷ 99 ∷ 107 ∷ []) 0 ≡ Ok (calls_line call.
 unfolding line_of line_from line_by has_word start_of start_words verbs most_words place_from word_from word_start word_end over spanned
 last_word = refl
 
-last_field : line_of (115 ∷ 101 ∷ 116 ∷ 32 ∷ 106 ∷ 114 ∷ 110 ∷ 108 ∷ 108 ∷ 101 ∷ 110 ∷ 32 ∷ 51 ∷ []) 0 ≡ Ok (arranges_line (arrange.Set field.Journal 3))
+last_field : line_of (115 ∷ 101 ∷ 116 ∷ 32 ∷ 106 ∷ 114 ∷ 110 ∷ 108 ∷ 108 ∷ 101 ∷ 110 ∷ 32 ∷ 51 ∷ []) 0 ≡ Ok (arranges_line (arrange.Set (Some field.Journal) 3))
 unfolding line_of line_from line_by has_word start_of start_words verbs most_words set_line set_to field_of field_words fields number_of number_in hexed said joined digit_of wanted_of three_of place_from word_from word_start word_end over spanned
 last_field = refl
 

@@ -86,7 +86,7 @@ abbrev pub too_wide : Field → ℕ → Bool
 too_wide f v = (eqb (number_of f) 16 || eqb (number_of f) 17) && ltb 4294967295 v
 
 unfoldable pub set_to : Field → ℕ → Result Line Fault
-set_to f v = pick (too_wide f v) (Err fault.NumberTooLarge) (Ok (arranges_line (arrange.Set f v)))
+set_to f v = pick (too_wide f v) (Err fault.NumberTooLarge) (Ok (arranges_line (arrange.Set (Some f) v)))
 
 -- `set FIELD VALUE`
 unfoldable pub set_line : List ℕ → Result Line Fault

@@ -104,7 +104,7 @@ fn set_to(field: Field, v: usize) -> Result<Line, Fault>
     if too_wide(field, v) {
         return Err(Fault::NumberTooLarge);
     }
-    Ok(Does::Arranges(Arrange::Set(field, v)).plain())
+    Ok(Does::Arranges(Arrange::Set(Some(field), v)).plain())
 }
 
 pub fn set_line(text: &[u8]) -> Result<Line, Fault>

@@ -70,8 +70,8 @@ pub enum Arrange {
     Sizes(Sizes),
     Cut(Cuts),
     Uncut,
-    // A field of the session, and what it is made.
-    Set(Field, usize),
+    // A field of the session, none for a number that no field has, and what it is made.
+    Set(Option<Field>, usize),
 }
 
 // Lines that put bytes into memory or reel with no call: at a place, in a block, or at the cursor.
