@@ -24,6 +24,7 @@ pub fn record_of(t: Transport) -> UnitRecord
 }
 
 // What a record is read as; every record is read as some transport.
+#[tactic(auto, unfolding(crate::specs::Records::transport_in, entries::specs::Numbers::unit_in))]
 pub fn transport_in(r: UnitRecord) -> Transport
     ensures { result ≡ transport_in r.numbers }
 {

@@ -13,6 +13,7 @@ fn is_piece(b: Result<Block, BlockFault>, n: usize, i: usize) -> bool
 }
 
 // What is wrong with a block that can't be taken: its own fault, and if it has none, its place.
+#[tactic(auto, unfolding(tape::specs::Pass::fault_of))]
 fn fault_of(b: Result<Block, BlockFault>) -> BlockFault
     ensures { result ≡ fault_of b }
 {

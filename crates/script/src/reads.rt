@@ -7,6 +7,7 @@ use crate::Fault;
 use crate::words::nth;
 
 // A hexadecimal digit's value.
+#[tactic(auto, unfolding(crate::specs::Numbers::digit_of))]
 pub fn digit(b: u8) -> Option<u32>
     ensures is { result ≡ digit_of b }
     ensures low { IfSome result (λ d. d < 16) }

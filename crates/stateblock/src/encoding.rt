@@ -48,6 +48,7 @@ fn rest_zero(n: [u32; 31]) -> bool
 }
 
 // Whether the bytes are the block of some session.
+#[tactic(auto, unfolding(crate::specs::Block::is_block))]
 pub fn block_right(b: &[u8; 128]) -> bool
     ensures { result ≡ is_block b.now }
 {
