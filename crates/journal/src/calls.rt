@@ -86,6 +86,7 @@ pub fn host_store(
     host_step(s, mem, reel, table, jrnl, place, bytes)
 }
 
+#[tactic(auto, unfolding(worlds::specs::Calls::step_on, worlds::specs::Calls::guarded, worlds::specs::Calls::taken_by, unit::specs::Steps::step_of, unit::specs::Steps::carried))]
 pub fn advance(
     s: Session,
     k: usize,
