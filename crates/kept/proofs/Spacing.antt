@@ -4,7 +4,6 @@ use mathlib.Core.List.{List}
 use Prim.Native.Nat.{ℕ}
 use lib.Dec.{eqb}
 use Rattle.tape.specs.Objects.{Holds, Object}
-use Rattle.tape.specs.declared.Damage.{Damage}
 use Rattle.std.specs.Prelude.{Result, Ok, Err, IsOkAnd}
 use Rattle.state.specs.declared.Tape.{Tape}
 use Rattle.state.proofs.Tests.{either}
@@ -14,12 +13,13 @@ use Rattle.moves.specs.Spacing.{spaced}
 use Rattle.moves.specs.declared.spacing.Count.{Count}
 use Rattle.moves.specs.declared.spacing.Rule.{Rule}
 use Rattle.moves.specs.declared.spacing.Spaced.{Spaced}
+use Rattle.moves.specs.declared.spacing.Stuck.{Stuck}
 use Rattle.moves.proofs.Counts.{spaced_bound}
 use Rattle.motions.specs.Spaces.{positioned, positioned_under, space_motion, space_motion_by, start_span}
 use Rattle.kept.proofs.Standing.{KeptMotion, halts}
 
 module _ (s m : List ℕ) where
-  spaced_kept : {e : ℕ} {os : List Object} → Holds s e os → (r : Rule) (f : Result Spaced Damage) → IsOkAnd f (λ z. Bound os z.span.position) → KeptMotion s m (space_motion r f e)
+  spaced_kept : {e : ℕ} {os : List Object} → Holds s e os → (r : Rule) (f : Result Spaced Stuck) → IsOkAnd f (λ z. Bound os z.span.position) → KeptMotion s m (space_motion r f e)
   unfolding space_motion space_motion_by
   spaced_kept h r (Ok z) b = halts s m h b
   spaced_kept h r (Err d) b = absurd b

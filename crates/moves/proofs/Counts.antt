@@ -123,8 +123,8 @@ module _ {s : List ℕ} {e : ℕ} {os : List Object} (h : Holds s e os) (r : Rul
   pub spaced_between : Bound os x.position → (mid : List Object) × Between os r.reverse x.position (came (spaced s r e x)).position mid × (count_in (of_marks x.left) mid + how_many (came (spaced s r e x)).left ≡ how_many x.left)
   spaced_between b = came_has Since (spaced s r e x) (spaced_done b)
 
-  pub spaced_bound : Bound os x.position → Bound os (came (spaced s r e x)).position
-  spaced_bound b = bound_to r.reverse (spaced_between b).1
+  pub spaced_bound : Bound os x.position → IsOkAnd (spaced s r e x) (λ z. Bound os z.span.position)
+  spaced_bound b = ok_more (spaced s r e x) (λ z i. bound_to r.reverse i.1) (spaced_done b)
 
 -- a turn that goes on passes a block or more, and one that is over says another reason than the count
 abbrev Onwards : Rule → ℕ → Span → Result Turn Stuck → Type 0
