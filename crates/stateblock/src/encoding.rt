@@ -68,11 +68,13 @@ pub fn close(b: &mut [u8; 128], a: Answer, s: Session)
     ensures { b.new ≡ block_after b.old a s }
 {
     match a {
-        Ok(Done::Step(_)) => {
-            put_head(b, 0, numbers_of(entry_with(s)));
-            put_number(b, HEAD, 0);
-        }
-        Ok(Done::Idle) => {}
+        Ok(done) => match done {
+            Done::Step(_) => {
+                put_head(b, 0, numbers_of(entry_with(s)));
+                put_number(b, HEAD, 0);
+            }
+            Done::Idle => {}
+        },
         Err(_) => {}
     }
 }

@@ -6,13 +6,15 @@ use Rattle.stateblock.proofs.Written.{written}
 use borrow.Author.Rules.{rules}
 use Rattle.stateblock.proofs.encoding.close.Goals as goal
 
-pub returns-in-Ok-Step : goal.returns-in-Ok-Step
+pub returns-in-Step : goal.returns-in-Step
 unfolding block_after
-returns-in-Ok-Step c = let l : length c.args.b.now ≡ state_length = search rules in rw c.in-Ok-Step.is (written _ _ _ _ _ _ l c.entry_with.ensures c.numbers_of.ensures c.put_head.ensures c.put_number.ensures)
+returns-in-Step c =
+    let l : length c.args.b.now ≡ state_length = search rules in
+    rw (c.in-Ok.is, c.in-Step.is) (written _ _ _ _ _ _ l c.entry_with.ensures c.numbers_of.ensures c.put_head.ensures c.put_number.ensures)
 
-pub returns-in-Ok-Idle : goal.returns-in-Ok-Idle
+pub returns-in-Idle : goal.returns-in-Idle
 unfolding block_after
-returns-in-Ok-Idle c = rw c.in-Ok-Idle.is
+returns-in-Idle c = rw (c.in-Ok.is, c.in-Idle.is)
 
 pub returns-in-Err : goal.returns-in-Err
 unfolding block_after
