@@ -2,7 +2,7 @@
 use mathlib.Core.Path.{◌≡◌, refl, sym, ap, ◌∙◌}
 use mathlib.Core.Bool.{Bool, true, false, beq}
 use mathlib.Core.List.{List, [], ◌∷◌}
-use Prim.Native.Nat.{ℕ, zero, suc, ◌+◌, ◌-◌, ◌≤◌}
+use Prim.Native.Nat.{ℕ, zero, suc, ◌+◌, ◌-◌, ◌<◌, ◌≤◌}
 use native.Mathlib.Numerals.{add-one}
 use native.Mathlib.Nat.{zero-add}
 use native.Mathlib.Omega.{arith}
@@ -93,6 +93,29 @@ word_is t k i n r w e p q f =
     let a : w ≡ drop s t = q ∙ rw (p, ← e, zero-add) (drop-drop (spanned true (drop (over t k) t)) (over t k) t) in
     let b : s + spanned false (drop s t) - s ≡ spanned false (drop s t) = omega arith in
     rw (f, a, b)
+
+-- where nothing is left, all words behind are empty
+over_stays : (t : List ℕ) (n : ℕ) → over t n ≡ length t → over t (suc n) ≡ length t
+unfolding over
+over_stays t n e = omega (arith, e, over_low t (suc n))
+
+over_end : (t : List ℕ) (i d : ℕ) → over t i ≡ length t → over t (i + d) ≡ length t
+over_end t i zero e =
+    let z : i + 0 ≡ i = omega arith in
+    rw z e
+over_end t i (suc d) e =
+    let z : i + suc d ≡ suc (i + d) = omega arith in
+    rw z (over_stays t (i + d) (over_end t i d e))
+
+pub span_none : (t r : List ℕ) (i k : ℕ) → i < k → r ≡ drop (over t i) t → length r ≡ 0 → (length t ≡ word_start t k) × (length t ≡ word_end t k)
+unfolding word_start word_end
+span_none t r i k h p z =
+    let at : over t i ≡ length t = omega (arith, ap length p, length-drop (over t i) t, over_low t i, z) in
+    let e : i + (k - i) ≡ k = omega arith in
+    let to : over t k ≡ length t = rw e at (over_end t i (k - i) at) in
+    let last : over t (suc k) ≡ length t = over_stays t k to in
+    let within = word_within t k in
+    (omega (arith, within.0, within.1, to, last), sym last)
 
 -- where a word stands, by what is left of the text from it on
 pub span_is : (t : List ℕ) (k i n : ℕ) (r w : List ℕ) → k ≡ i → r ≡ drop (over t i) t → w ≡ drop (word_start r 0) r → n ≡ spanned false w

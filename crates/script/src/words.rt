@@ -35,6 +35,10 @@ pub fn span(text: &[u8], k: usize) -> (usize, usize)
 {
     let mut rest = text;
     for _ in 0..k {
+        // A line that may have any number of words asks for one far behind its last.
+        if rest.is_empty() {
+            return (text.len(), text.len());
+        }
         rest = beyond(rest);
     }
     let word = from_word(rest);
