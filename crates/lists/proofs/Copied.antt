@@ -49,5 +49,5 @@ module _ (m n : ℕ) where
       let within : m * (k + 1) ≤ m * (n / m) = mul-le-mul_left m (omega arith) in
       omega (arith, within, mul-div-le n m, run_next k)
 
-  pub runs_rest : 0 < m → n < m * (n / m) + m
+  pub runs_rest : 0 < m → n ≤ m * (n / m) + m
   runs_rest h = omega (arith, lt-mul-div-succ n h, run_next (n / m))

@@ -32,13 +32,13 @@ pub fn swapped<const N: usize>(r: [u8; N]) -> [u8; N]
     s
 }
 
-// N bytes at a time. The last run ends where the bytes end, over some that are there already where N doesn't divide n.
+// N bytes at a time. The last run ends where the bytes end, over some that are there already.
 fn copy_runs<const N: usize>(d: &[u8], from: usize, b: &mut [u8], at: usize, n: usize)
     requires { (0 < N) × (N ≤ n) × (from + n ≤ length d.now) × (at + n ≤ length b.old) }
     ensures { b.new ≡ sets b.old at (take n (drop from d.now)) }
 {
     let last = n - N;
-    for k in 0..(n - 1) / N {
+    for k in 0..n / N {
         let i = N * k;
         put_run(b, at + i, run_at::<N>(d, from + i));
     }
