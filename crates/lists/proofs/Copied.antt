@@ -36,6 +36,9 @@ module _ (b d : List ℕ) (from at i m : ℕ) {x r y : List ℕ} (e : x ≡ sets
   pub copied_more : r ≡ take m (drop (from + i) d) → y ≡ sets x (at + i) r → from + i ≤ length d → y ≡ sets b at (take (i + m) (drop from d))
   copied_more p q h = rw (q, p, e) (copy_more b d from at i m h)
 
+  pub copied_at : {p : ℕ} → r ≡ take m (drop (from + p) d) → y ≡ sets x (at + p) r → p ≡ i → from + i ≤ length d → y ≡ sets b at (take (i + m) (drop from d))
+  copied_at {p} e1 q f h = copied_more (rw f at e1) (rw f at q) h
+
   pub copied_last : (k n : ℕ) → r ≡ take m (drop (from + k) d) → y ≡ sets x (at + k) r → n ≡ k + m → k ≤ i → i ≤ n → from + n ≤ length d → y ≡ sets b at (take n (drop from d))
   copied_last k n p q f h g j = rw (q, p, e, f) (copy_last b d from at i k m h (omega arith) (omega arith))
 

@@ -2,7 +2,7 @@
 use native.Mathlib.Omega.{arith}
 use mathlib.Core.Path.{◌≡◌}
 use Prim.Native.Nat.{◌+◌, ◌-◌, ◌*◌, ◌/◌, ◌≤◌}
-use Rattle.lists.proofs.Copied.{copied_last, copied_more, run_next, run_within, runs_rest}
+use Rattle.lists.proofs.Copied.{copied_at, copied_last, run_next, run_within, runs_rest}
 use Rattle.std.proofs.Math.Nat.{mul-div-le}
 use Rattle.lists.proofs.runs.copy_runs.Goals as goal
 
@@ -11,7 +11,7 @@ loop-k-preserved g c =
     let m = g.row.N in
     let k = c.loop-k.k in
     let n = c.args.n in
-    rw (run_next m n k) (copied_more c.args.b.now c.args.d.now c.args.from c.args.at (m * k) m c.loop-k.invariant c.run_at.ensures c.put_run.ensures (omega (arith, run_within m n k c.loop-k-test.true)))
+    rw (run_next m n k) (copied_at c.args.b.now c.args.d.now c.args.from c.args.at (m * k) m c.loop-k.invariant c.run_at.ensures c.put_run.ensures (omega (arith, run_within m n k c.loop-k-test.true)) (omega (arith, run_within m n k c.loop-k-test.true)))
 
 pub returns : goal.returns
 returns g c =
