@@ -56,7 +56,7 @@ use Rattle.moves.specs.declared.spacing.Spaced.{Spaced}
 use Rattle.moves.specs.declared.spacing.Stuck.{Stuck}
 use Rattle.moves.proofs.Counting.{kind_asked, mark_number, mark_stops_number, number_asked, record_number}
 use Rattle.moves.proofs.Rounds.{spaced_keeps}
-use Rattle.moves.proofs.Turns.{Counts, SpanHas, mark_turns}
+use Rattle.moves.proofs.Turns.{Counts, SpanHas, mark_turns, sound_has}
 use Rattle.motions.specs.Parts.{no_lay, resting, standing}
 use Rattle.motions.specs.Reads.{first_block, mark_end, nothing_end, on_record, read_end, read_motion, read_one, read_one_under, read_then_space_under, reread, reread_under, space_back, space_back_under, space_then_read_under, stage_by, stage_of, stage_of_under, stop_motion}
 use Rattle.motions.specs.Spaces.{positioned, positioned_under, space_motion, space_motion_by, start_span}
@@ -566,8 +566,9 @@ module _ (s : List ℕ) (e : ℕ) (r : Rule) (p : ℕ) (count : Count) where
   spaced_past x same =
       spaced_keeps s r e RulePast x
       (λ y k a some.
-      turn_past y _ (k ∙ same) a some
-      (meets s e r.reverse (λ q. CountPast q (how_many y.left)) (past_gap s e r.reverse p (how_many count) (of_marks count) (how_many y.left)) y.position a))
+      sound_has RulePast _
+      (turn_past y _ (k ∙ same) a some
+      (meets s e r.reverse (λ q. CountPast q (how_many y.left)) (past_gap s e r.reverse p (how_many count) (of_marks count) (how_many y.left)) y.position a)))
 
   -- an end of a Position: the objects that it read over, and the residual that it tells
   abbrev EndPast : Ending → Type 0

@@ -17,7 +17,7 @@ use Rattle.moves.specs.declared.spacing.Span.{Span}
 use Rattle.moves.specs.declared.spacing.Stop.TheVariants as stop-as
 use Rattle.moves.specs.declared.spacing.Turn.{Turn}
 use Rattle.moves.specs.declared.spacing.Turn.TheVariants as turn-as
-use Rattle.moves.proofs.Turns.{Counts, SpanHas, TurnHas, turn_kind, turn_at}
+use Rattle.moves.proofs.Turns.{Counts, SoundHas, SpanHas, TurnHas, fault_keeps, turn_kind, turn_at}
 
 -- a space counts marks, or not; `Inv turns y` is known of the span y with so many turns left, and `Last` is to be shown
 module _ (s : List ℕ) (r : Rule) (e : ℕ) (marks : Bool) (Inv : ℕ → Span → Type 0) (Last : Result Spaced Stuck → Type 0)
@@ -41,8 +41,8 @@ module _ (s : List ℕ) (r : Rule) (e : ℕ) (marks : Bool) (Inv : ℕ → Span 
   rounds zero y k i = done 0 y i (inl refl)
   rounds (suc turns) y k i = after_test turns y (eqb (how_many y.left) 0) refl k i (λ z l j. rounds turns z l j)
 
--- what every turn keeps of the span
+-- what every turn that meets no fault keeps of the span
 pub spaced_keeps : (s : List ℕ) (r : Rule) (e : ℕ) (P : Span → Type 0) (x : Span)
-    → ((y : Span) → Counts (of_marks x.left) y → P y → (how_many y.left ≡ 0 → ⊥) → SpanHas P (turn_at s r e y)) → P x → P (came (spaced s r e x))
+    → ((y : Span) → Counts (of_marks x.left) y → P y → (how_many y.left ≡ 0 → ⊥) → SoundHas P (turn_at s r e y)) → P x → P (came (spaced s r e x))
 unfolding came spaced_under
-spaced_keeps s r e P x step i = rounds s r e (of_marks x.left) (λ _ y. P y) (λ z. P (came z)) (λ turns y k j n. step y k j n) (λ turns y j w. j) (e + 1) x refl i
+spaced_keeps s r e P x step i = rounds s r e (of_marks x.left) (λ _ y. P y) (λ z. P (came z)) (λ turns y k j n. fault_keeps P r y j _ (step y k j n)) (λ turns y j w. j) (e + 1) x refl i

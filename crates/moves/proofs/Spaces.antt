@@ -8,7 +8,7 @@ use lib.Dec.{eqb}
 use Rattle.signals.specs.declared.counts.MarkCount.{MarkCount}
 use Rattle.moves.specs.Counting.{how_many}
 use Rattle.moves.specs.Seeking.{sought}
-use Rattle.moves.specs.Spacing.{mark_turn, mark_turn_by, skip_turn, spaced_from, spaced_from_under, spaced_on, stopped, turn_after}
+use Rattle.moves.specs.Spacing.{mark_turn, mark_turn_by, skip_turn, spaced_from, spaced_from_under, spaced_on, stopped, stuck, turn_after, turn_of}
 use Rattle.moves.specs.declared.seeking.Sought.{Sought}
 use Rattle.moves.specs.declared.spacing.Count.TheVariants as count-as
 use Rattle.moves.specs.declared.spacing.Rule.{Rule}
@@ -17,7 +17,7 @@ use Rattle.moves.specs.declared.spacing.Span.{Span}
 use Rattle.moves.specs.declared.spacing.Stop.TheVariants as stop-as
 use Rattle.moves.specs.declared.spacing.Stuck.{Stuck}
 use Rattle.moves.specs.declared.spacing.Turn.{Turn}
-use Rattle.std.specs.Prelude.{Result, Ok}
+use Rattle.std.specs.Prelude.{Result, Ok, Err}
 use Rattle.tape.specs.declared.Damage.{Damage}
 
 pub space_done : (i : ℕ) (s : List ℕ) (r : Rule) (e : ℕ) (x : Span) → e + 1 ≤ i → Ok (stopped stop-as.Count x) ≡ spaced_from (e + 1 - i) s r e x
@@ -42,3 +42,13 @@ space_turn i s r e x h n w f t l =
 pub mark_skips : (r : Rule) (x : Span) (q : ℕ) {n : MarkCount} {t : Turn} → x.left ≡ count-as.Marks n → t ≡ skip_turn r x n q → t ≡ mark_turn r x q
 unfolding mark_turn mark_turn_by
 mark_skips r x q e f = f ∙ ap (λ c. mark_turn_by r x c q) (sym e)
+
+-- what a turn comes to, by what the search found
+module _ (r : Rule) (x : Span) {f : Result Sought Damage} where
+  pub turn_found : {g : Sought} {t : Turn} → f ≡ Ok g → t ≡ turn_of r x g → Ok t ≡ turn_after r x f
+  unfolding turn_after
+  turn_found e h = rw (e, h)
+
+  pub turn_fault : {d : Damage} → f ≡ Err d → Err (stuck d x) ≡ turn_after r x f
+  unfolding turn_after
+  turn_fault e = rw e

@@ -20,7 +20,7 @@ use Rattle.moves.specs.declared.spacing.Stop.TheVariants as stop-as
 use Rattle.moves.specs.declared.spacing.Turn.{Turn}
 use Rattle.moves.specs.declared.spacing.Turn.TheVariants as turn-as
 use Rattle.moves.proofs.Counting.{record_kind}
-use Rattle.std.specs.Prelude.{Result, Ok, Err}
+use Rattle.std.specs.Prelude.{Result, Ok, Err, IfOk}
 use Rattle.tape.specs.declared.Damage.{Damage}
 use Rattle.moves.specs.declared.spacing.Stuck.{Stuck}
 
@@ -37,6 +37,28 @@ TurnHas P Q (Err f) = Q (Err f)
 -- one thing of the span either way
 abbrev pub SpanHas : (Span → Type 0) → Result Turn Stuck → Type 0
 SpanHas P t = TurnHas P (λ z. P (came z)) t
+
+-- and of a turn that met no block at fault
+abbrev pub SoundHas : (Span → Type 0) → Result Turn Stuck → Type 0
+SoundHas P t = TurnHas P (λ z. IfOk z (λ y. P y.span)) t
+
+pub sound_has : (P : Span → Type 0) (t : Result Turn Stuck) → SpanHas P t → SoundHas P t
+unfolding came
+sound_has P (Ok (turn-as.On y)) h = h
+sound_has P (Ok (turn-as.Over z)) h = h
+sound_has P (Err f) h = tt
+
+-- at a fault the span is the one that the turn began with
+module _ (P : Span → Type 0) (r : Rule) (y : Span) (h : P y) where
+  by_turn : (t : Turn) → SoundHas P (Ok t) → SpanHas P (Ok t)
+  unfolding came
+  by_turn (turn-as.On z) k = k
+  by_turn (turn-as.Over z) k = k
+
+  pub fault_keeps : (f : Result Sought Damage) → SoundHas P (turn_after r y f) → SpanHas P (turn_after r y f)
+  unfolding came turn_after
+  fault_keeps (Ok g) k = by_turn (turn_of r y g) k
+  fault_keeps (Err d) k = h
 
 pub turn_more : (P P' : Span → Type 0) (Q Q' : Result Spaced Stuck → Type 0) → ((z : Span) → P z → P' z) → ((z : Result Spaced Stuck) → Q z → Q' z) → (t : Result Turn Stuck) → TurnHas P Q t → TurnHas P' Q' t
 turn_more P P' Q Q' f g (Ok (turn-as.On y)) h = f y h

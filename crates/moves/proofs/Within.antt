@@ -18,7 +18,7 @@ use Rattle.moves.specs.declared.spacing.Rule.{Rule}
 use Rattle.moves.specs.declared.spacing.Span.{Span}
 use Rattle.moves.proofs.Counting.{record_number}
 use Rattle.moves.proofs.Rounds.{spaced_keeps}
-use Rattle.moves.proofs.Turns.{Counts, SpanHas, mark_turns, turn_kind}
+use Rattle.moves.proofs.Turns.{Counts, SpanHas, mark_turns, sound_has, turn_kind}
 use Rattle.std.specs.Prelude.{Result, Ok, Err}
 use Rattle.tape.specs.declared.Damage.{Damage}
 
@@ -78,7 +78,7 @@ turn_below r e y (Ok (sought-as.Nothing q)) h i = i
 turn_below r e y (Err d) h i = h
 
 pub spaced_within : (s : List ℕ) (r : Rule) (e : ℕ) (x : Span) → x.position ≤ e → (came (spaced s r e x)).position ≤ e
-spaced_within s r e x h = spaced_keeps s r e (Below e) x (λ y k i n. turn_below r e y _ i (sought_in s r.reverse y.position e i)) h
+spaced_within s r e x h = spaced_keeps s r e (Below e) x (λ y k i n. sound_has (Below e) _ (turn_below r e y _ i (sought_in s r.reverse y.position e i))) h
 
 abbrev Fewer : ℕ → Span → Type 0
 Fewer n y = how_many y.left ≤ n
@@ -92,8 +92,8 @@ turn_fewer r n y (Ok (sought-as.Nothing q)) some h = h
 turn_fewer r n y (Err d) some h = h
 
 pub spaced_left : (s : List ℕ) (r : Rule) (e : ℕ) (x : Span) → how_many (came (spaced s r e x)).left ≤ how_many x.left
-spaced_left s r e x = spaced_keeps s r e (Fewer (how_many x.left)) x (λ y k i some. turn_fewer r (how_many x.left) y _ some i) (omega arith)
+spaced_left s r e x = spaced_keeps s r e (Fewer (how_many x.left)) x (λ y k i some. sound_has (Fewer (how_many x.left)) _ (turn_fewer r (how_many x.left) y _ some i)) (omega arith)
 
 -- what is left is of what was asked
 pub spaced_kind : (s : List ℕ) (r : Rule) (e : ℕ) (x : Span) → of_marks (came (spaced s r e x)).left ≡ of_marks x.left
-spaced_kind s r e x = spaced_keeps s r e (Counts (of_marks x.left)) x (λ y k i some. turn_kind (of_marks x.left) r y _ k) refl
+spaced_kind s r e x = spaced_keeps s r e (Counts (of_marks x.left)) x (λ y k i some. sound_has (Counts (of_marks x.left)) _ (turn_kind (of_marks x.left) r y _ k)) refl
