@@ -2,17 +2,17 @@
 use mathlib.Core.Path.{◌≡◌, refl, sym, ap, ◌∙◌}
 use mathlib.Core.Bool.{Bool, true, false}
 use mathlib.Core.List.{List, [], ◌∷◌}
-use Prim.Native.Nat.{ℕ, zero, suc, ◌+◌, ◌-◌, ◌<◌}
+use Prim.Native.Nat.{ℕ, zero, suc, ◌+◌, ◌-◌, ◌≤◌, ◌<◌}
 use native.Mathlib.Numerals.{add-one}
 use native.Mathlib.Nat.{sub-zero}
 use native.Mathlib.Omega.{arith}
-use borrow.Author.Tests.{eqb-true, ne_eqb, lt-ltb, le-ltb}
+use borrow.Author.Tests.{eqb-false, eqb-true, ne_eqb, lt-ltb, le-ltb}
 use lib.Dec.{eqb, ltb}
 use lib.ListN.{length, take, drop}
 use Rattle.std.specs.List.{AllWithin, HoldsAt}
-use Rattle.std.specs.Prelude.{Some, None, bytes_eq}
+use Rattle.std.specs.Prelude.{Option, Some, None, MatchOption, bytes_eq}
 use Rattle.lists.proofs.Cases.{by_test}
-use Rattle.script.specs.Words.{last_end, part, place_from, word_from, word_start}
+use Rattle.script.specs.Words.{last_end, part, place_from, place_of, word_from, word_start}
 
 -- where only blanks follow
 pub end_none : (t : List ℕ) → AllWithin (λ x. x < 33) t 0 (length t) → last_end t ≡ 0
@@ -54,6 +54,25 @@ module _ (t w : List ℕ) (p : w ≡ drop (word_start t 0) t) where
 -- whether word k of the list is w
 abbrev pub Is : List ℕ → List ℕ → ℕ → Bool → Type 0
 Is l w k b = bytes_eq (word_from l k) w ≡ b
+
+-- the first of the n words from word k on that is w, or none of them
+module _ (l w : List ℕ) where
+  pub from_none : (k n : ℕ) → ((j : ℕ) → k ≤ j → j < k + n → Is l w j false) → place_from l w k n ≡ None
+  unfolding place_from
+  from_none k zero h = refl
+  from_none k (suc n) h = rw (h k (omega arith) (omega arith)) (from_none (suc k) n (λ j a b. h j (omega arith) (omega arith)))
+
+  pub from_some : (k n i : ℕ) → k ≤ i → i < k + n → Is l w i true → ((j : ℕ) → k ≤ j → j < i → Is l w j false) → place_from l w k n ≡ Some i
+  unfolding place_from
+  from_some k zero i a b y h = absurd (omega arith)
+  from_some k (suc n) i a b y h =
+      by_test (eqb k i)
+      (λ e. let q : k ≡ i = eqb-true k i e in rw (q, y))
+      (λ e. let q : k ≡ i → ⊥ = eqb-false k i e in rw (h k (omega arith) (omega arith)) (from_some (suc k) n i (omega arith) (omega arith) y (λ j c d. h j (omega arith) (omega arith))))
+
+  pub place_found : (r : Option ℕ) → MatchOption r ((k : ℕ) → 0 ≤ k → k < length l → Is l w k false) (λ i. (0 ≤ i) × (i < length l) × Is l w i true × ((k : ℕ) → 0 ≤ k → k < i → Is l w k false)) → r ≡ place_of l w
+  place_found None h = sym (from_none 0 (length l) (λ j a b. h j a (omega arith)))
+  place_found (Some i) (a, b, y, h) = sym (from_some 0 (length l) i a (omega arith) y h)
 
 -- the walk of `place_in`: word k, the first n bytes of v, is w, or the words behind it are looked at
 module _ (l w : List ℕ) (k m n : ℕ) (v : List ℕ) (h : k < m) (p : take n v ≡ word_from l k) where
